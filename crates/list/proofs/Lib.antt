@@ -1,0 +1,6 @@
+pub mod Cuts
+pub mod Lines
+pub mod Puts
+pub mod Back
+pub mod Texts
+pub mod RoundTrip

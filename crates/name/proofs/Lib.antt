@@ -1,0 +1,4 @@
+pub mod Units
+pub mod Readers
+pub mod RoundTrip
+pub mod Writers

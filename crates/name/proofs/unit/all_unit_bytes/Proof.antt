@@ -1,0 +1,61 @@
+-- The whole is bytes of a unit where the rest is.
+use Prim.Native.Nat.{_-_, _≤_}
+use Rattle.name.proofs.unit.all_unit_bytes.Statement.{statement}
+use Rattle.name.proofs.unit.all_unit_bytes.Tie as tie
+use Rattle.name.specs.Names.{isUnitByte}
+use Rattle.text.proofs.Cuts.{all-here, all-on, all-end}
+use Rattle.text.specs.Bytes.{all}
+use borrow.Author.Needs.{needs}
+use borrow.Author.Tests.{not-true, not-false}
+use lib.ListN.{length, drop}
+use mathlib.Core.Path.{_≡_, sym, _∙_}
+use native.Mathlib.Omega.{arith}
+
+abbrev Inv-loop : tie.InvT-loop
+Inv-loop s i₀ i = (i ≤ length s) × (all isUnitByte s ≡ all isUnitByte (drop i s))
+
+abbrev μ-loop : tie.MeasureT-loop
+μ-loop s i₀ i = length s - i
+
+loop-holds : tie.Need-loop-holds Inv-loop μ-loop
+loop-holds c = search needs
+
+shared-slice-read-is-unit-byte : tie.Need-shared-slice-read-is-unit-byte Inv-loop μ-loop
+shared-slice-read-is-unit-byte c = search needs
+
+is-unit-byte-requires : tie.Need-is-unit-byte-requires Inv-loop μ-loop
+is-unit-byte-requires c κs = search needs
+
+returns : tie.Need-returns Inv-loop μ-loop
+returns c =
+    let l = c .before .before .before .before .loop in
+    sym (l .inv .1 ∙ all-here isUnitByte 0 _ (l .i) (c .before .before .before .loop-test .taken) (sym (c .before .is-unit-byte .ensures) ∙ not-true _ (c .if1 .taken)))
+
+add-i : tie.Need-add-i Inv-loop μ-loop
+add-i c = search needs
+
+loop-less : tie.Need-loop-less Inv-loop μ-loop
+loop-less c = search needs
+
+loop-again : tie.Need-loop-again Inv-loop μ-loop
+loop-again c =
+    let l = c .before .before .before .before .loop in
+    (omega arith, l .inv .1 ∙ all-on isUnitByte 0 _ (l .i) (c .before .before .before .loop-test .taken) (sym (c .before .is-unit-byte .ensures) ∙ not-false _ (c .if1 .left)))
+
+returns-2 : tie.Need-returns-2 Inv-loop μ-loop
+returns-2 c = sym (c .before .loop .inv .1 ∙ all-end isUnitByte _ (c .before .loop .i) (c .loop-test .left))
+
+pub all-unit-bytes-spec : {M : Type 1} → statement M
+all-unit-bytes-spec =
+    tie.close
+    (tie.spec
+    Inv-loop
+    μ-loop
+    loop-holds
+    shared-slice-read-is-unit-byte
+    is-unit-byte-requires
+    returns
+    add-i
+    loop-less
+    loop-again
+    returns-2)

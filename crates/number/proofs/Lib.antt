@@ -1,0 +1,4 @@
+pub mod Laws
+pub mod Signs
+pub mod Texts
+pub mod RoundTrip

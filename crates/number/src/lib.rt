@@ -1,0 +1,170 @@
+// The numbers of a message: read into thousandths, and put in their shortest form.
+use text::digits;
+use text::digits::Digits;
+use text::put;
+use text::scan;
+ghost use Prim.Native.Nat.{_+_, _-_, _^_, _≤_, _<_};
+ghost use Rattle.number.specs.Number.{fractionOf, unsignedOf, numberOf, fractionText, decimalsText, signText, numberText};
+ghost use Rattle.text.specs.Puts.{limit};
+ghost use lib.IntN.{pos, negℤ, natAbs};
+ghost use lib.ListN.{length, drop};
+ghost use lib.Seq.{sets};
+ghost use mathlib.Core.Bool.{cond};
+ghost use mathlib.Core.Path.{_≡_};
+
+// A number in thousandths, or that it is none.
+pub enum Number {
+    Is(i32),
+    Bad,
+}
+
+// What one unit of the last of n decimals is worth, in thousandths.
+fn scale(n: usize) -> u64
+    requires { ⌜ n ≤ 3 ⌝ }
+    ensures { λ r. ⌜ r ≡ 10 ^ (3 - n) ⌝ }
+{
+    match n {
+        0 => 1000,
+        1 => 100,
+        2 => 10,
+        _ => 1,
+    }
+}
+
+// What stands from p on: nothing, or a point and 1 to 3 digits.
+fn read_fraction(s: &[u8], p: usize) -> Digits
+    requires { ⌜ p ≤ length (now s) ⌝ }
+    ensures { λ r. ⌜ r ≡ fractionOf (drop p (now (s .entry))) ⌝ }
+{
+    if p == s.len() {
+        return Digits::Are(0);
+    }
+    let from = p + 1;
+    let f = &s[from..];
+    let Digits::Are(n) = digits::read_digits(f, 3) else {
+        return Digits::Not;
+    };
+    Digits::Are(n * scale(f.len()))
+}
+
+// A number without its sign.
+fn read_unsigned(s: &[u8]) -> Digits
+    ensures { λ r. ⌜ r ≡ unsignedOf (now (s .entry)) ⌝ }
+{
+    let p = scan::first(s, b'.');
+    let Digits::Are(w) = digits::read_digits(&s[..p], 6) else {
+        return Digits::Not;
+    };
+    let Digits::Are(f) = read_fraction(s, p) else {
+        return Digits::Not;
+    };
+    Digits::Are(w * 1000 + f)
+}
+
+fn positive(n: u64) -> i32
+    requires { ⌜ n < 1000000000 ⌝ }
+    ensures { λ r. ⌜ r ≡ pos n ⌝ }
+{
+    n as i32
+}
+
+fn negative(n: u64) -> i32
+    requires { ⌜ n < 1000000000 ⌝ }
+    ensures { λ r. ⌜ r ≡ negℤ (pos n) ⌝ }
+{
+    -positive(n)
+}
+
+// n with its sign.
+fn signed(minus: bool, n: u64) -> i32
+    requires { ⌜ n < 1000000000 ⌝ }
+    ensures { λ r. ⌜ r ≡ cond minus (negℤ (pos n)) (pos n) ⌝ }
+{
+    if minus {
+        return negative(n);
+    }
+    positive(n)
+}
+
+pub fn read(s: &[u8]) -> Number
+    ensures { λ r. ⌜ r ≡ numberOf (now (s .entry)) ⌝ }
+{
+    if s.len() == 0 {
+        return Number::Bad;
+    }
+    if s[0] == b'-' {
+        let Digits::Are(n) = read_unsigned(&s[1..]) else {
+            return Number::Bad;
+        };
+        return Number::Is(signed(true, n));
+    }
+    let Digits::Are(n) = read_unsigned(s) else {
+        return Number::Bad;
+    };
+    Number::Is(signed(false, n))
+}
+
+fn magnitude(v: i32) -> u64
+    ensures { λ r. ⌜ r ≡ natAbs v ⌝ }
+{
+    if v < 0 {
+        (-(v as i64)) as u64
+    } else {
+        v as u64
+    }
+}
+
+// Decimals without their trailing zeros.
+struct Decimals {
+    size: usize,
+    value: u64,
+}
+
+fn without_zeros(f: u64) -> Decimals
+    ensures { λ r. ⌜ (r .size ≤ 3) × (fractionText 3 f ≡ decimalsText (r .size) (r .value)) ⌝ }
+{
+    let mut k = 3;
+    let mut g = f;
+    while 0 < k {
+        if g % 10 != 0 {
+            return Decimals { size: k, value: g };
+        }
+        g = g / 10;
+        k -= 1;
+    }
+    Decimals { size: 0, value: 0 }
+}
+
+fn put_sign(out: &mut [u8], at: usize, v: i32) -> usize
+    requires { ⌜ at + 1 < limit ⌝ }
+    ensures { λ r. ⌜ (r ≡ at + length (signText v)) × (now (out .exit) ≡ sets (now (out .entry)) at (signText v)) ⌝ }
+{
+    if v < 0 {
+        return put::put_byte(out, at, b'-');
+    }
+    at
+}
+
+fn put_decimals(out: &mut [u8], at: usize, d: Decimals) -> usize
+    requires { ⌜ (at + 4 < limit) × (d .size ≤ 3) ⌝ }
+    ensures { λ r. ⌜ (r ≡ at + length (decimalsText (d .size) (d .value))) × (now (out .exit) ≡ sets (now (out .entry)) at (decimalsText (d .size) (d .value))) ⌝ }
+{
+    let k = d.size;
+    if k == 0 {
+        return at;
+    }
+    let from = put::put_byte(out, at, b'.');
+    put::put_digits(out, from, k, d.value)
+}
+
+// The shortest form of v thousandths, put at a place.
+pub fn put(out: &mut [u8], at: usize, v: i32) -> usize
+    requires { ⌜ at + 20 < limit ⌝ }
+    ensures { λ r. ⌜ (r ≡ at + length (numberText v)) × (now (out .exit) ≡ sets (now (out .entry)) at (numberText v)) ⌝ }
+{
+    let m = magnitude(v);
+    let d = without_zeros(m % 1000);
+    let a = put_sign(out, at, v);
+    let b = put::put_whole(out, a, 6, m / 1000);
+    put_decimals(out, b, d)
+}

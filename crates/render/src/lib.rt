@@ -1,0 +1,78 @@
+// Values put as text into a lent buffer, with room or refused.
+use date;
+use list::Triple;
+use list::few;
+use list::triples;
+use name::MessageType;
+use name::identifier;
+use number;
+use text::put;
+use text::put::Wrote;
+use text::scan;
+use value::Value;
+use word;
+ghost use Prim.Native.Nat.{_+_, _<_};
+ghost use Rattle.text.specs.Puts.{limit, wroteOf, bufferOf};
+ghost use Rattle.value.specs.Texts.{rooms, valueText};
+ghost use lib.ListN.{length};
+ghost use lib.Seq.{sets};
+ghost use mathlib.Core.Path.{_≡_};
+
+// The text of a value, put at a place; the bytes of texts and the triples come from their rooms.
+pub fn put_value(
+    out: &mut [u8],
+    at: usize,
+    t: MessageType,
+    v: Value,
+    unit: &[u8; 16],
+    reason: &[u8; 128],
+    note: &[u8; 256],
+    gradients: [Triple; 16],
+) -> usize
+    requires { ⌜ at + 2000 < limit ⌝ }
+    ensures { λ r. ⌜ (r ≡ at + length (valueText t (rooms (now (unit .entry)) (now (reason .entry)) (now (note .entry)) gradients) v))
+        × (now (out .exit) ≡ sets (now (out .entry)) at (valueText t (rooms (now (unit .entry)) (now (reason .entry)) (now (note .entry)) gradients) v)) ⌝ }
+{
+    match v {
+        Value::Blank => at,
+        Value::Id(n) => identifier::put(out, at, t, n),
+        Value::Unit(n) => put::put_text(out, at, scan::front(unit, n)),
+        Value::When(d) => date::put(out, at, d),
+        Value::Amount(x) => number::put(out, at, x),
+        Value::Count(n) => put::put_whole(out, at, 9, n),
+        Value::Reason(n) => put::put_text(out, at, scan::front(reason, n)),
+        Value::Note(n) => put::put_text(out, at, scan::front(note, n)),
+        Value::Word(w) => word::put(out, at, w),
+        Value::List(x) => few::put(out, at, x, b';'),
+        Value::Triples(n) => triples::put(out, at, gradients, n),
+        Value::Voltage(x) => number::put(out, at, x.0),
+        Value::Regulator(x) => number::put(out, at, x.0),
+        Value::Change(x) => number::put(out, at, x.0),
+        Value::Reactive(x) => number::put(out, at, x.0),
+    }
+}
+
+// The text of a value, put at a place, or refused where there is no room for it: then no byte is changed.
+pub fn write_value(
+    out: &mut [u8],
+    at: usize,
+    t: MessageType,
+    v: Value,
+    unit: &[u8; 16],
+    reason: &[u8; 128],
+    note: &[u8; 256],
+    gradients: [Triple; 16],
+) -> Wrote
+    ensures { λ r. ⌜ (r ≡ wroteOf (now (out .entry)) at (valueText t (rooms (now (unit .entry)) (now (reason .entry)) (now (note .entry)) gradients) v))
+        × (now (out .exit) ≡ bufferOf (now (out .entry)) at (valueText t (rooms (now (unit .entry)) (now (reason .entry)) (now (note .entry)) gradients) v)) ⌝ }
+{
+    let size = put_value(&mut out[0..0], 0, t, v, unit, reason, note, gradients);
+    if out.len() < at {
+        return Wrote::NoRoom(size);
+    }
+    if out.len() - at < size {
+        return Wrote::NoRoom(size);
+    }
+    put_value(&mut out[at..], 0, t, v, unit, reason, note, gradients);
+    Wrote::To(at + size)
+}

@@ -1,0 +1,213 @@
+-- The definitions that cut or test a list, one step along it: what a loop over a slice goes by.
+-- Assumes nothing.
+use Prim.Native.Nat.{ℕ, zero, suc, _+_, _-_, _≤_, _<_}
+use Rattle.text.proofs.Tests.{by-test, and-parts, or-parts, or-right}
+use Rattle.text.specs.Bytes.{part, same, upto, past, any, all, skip}
+use borrow.Author.Tests.{eq-eqb, ne-eqb, eqb-true}
+use lib.Dec.{eqb}
+use lib.ListN.{length, getD, take, drop, length-drop, length-take, drop-of-length-le}
+use lib.Seq.{drop-cons, take-all, drop-drop, take-take, take-nil}
+use mathlib.Core.Bool.{Bool, true, false, false≢true}
+use mathlib.Core.List.{List, [], _∷_, _++_}
+use mathlib.Core.Path.{_≡_, refl, sym, ap, ap₂, _∙_}
+use native.Mathlib.Nat.{le-refl, sub-zero, suc-sub-suc, zero-sub}
+use native.Mathlib.Numerals.{add-one}
+use native.Mathlib.Omega.{arith}
+
+-- ---- parts
+
+pub drop-step : (s : List ℕ) (i : ℕ) → i < length s → drop i s ≡ getD s i 0 ∷ drop (i + 1) s
+drop-step s i h = rw add-one (drop-cons s i 0 h)
+
+-- `&s[a..]`, as the borrow checker states it
+pub tail : {A : Type 0} (s : List A) (a : ℕ) → take (length s - a) (drop a s) ≡ drop a s
+tail s a = take-all (length s - a) (drop a s) (rw length-drop (le-refl (length s - a)))
+
+-- the count of `&t[..e]`
+pub front-count : {A : Type 0} (t : List A) (e : ℕ) → e ≤ length t → e ≡ length (take e t)
+front-count t e h = omega (arith, length-take e t)
+
+pub length-part : {A : Type 0} (a e : ℕ) (s : List A) → e ≤ length s → length (part a e s) ≡ e - a
+length-part a e s h = omega (arith, length-take (e - a) (drop a s), length-drop a s)
+
+drop-take : {A : Type 0} (a n : ℕ) (l : List A) → drop a (take n l) ≡ take (n - a) (drop a l)
+drop-take zero n l = rw sub-zero
+drop-take (suc a) zero l = rw zero-sub
+drop-take (suc a) (suc n) [] = sym (take-nil (suc n - suc a))
+drop-take (suc a) (suc n) (x ∷ l) = rw suc-sub-suc (drop-take a n l)
+
+-- a part of a part: from a on, and of e elements
+pub part-from : {A : Type 0} (s : List A) (at end a : ℕ) → drop a (part at end s) ≡ part (at + a) end s
+part-from {A = A} s at end a =
+    let n : end - at - a ≡ end - (at + a) = omega arith in
+    drop-take a (end - at) (drop at s) ∙ ap₂ (λ (k : ℕ) (l : List A). take k l) n (drop-drop a at s)
+
+pub part-front : {A : Type 0} (s : List A) (at end e : ℕ) → at + e ≤ end → take e (part at end s) ≡ part at (at + e) s
+part-front s at end e h =
+    let n : e ≡ at + e - at = omega arith in
+    take-take e (end - at) (drop at s) (omega arith) ∙ ap (λ (k : ℕ). take k (drop at s)) n
+
+-- ---- one step at an index
+
+module _ {A : Type 0} (p : A → Bool) (d : A) (s : List A) (i : ℕ) (h : i < length s) where
+  pub upto-here : p (getD s i d) ≡ true → upto p (drop i s) ≡ []
+  unfolding upto
+  upto-here e = rw (drop-cons s i d, e)
+
+  pub upto-on : p (getD s i d) ≡ false → upto p (drop i s) ≡ getD s i d ∷ upto p (drop (i + 1) s)
+  unfolding upto
+  upto-on e = rw (add-one, drop-cons s i d, e)
+
+  pub skip-here : p (getD s i d) ≡ false → skip p (drop i s) ≡ drop i s
+  unfolding skip
+  skip-here e = rw (drop-cons s i d, e)
+
+  pub skip-on : p (getD s i d) ≡ true → skip p (drop i s) ≡ skip p (drop (i + 1) s)
+  unfolding skip
+  skip-on e = rw (add-one, drop-cons s i d, e)
+
+  pub all-here : p (getD s i d) ≡ false → all p (drop i s) ≡ false
+  unfolding all
+  all-here e = rw (drop-cons s i d, e)
+
+  pub all-on : p (getD s i d) ≡ true → all p (drop i s) ≡ all p (drop (i + 1) s)
+  unfolding all
+  all-on e = rw (add-one, drop-cons s i d, e)
+
+pub upto-end : {A : Type 0} (p : A → Bool) (s : List A) (i : ℕ) → length s ≤ i → upto p (drop i s) ≡ []
+unfolding upto
+upto-end p s i h = rw (drop-of-length-le s h)
+
+pub skip-none : {A : Type 0} (p : A → Bool) (s : List A) (i : ℕ) → length s ≤ i → skip p (drop i s) ≡ []
+unfolding skip
+skip-none p s i h = rw (drop-of-length-le s h)
+
+pub all-end : {A : Type 0} (p : A → Bool) (s : List A) (i : ℕ) → length s ≤ i → all p (drop i s) ≡ true
+unfolding all
+all-end p s i h = rw (drop-of-length-le s h)
+
+-- ---- what is cut off, by its place
+
+module _ {A : Type 0} (p : A → Bool) where
+  pub upto-take : (s : List A) → upto p s ≡ take (length (upto p s)) s
+  unfolding upto
+  upto-take [] = refl
+  upto-take (x ∷ s) = by-test (p x) (λ e. rw e) (λ e. rw e (ap (λ (l : List A). x ∷ l) (upto-take s)))
+
+  pub past-drop : (s : List A) → past p s ≡ drop (length (upto p s) + 1) s
+  unfolding upto past
+  past-drop [] = refl
+  past-drop (x ∷ s) = by-test (p x) (λ e. rw e) (λ e. rw (e, add-one) (past-drop s ∙ rw add-one))
+
+  pub upto-length : (s : List A) → length (upto p s) ≤ length s
+  unfolding upto
+  upto-length [] = omega arith
+  upto-length (x ∷ s) = by-test (p x) (λ e. rw e (omega arith)) (λ e. let r = upto-length s in rw e (omega arith))
+
+  pub skip-length : (s : List A) → length (skip p s) ≤ length s
+  unfolding skip
+  skip-length [] = omega arith
+  skip-length (x ∷ s) =
+      by-test (p x) (λ e. let r = skip-length s in rw e (omega arith)) (λ e. rw e (omega arith))
+
+  -- what is skipped, by its length
+  pub skip-drop : (s : List A) → skip p s ≡ drop (length s - length (skip p s)) s
+  unfolding skip
+  skip-drop [] = refl
+  skip-drop (x ∷ s) =
+      by-test (p x)
+      (λ e. let n : suc (length s) - length (skip p s) ≡ suc (length s - length (skip p s)) = omega (arith, skip-length s) in rw (e, n) (skip-drop s))
+      (λ e. let n : suc (length s) - suc (length s) ≡ 0 = omega arith in rw (e, n))
+
+  -- ---- at a seam
+
+  pub upto-seam : (a : List A) (c : A) (v : List A) → any p a ≡ false → p c ≡ true → upto p (a ++ c ∷ v) ≡ a
+  unfolding any upto
+  upto-seam [] c v n h = rw h
+  upto-seam (x ∷ a) c v n h =
+      let o = or-parts (p x) (any p a) n in
+      rw (o .0) (ap (λ (l : List A). x ∷ l) (upto-seam a c v (o .1) h))
+
+  pub past-seam : (a : List A) (c : A) (v : List A) → any p a ≡ false → p c ≡ true → past p (a ++ c ∷ v) ≡ v
+  unfolding any past
+  past-seam [] c v n h = rw h
+  past-seam (x ∷ a) c v n h = let o = or-parts (p x) (any p a) n in rw (o .0) (past-seam a c v (o .1) h)
+
+  pub any-seam : (a : List A) (c : A) (v : List A) → p c ≡ true → any p (a ++ c ∷ v) ≡ true
+  unfolding any
+  any-seam [] c v h = rw h
+  any-seam (x ∷ a) c v h = or-right (p x) (any p (a ++ c ∷ v)) (any-seam a c v h)
+
+  -- where it stands nowhere, all is before it
+  pub upto-all : (a : List A) → any p a ≡ false → upto p a ≡ a
+  unfolding any upto
+  upto-all [] n = refl
+  upto-all (x ∷ a) n =
+      let o = or-parts (p x) (any p a) n in
+      rw (o .0) (ap (λ (l : List A). x ∷ l) (upto-all a (o .1)))
+
+  pub any-append : (a b : List A) → any p a ≡ false → any p b ≡ false → any p (a ++ b) ≡ false
+  unfolding any
+  any-append [] b h k = k
+  any-append (x ∷ a) b h k = let o = or-parts (p x) (any p a) h in rw (o .0) (any-append a b (o .1) k)
+
+  pub all-append : (a b : List A) → all p a ≡ true → all p b ≡ true → all p (a ++ b) ≡ true
+  unfolding all
+  all-append [] b h k = k
+  all-append (x ∷ a) b h k = let o = and-parts (p x) (all p a) h in rw (o .0) (all-append a b (o .1) k)
+
+  -- all of q, which p never is, so none of p
+  pub all-none : (q : A → Bool) → ((x : A) → q x ≡ true → p x ≡ false) → (a : List A) → all q a ≡ true → any p a ≡ false
+  unfolding any all
+  all-none q f [] h = refl
+  all-none q f (x ∷ a) h =
+      let o = and-parts (q x) (all q a) h in
+      rw (f x (o .0)) (all-none q f a (o .1))
+
+  -- all of q, which always is p
+  pub all-weaker : (q : A → Bool) → ((x : A) → q x ≡ true → p x ≡ true) → (a : List A) → all q a ≡ true → all p a ≡ true
+  unfolding all
+  all-weaker q f [] h = refl
+  all-weaker q f (x ∷ a) h =
+      let o = and-parts (q x) (all q a) h in
+      rw (f x (o .0)) (all-weaker q f a (o .1))
+
+-- ---- two texts, byte by byte
+
+pub same-refl : (s : List ℕ) → same s s ≡ true
+unfolding same
+same-refl [] = refl
+same-refl (x ∷ s) = rw (eq-eqb x x refl) (same-refl s)
+
+pub same-true : (s t : List ℕ) → same s t ≡ true → s ≡ t
+unfolding same
+same-true [] [] e = refl
+same-true [] (y ∷ t) e = absurd (false≢true e)
+same-true (x ∷ s) [] e = absurd (false≢true e)
+same-true (x ∷ s) (y ∷ t) e =
+    let p = and-parts (eqb x y) (same s t) e in
+    ap₂ (λ (a : ℕ) (l : List ℕ). a ∷ l) (eqb-true x y (p .0)) (same-true s t (p .1))
+
+pub same-lengths : (a b : List ℕ) → (length a ≡ length b → ⊥) → false ≡ same a b
+unfolding same
+same-lengths [] [] n = absurd (n refl)
+same-lengths [] (y ∷ b) n = refl
+same-lengths (x ∷ a) [] n = refl
+same-lengths (x ∷ a) (y ∷ b) n =
+    let r = same-lengths a b (λ e. n (ap suc e)) in
+    by-test (eqb x y) (λ e. rw e r) (λ e. rw e)
+
+module _ (a b : List ℕ) (i : ℕ) (h : i < length a) (k : i < length b) where
+  pub same-here : (getD a i 0 ≡ getD b i 0 → ⊥) → same (drop i a) (drop i b) ≡ false
+  unfolding same
+  same-here n = rw (drop-step a i h, drop-step b i k, ne-eqb _ _ n)
+
+  pub same-on : getD a i 0 ≡ getD b i 0 → same (drop i a) (drop i b) ≡ same (drop (i + 1) a) (drop (i + 1) b)
+  unfolding same
+  same-on e = rw (drop-step a i h, drop-step b i k, eq-eqb _ _ e)
+
+pub same-end : (a b : List ℕ) (i : ℕ) → length a ≤ i → length a ≡ length b → same (drop i a) (drop i b) ≡ true
+unfolding same
+same-end a b i h e =
+    let k : length b ≤ i = omega arith in
+    rw (drop-of-length-le a h, drop-of-length-le b k)

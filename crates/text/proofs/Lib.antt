@@ -1,0 +1,6 @@
+pub mod Tests
+pub mod Cuts
+pub mod Trims
+pub mod Numerals
+pub mod Runs
+pub mod Tables

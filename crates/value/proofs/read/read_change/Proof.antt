@@ -1,0 +1,27 @@
+-- A number of its own quantity.
+use Prim.Native.Nat.{_-_}
+use Rattle.value.proofs.Settings.{is-number, is-word}
+use Rattle.value.proofs.read.read_change.Statement.{statement}
+use Rattle.value.proofs.read.read_change.Tie as tie
+use Rattle.value.specs.Kinds.{change}
+use borrow.Author.Needs.{needs}
+use mir.Syntax.{w32}
+use mir.ValLaws.{toZ-ofZ}
+
+read-requires : tie.Need-read-requires
+read-requires c κs = search needs
+
+enum-known-n : tie.Need-enum-known-n
+enum-known-n c = search needs
+
+enum-told : tie.Need-enum-told
+enum-told c = search needs
+
+returns : tie.Need-returns
+returns c = rw (toZ-ofZ w32 (c .before .n .given .0 .0) (record { sfits = c .known-told .given .0 .1 })) (is-number change _ _ _ (c .before .n .given .1) (c .before .before .before .read .ensures))
+
+returns-2 : tie.Need-returns-2
+returns-2 c = is-word change _ _ _ (c .enum-told .given .1) (c .before .before .read .ensures)
+
+pub read-change-spec : {M : Type 1} → statement M
+read-change-spec = tie.close (tie.spec read-requires enum-known-n enum-told returns returns-2)

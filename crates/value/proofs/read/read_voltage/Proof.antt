@@ -1,0 +1,32 @@
+-- A number of its own quantity, or one of its words.
+use Prim.Native.Nat.{_-_}
+use Rattle.value.proofs.Settings.{is-number, is-word}
+use Rattle.value.proofs.read.read_voltage.Statement.{statement}
+use Rattle.value.proofs.read.read_voltage.Tie as tie
+use Rattle.value.specs.Kinds.{voltage}
+use borrow.Author.Needs.{needs}
+use mathlib.Core.Path.{_∙_}
+use mir.Syntax.{w32}
+use mir.ValLaws.{toZ-ofZ}
+
+read-requires : tie.Need-read-requires
+read-requires c κs = search needs
+
+enum-known-n : tie.Need-enum-known-n
+enum-known-n c = search needs
+
+enum-told : tie.Need-enum-told
+enum-told c = search needs
+
+read-word-requires : tie.Need-read-word-requires
+read-word-requires c κs = search needs
+
+returns : tie.Need-returns
+returns c = rw (toZ-ofZ w32 (c .before .n .given .0 .0) (record { sfits = c .known-told .given .0 .1 })) (is-number voltage _ _ _ (c .before .n .given .1) (c .before .before .before .read .ensures))
+
+returns-2 : tie.Need-returns-2
+returns-2 c = c .read-word .ensures ∙ is-word voltage _ _ _ (c .before .enum-told .given .1) (c .before .before .before .read .ensures)
+
+pub read-voltage-spec : {M : Type 1} → statement M
+read-voltage-spec =
+    tie.close (tie.spec read-requires enum-known-n enum-told read-word-requires returns returns-2)

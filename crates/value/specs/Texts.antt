@@ -1,0 +1,41 @@
+-- The text of a value. Document 01, "Written form": numbers in shortest form, lists without blanks.
+use Prim.Native.Nat.{ℕ}
+use Rattle.date.specs.Date.{dateText}
+use Rattle.list.specs.Forms.{numbersText, gradientsText}
+use Rattle.list.specs.declared.Triple.{Triple}
+use Rattle.name.specs.Names.{identifierText, sequenceText}
+use Rattle.name.specs.declared.MessageType.{MessageType}
+use Rattle.number.specs.Number.{numberText}
+use Rattle.value.specs.declared.Value.{Value}
+use Rattle.value.specs.declared.Value.the-variants.{Blank, Id, Unit, When, Amount, Count, Reason, Note, Word, List as Numbers, Triples, Voltage, Regulator, Change, Reactive}
+use Rattle.word.specs.Words.{word}
+use lib.ListN.{take}
+use mathlib.Core.List.{List, []}
+
+-- the rooms of a record in which texts and triples stand; a value says how much of its room is used
+pub record Rooms : Type 0 where
+  pub unit : List ℕ
+  pub reason : List ℕ
+  pub note : List ℕ
+  pub gradients : List Triple
+
+abbrev pub rooms : List ℕ → List ℕ → List ℕ → List Triple → Rooms
+rooms u r n g = record { unit = u; reason = r; note = n; gradients = g }
+
+-- the text of a value of a message of type t. A value says its own text: its kind is not asked.
+unfoldable pub valueText : MessageType → Rooms → Value → List ℕ
+valueText t r Blank = []
+valueText t r (Id n) = identifierText t n
+valueText t r (Unit n) = take n (r .unit)
+valueText t r (When d) = dateText d
+valueText t r (Amount v) = numberText v
+valueText t r (Count n) = sequenceText n
+valueText t r (Reason n) = take n (r .reason)
+valueText t r (Note n) = take n (r .note)
+valueText t r (Word w) = word w
+valueText t r (Numbers x) = numbersText 59 x
+valueText t r (Triples n) = gradientsText (r .gradients) n
+valueText t r (Voltage v) = numberText (v .0)
+valueText t r (Regulator v) = numberText (v .0)
+valueText t r (Change v) = numberText (v .0)
+valueText t r (Reactive v) = numberText (v .0)

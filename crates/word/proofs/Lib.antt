@@ -1,0 +1,4 @@
+pub mod Table
+pub mod RoundTrip
+pub mod Texts
+pub mod Search
