@@ -2,7 +2,7 @@
 -- Assumes nothing.
 use Prim.Native.Nat.{ℕ, zero, suc, _+_, _-_, _≤_, _<_}
 use Rattle.text.proofs.Tests.{by-test, and-parts, or-parts, or-right}
-use Rattle.text.specs.Bytes.{part, same, upto, past, any, all, skip}
+use Rattle.text.specs.Bytes.{part, same, upto, past, any, all, skip, starts}
 use borrow.Author.Tests.{eq-eqb, ne-eqb, eqb-true}
 use lib.Dec.{eqb}
 use lib.ListN.{length, getD, take, drop, length-drop, length-take, drop-of-length-le}
@@ -211,3 +211,44 @@ unfolding same
 same-end a b i h e =
     let k : length b ≤ i = omega arith in
     rw (drop-of-length-le a h, drop-of-length-le b k)
+
+-- ---- a text that begins with another
+
+pub starts-short : (t s : List ℕ) → length s < length t → false ≡ starts t s
+unfolding starts
+starts-short [] s h = absurd (omega (arith, h))
+starts-short (x ∷ t) [] h = refl
+starts-short (x ∷ t) (y ∷ s) h =
+    let k : length s < length t = omega (arith, h) in
+    let r = starts-short t s k in
+    by-test (eqb x y) (λ e. rw e r) (λ e. rw e)
+
+module _ (t s : List ℕ) (i : ℕ) (h : i < length t) (k : i < length s) where
+  pub starts-here : (getD t i 0 ≡ getD s i 0 → ⊥) → starts (drop i t) (drop i s) ≡ false
+  unfolding starts
+  starts-here n = rw (drop-step t i h, drop-step s i k, ne-eqb _ _ n)
+
+  pub starts-on : getD t i 0 ≡ getD s i 0 → starts (drop i t) (drop i s) ≡ starts (drop (i + 1) t) (drop (i + 1) s)
+  unfolding starts
+  starts-on e = rw (drop-step t i h, drop-step s i k, eq-eqb _ _ e)
+
+pub starts-end : (t s : List ℕ) (i : ℕ) → length t ≤ i → starts (drop i t) (drop i s) ≡ true
+unfolding starts
+starts-end t s i h = rw (drop-of-length-le t h)
+
+-- it is the one text, and then the rest
+pub starts-cut : (t s : List ℕ) → starts t s ≡ true → s ≡ t ++ drop (length t) s
+unfolding starts
+starts-cut [] s e = refl
+starts-cut (x ∷ t) [] e = absurd (false≢true e)
+starts-cut (x ∷ t) (y ∷ s) e =
+    let p = and-parts (eqb x y) (starts t s) e in
+    ap₂ (λ (a : ℕ) (l : List ℕ). a ∷ l) (sym (eqb-true x y (p .0))) (starts-cut t s (p .1))
+
+pub starts-length : (t s : List ℕ) → starts t s ≡ true → length t ≤ length s
+unfolding starts
+starts-length [] s e = omega arith
+starts-length (x ∷ t) [] e = absurd (false≢true e)
+starts-length (x ∷ t) (y ∷ s) e =
+    let r = starts-length t s (and-parts (eqb x y) (starts t s) e .1) in
+    omega arith

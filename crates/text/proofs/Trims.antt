@@ -1,6 +1,6 @@
 -- Trimming: its steps from both ends, and what it leaves as it is.
 -- Assumes nothing.
-use Prim.Native.Nat.{ℕ, zero, suc, _+_, _-_, _≤_, _<_}
+use Prim.Native.Nat.{ℕ, zero, suc, _-_, _≤_, _<_}
 use Rattle.text.proofs.Cuts.{tail, front-count, skip-drop, same-refl, same-true}
 use Rattle.text.proofs.Tests.{by-test, and-parts, or-parts}
 use Rattle.text.specs.Bytes.{any, all, skip, keep, skipEnd, isBlank, isPlain, trim, same, tidy}

@@ -25,6 +25,12 @@ same [] (y ∷ ys) = false
 same (x ∷ xs) [] = false
 same (x ∷ xs) (y ∷ ys) = eqb x y && same xs ys
 
+-- s begins with t
+unfoldable pub starts : List ℕ → List ℕ → Bool
+starts [] s = true
+starts (x ∷ t) [] = false
+starts (x ∷ t) (y ∷ s) = eqb x y && starts t s
+
 module _ {A : Type 0} (p : A → Bool) where
   -- what stands before the first that p holds of: all where there is none
   unfoldable pub upto : List A → List A

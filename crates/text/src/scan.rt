@@ -1,6 +1,6 @@
 // Looking at bytes and handing on parts of them.
 ghost use Prim.Native.Nat.{_-_};
-ghost use Rattle.text.specs.Bytes.{same, skip, skipEnd, firstOf, trim, isBlank};
+ghost use Rattle.text.specs.Bytes.{same, starts, skip, skipEnd, firstOf, trim, isBlank};
 ghost use lib.ListN.{length, take, drop};
 ghost use mathlib.Core.Path.{_≡_};
 
@@ -14,6 +14,23 @@ pub fn same(a: &[u8], b: &[u8]) -> bool
     let mut i = 0;
     while i < a.len() {
         if a[i] != b[i] {
+            return false;
+        }
+        i += 1;
+    }
+    true
+}
+
+// Whether s begins with t.
+pub fn starts(t: &[u8], s: &[u8]) -> bool
+    ensures { λ r. ⌜ r ≡ starts (now (t .entry)) (now (s .entry)) ⌝ }
+{
+    if s.len() < t.len() {
+        return false;
+    }
+    let mut i = 0;
+    while i < t.len() {
+        if t[i] != s[i] {
             return false;
         }
         i += 1;
@@ -36,7 +53,7 @@ pub fn first(s: &[u8], b: u8) -> usize
 }
 
 // How many blanks it begins with.
-fn lead(s: &[u8]) -> usize
+pub fn lead(s: &[u8]) -> usize
     ensures { λ r. ⌜ r ≡ length (now (s .entry)) - length (skip isBlank (now (s .entry))) ⌝ }
 {
     let mut i = 0;
@@ -50,7 +67,7 @@ fn lead(s: &[u8]) -> usize
 }
 
 // How long it is without the blanks that it ends with.
-fn body(s: &[u8]) -> usize
+pub fn body(s: &[u8]) -> usize
     ensures { λ r. ⌜ r ≡ length (skipEnd isBlank (now (s .entry))) ⌝ }
 {
     let mut e = s.len();

@@ -1,3 +1,4 @@
 pub mod Back
 pub mod Shown
 pub mod Settings
+pub mod Fit

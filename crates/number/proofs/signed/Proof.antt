@@ -1,5 +1,4 @@
 -- By the sign.
-use Prim.Native.Nat.{_-_}
 use Rattle.number.proofs.signed.Statement.{statement}
 use Rattle.number.proofs.signed.Tie as tie
 use borrow.Author.Needs.{needs}

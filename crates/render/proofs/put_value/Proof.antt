@@ -1,5 +1,5 @@
 -- Each arm puts the text of its value.
-use Prim.Native.Nat.{_-_, _≤_}
+use Prim.Native.Nat.{_≤_}
 use Rattle.date.proofs.Back.{date-length}
 use Rattle.date.specs.Date.{dateText}
 use Rattle.name.proofs.RoundTrip.{identifier-length}

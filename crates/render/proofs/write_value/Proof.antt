@@ -1,5 +1,4 @@
 -- The length on an empty part; then a refusal that changes nothing, or the text on the part from the place on.
-use Prim.Native.Nat.{_-_}
 use Rattle.text.proofs.Runs.{refused-write, done-write}
 use Rattle.render.proofs.write_value.Statement.{statement}
 use Rattle.render.proofs.write_value.Tie as tie

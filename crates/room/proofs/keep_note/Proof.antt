@@ -1,5 +1,4 @@
 -- Zeros, or the text put into zeros.
-use Prim.Native.Nat.{_-_}
 use Rattle.room.proofs.Kept.{not-kept, is-kept}
 use Rattle.room.proofs.keep_note.Statement.{statement}
 use Rattle.room.proofs.keep_note.Tie as tie

@@ -2,7 +2,6 @@
 use Rattle.list.proofs.few.part_number.Statement.{statement}
 use Rattle.list.proofs.few.part_number.Tie as tie
 use Rattle.number.specs.Number.{numberOf}
-use Rattle.text.specs.Bytes.{trim}
 use borrow.Author.Needs.{needs}
 use mathlib.Core.Path.{ap, _∙_}
 

@@ -2,7 +2,6 @@
 use Rattle.list.proofs.triples.part_triple.Statement.{statement}
 use Rattle.list.proofs.triples.part_triple.Tie as tie
 use Rattle.list.specs.Forms.{oneIn}
-use Rattle.text.specs.Bytes.{trim}
 use borrow.Author.Needs.{needs}
 use mathlib.Core.Path.{ap, _∙_}
 

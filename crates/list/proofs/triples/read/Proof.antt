@@ -9,7 +9,7 @@ use Rattle.text.specs.Bytes.{part, trim}
 use borrow.Author.Needs.{needs}
 use lib.ListN.{length-set, length}
 use mathlib.Core.List.{List}
-use mathlib.Core.Option.{none, some}
+use mathlib.Core.Option.{some}
 use mathlib.Core.Path.{_≡_, refl, sym, ap, _∙_}
 use native.Mathlib.Omega.{arith}
 

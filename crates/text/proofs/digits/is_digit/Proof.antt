@@ -1,5 +1,4 @@
 -- The three ways through the range are three laws of `isDigit`.
-use Prim.Native.Nat.{_-_}
 use Rattle.text.proofs.Numerals.{digit-yes, digit-low, digit-high}
 use Rattle.text.proofs.digits.is_digit.Statement.{statement}
 use Rattle.text.proofs.digits.is_digit.Tie as tie

@@ -1,5 +1,5 @@
 -- Each arm is a power of ten; the last is the tenth, since k is at most 10.
-use Prim.Native.Nat.{ℕ, _-_, _^_}
+use Prim.Native.Nat.{ℕ, _^_}
 use Rattle.text.proofs.Tables.{above}
 use Rattle.text.proofs.digits.pow10.Statement.{statement}
 use Rattle.text.proofs.digits.pow10.Tie as tie

@@ -1,6 +1,6 @@
 -- From the most digits down, n is the text of `wholeText` at each count that it does not fill.
-use Prim.Native.Nat.{_-_, _≤_}
-use Rattle.text.proofs.Numerals.{taken, whole-less, whole-found, whole-last}
+use Prim.Native.Nat.{_≤_}
+use Rattle.text.proofs.Numerals.{whole-less, whole-found, whole-last}
 use Rattle.text.proofs.digits.whole_size.Statement.{statement}
 use Rattle.text.proofs.digits.whole_size.Tie as tie
 use Rattle.text.specs.Digits.{wholeText}

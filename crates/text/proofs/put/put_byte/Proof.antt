@@ -1,5 +1,4 @@
 -- A store past the end is none.
-use Prim.Native.Nat.{_-_}
 use Rattle.text.proofs.Runs.{put-past}
 use Rattle.text.proofs.put.put_byte.Statement.{statement}
 use Rattle.text.proofs.put.put_byte.Tie as tie

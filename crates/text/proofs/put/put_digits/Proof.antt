@@ -1,6 +1,5 @@
 -- What is put, with the digits that are left put after it, is all the digits put.
-use Prim.Native.Nat.{_+_, _-_, _≤_, _<_}
-use Rattle.text.proofs.Numerals.{taken}
+use Prim.Native.Nat.{_+_, _-_, _≤_}
 use Rattle.text.proofs.Runs.{digit-step, digit-end}
 use Rattle.text.proofs.put.put_digits.Statement.{statement}
 use Rattle.text.proofs.put.put_digits.Tie as tie

@@ -1,6 +1,5 @@
 -- What is put, with the bytes that are left put after it, is the whole text put.
 use Prim.Native.Nat.{_+_, _-_, _≤_, _<_}
-use Rattle.text.proofs.Numerals.{taken}
 use Rattle.text.proofs.Runs.{text-step, text-end}
 use Rattle.text.proofs.put.put_text.Statement.{statement}
 use Rattle.text.proofs.put.put_text.Tie as tie

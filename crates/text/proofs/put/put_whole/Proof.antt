@@ -1,5 +1,4 @@
 -- The digits that it has, put.
-use Prim.Native.Nat.{_-_}
 use Rattle.text.proofs.Runs.{whole-put}
 use Rattle.text.proofs.put.put_whole.Statement.{statement}
 use Rattle.text.proofs.put.put_whole.Tie as tie

@@ -1,6 +1,5 @@
 -- The whole and its first e bytes come to the same without the blanks at the end.
-use Prim.Native.Nat.{ℕ, _-_, _≤_}
-use Rattle.text.proofs.Numerals.{taken}
+use Prim.Native.Nat.{ℕ, _≤_}
 use Rattle.text.proofs.Trims.{end-on, end-here}
 use Rattle.text.proofs.scan.body.Statement.{statement}
 use Rattle.text.proofs.scan.body.Tie as tie

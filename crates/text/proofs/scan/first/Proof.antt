@@ -1,7 +1,6 @@
 -- What stands before the first in the whole is i and what stands before it in the rest.
 use Prim.Native.Nat.{_+_, _-_, _≤_}
 use Rattle.text.proofs.Cuts.{upto-here, upto-on, upto-end}
-use Rattle.text.proofs.Numerals.{taken}
 use Rattle.text.proofs.scan.first.Statement.{statement}
 use Rattle.text.proofs.scan.first.Tie as tie
 use Rattle.text.specs.Bytes.{is, firstOf}

@@ -1,5 +1,4 @@
 -- A prefix, or all of it.
-use Prim.Native.Nat.{_-_}
 use Rattle.text.proofs.Cuts.{front-count}
 use Rattle.text.proofs.scan.front.Statement.{statement}
 use Rattle.text.proofs.scan.front.Tie as tie

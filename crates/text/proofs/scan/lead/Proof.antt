@@ -1,7 +1,6 @@
 -- The whole and the rest come to the same once blanks are skipped.
 use Prim.Native.Nat.{_-_, _≤_}
 use Rattle.text.proofs.Cuts.{skip-here, skip-on, skip-none}
-use Rattle.text.proofs.Numerals.{taken}
 use Rattle.text.proofs.scan.lead.Statement.{statement}
 use Rattle.text.proofs.scan.lead.Tie as tie
 use Rattle.text.specs.Bytes.{skip, isBlank}

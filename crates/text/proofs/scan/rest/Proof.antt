@@ -1,5 +1,4 @@
 -- A part to the end, or nothing.
-use Prim.Native.Nat.{_-_}
 use Rattle.text.proofs.Cuts.{tail}
 use Rattle.text.proofs.scan.rest.Statement.{statement}
 use Rattle.text.proofs.scan.rest.Tie as tie

@@ -1,7 +1,6 @@
 -- The whole texts are the same where the rests are.
 use Prim.Native.Nat.{_-_, _≤_, _<_}
 use Rattle.text.proofs.Cuts.{same-lengths, same-here, same-on, same-end}
-use Rattle.text.proofs.Numerals.{taken}
 use Rattle.text.proofs.scan.same.Statement.{statement}
 use Rattle.text.proofs.scan.same.Tie as tie
 use Rattle.text.specs.Bytes.{same}

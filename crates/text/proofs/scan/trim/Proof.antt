@@ -1,5 +1,4 @@
 -- What is left past the leading blanks, and of that what is left before the last.
-use Prim.Native.Nat.{_-_}
 use Rattle.text.proofs.Trims.{end-count, trim-law}
 use Rattle.text.proofs.scan.trim.Statement.{statement}
 use Rattle.text.proofs.scan.trim.Tie as tie

@@ -1,5 +1,4 @@
 -- A list, as a value.
-use Prim.Native.Nat.{_-_}
 use Rattle.value.proofs.read.listed.Statement.{statement}
 use Rattle.value.proofs.read.listed.Tie as tie
 use Rattle.value.specs.Kinds.{listFrom}

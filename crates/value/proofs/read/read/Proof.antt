@@ -1,5 +1,4 @@
 -- A blank where one may stand, or the shape.
-use Prim.Native.Nat.{_-_}
 use Rattle.value.proofs.read.read.Statement.{statement}
 use Rattle.value.proofs.read.read.Tie as tie
 use Rattle.value.specs.Kinds.{valueOf}

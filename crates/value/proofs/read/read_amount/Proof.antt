@@ -1,5 +1,4 @@
 -- What `read` answers, as a value.
-use Prim.Native.Nat.{_-_}
 use Rattle.value.proofs.read.read_amount.Statement.{statement}
 use Rattle.value.proofs.read.read_amount.Tie as tie
 use Rattle.value.specs.Kinds.{amountFrom}

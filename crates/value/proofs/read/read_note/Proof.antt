@@ -1,5 +1,4 @@
 -- By its length.
-use Prim.Native.Nat.{_-_}
 use Rattle.value.proofs.read.read_note.Statement.{statement}
 use Rattle.value.proofs.read.read_note.Tie as tie
 use Rattle.value.specs.Kinds.{shapeOf}

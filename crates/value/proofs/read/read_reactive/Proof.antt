@@ -1,5 +1,4 @@
 -- A number of its own quantity, or one of its words.
-use Prim.Native.Nat.{_-_}
 use Rattle.value.proofs.Settings.{is-number, is-word}
 use Rattle.value.proofs.read.read_reactive.Statement.{statement}
 use Rattle.value.proofs.read.read_reactive.Tie as tie

@@ -1,5 +1,4 @@
 -- By its length.
-use Prim.Native.Nat.{_-_}
 use Rattle.value.proofs.read.read_reason.Statement.{statement}
 use Rattle.value.proofs.read.read_reason.Tie as tie
 use Rattle.value.specs.Kinds.{shapeOf}

@@ -1,5 +1,4 @@
 -- Each arm is the reader of its shape.
-use Prim.Native.Nat.{_-_}
 use Rattle.value.proofs.read.read_shape.Statement.{statement}
 use Rattle.value.proofs.read.read_shape.Tie as tie
 use Rattle.value.specs.Kinds.{listFrom, shapeOf}

@@ -1,5 +1,4 @@
 -- Gradients by their count.
-use Prim.Native.Nat.{_-_}
 use Rattle.value.proofs.Settings.{good-triples, bad-triples}
 use Rattle.value.proofs.read.read_triples.Statement.{statement}
 use Rattle.value.proofs.read.read_triples.Tie as tie

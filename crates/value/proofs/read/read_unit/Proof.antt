@@ -1,5 +1,4 @@
 -- By the test of its bytes.
-use Prim.Native.Nat.{_-_}
 use Rattle.value.proofs.read.read_unit.Statement.{statement}
 use Rattle.value.proofs.read.read_unit.Tie as tie
 use Rattle.value.specs.Kinds.{shapeOf}

@@ -1,0 +1,234 @@
+// One request answered.
+use crate::hex;
+use crate::request;
+use crate::said;
+use hex::Decoded;
+use layout::Layout;
+use lines::Span;
+use reader::Answer;
+use record::Record;
+use said::say;
+use said::say_hex;
+use said::say_number;
+use said::say_unknown;
+use text::digits::Digits;
+use text::scan;
+use value::Value;
+ghost use lib.ListN.{length};
+ghost use mathlib.Core.Path.{_≡_};
+
+fn say_layout(l: Layout) {
+    match l {
+        Layout::Market => say(b"CB M "),
+        Layout::Mfrr => say(b"CB F "),
+        Layout::Revocation => say(b"RC - "),
+        Layout::Generic => say(b"MG - "),
+        Layout::Exclusion => say(b"EB - "),
+        Layout::Limitation => say(b"LB - "),
+        Layout::Secondary => say(b"SR - "),
+        Layout::VoltVar => say(b"VQ - "),
+        Layout::Rejection => say(b"RI - "),
+        Layout::Reserve => say(b"QR - "),
+    }
+}
+
+fn say_instant(v: Value) {
+    if let Value::When(d) = v {
+        say_number(date::instant(d));
+        return;
+    }
+    say(b"-");
+}
+
+fn say_record(r: Record) {
+    let unit = r.unit;
+    let l = r.layout;
+    say(b"OK ");
+    say_layout(l);
+    say_number(report::number_of(r));
+    say(b" ");
+    say(scan::front(&unit, report::unit_size_of(r)));
+    say(b" ");
+    say_instant(report::start_of(r));
+    say(b" ");
+    say_instant(report::end_of(r));
+}
+
+fn say_answer(a: Answer) {
+    if a.number == 0 {
+        let body = a.body;
+        say_record(body);
+        return;
+    }
+    say(b"R ");
+    say_number(a.number as u64);
+    say(b" ");
+    say_number(a.detail as u64);
+}
+
+// A plan, an address and a file, decoded where they stand in the line.
+struct Asked {
+    good: bool,
+    ca: u32,
+    ioa: u32,
+    plan: Span,
+    file: Span,
+}
+
+const NOTHING: Span = Span { from: 0, to: 0 };
+
+fn not_asked() -> Asked {
+    Asked {
+        good: false,
+        ca: 0,
+        ioa: 0,
+        plan: NOTHING,
+        file: NOTHING,
+    }
+}
+
+// The fields 1 to 4 of a request: PLAN CA IOA FILE.
+fn asked_of(line: &mut [u8], places: [Span; 8]) -> Asked {
+    let Digits::Are(ca) = request::number_of(line, places[2]) else {
+        return not_asked();
+    };
+    let Digits::Are(ioa) = request::number_of(line, places[3]) else {
+        return not_asked();
+    };
+    if 4294967295 < ca {
+        return not_asked();
+    }
+    if 4294967295 < ioa {
+        return not_asked();
+    }
+    let Decoded::At(plan) = hex::decode(line, places[1]) else {
+        return not_asked();
+    };
+    let Decoded::At(file) = hex::decode(line, places[4]) else {
+        return not_asked();
+    };
+    Asked {
+        good: true,
+        ca: ca as u32,
+        ioa: ioa as u32,
+        plan,
+        file,
+    }
+}
+
+// `read PLAN CA IOA FILE`
+fn run_read(line: &mut [u8], places: [Span; 8]) {
+    let a = asked_of(line, places);
+    let plan = a.plan;
+    let file = a.file;
+    if !a.good {
+        say_unknown();
+        return;
+    }
+    say_answer(reader::read(
+        a.ca,
+        a.ioa,
+        request::text_of(line, plan),
+        request::text_of(line, file),
+    ));
+}
+
+// The largest buffer of the entry, each byte of which is AA hex.
+fn untouched() -> [u8; 65536]
+    ensures { λ r. ⌜ 65536 ≡ length r ⌝ }
+{
+    [170; 65536]
+}
+
+// The entry's answer, and the whole buffer after it.
+fn say_entry(a: Asked, plan: &[u8], file: &[u8], out: &mut [u8]) {
+    let n = gateway::halimpung_read(a.ca, a.ioa, plan, file, out);
+    say(b"N ");
+    say_number(n as u64);
+    say(b" ");
+    say_hex(out);
+}
+
+// `cread PLAN CA IOA FILE ROOM`
+fn run_cread(line: &mut [u8], places: [Span; 8]) {
+    let a = asked_of(line, places);
+    let plan = a.plan;
+    let file = a.file;
+    if !a.good {
+        say_unknown();
+        return;
+    }
+    let Digits::Are(room) = request::number_of(line, places[5]) else {
+        say_unknown();
+        return;
+    };
+    if 65536 < room {
+        say_unknown();
+        return;
+    }
+    let size = room as usize;
+    let mut space = untouched();
+    say_entry(
+        a,
+        request::text_of(line, plan),
+        request::text_of(line, file),
+        &mut space[..size],
+    );
+}
+
+// The plan of `prog`: `!` is one that cannot be read, which is an empty one.
+fn plan_of(line: &mut [u8], p: Span) -> Decoded {
+    if scan::same(request::text_of(line, p), b"!") {
+        return Decoded::At(NOTHING);
+    }
+    hex::decode(line, p)
+}
+
+// `prog PLAN STDIN`: what the program prints.
+fn run_prog(line: &mut [u8], places: [Span; 8]) {
+    let Decoded::At(plan) = plan_of(line, places[1]) else {
+        say_unknown();
+        return;
+    };
+    let Decoded::At(input) = hex::decode(line, places[2]) else {
+        say_unknown();
+        return;
+    };
+    let mut out = [0u8; 128];
+    let n = report::print(
+        &mut out,
+        request::text_of(line, plan),
+        request::text_of(line, input),
+    );
+    say(b"OUT ");
+    say_hex(scan::front(&out, n));
+}
+
+// The answer to the request on a line, by its key and the count of its fields.
+fn answer(line: &mut [u8]) {
+    let f = request::cut(line);
+    let places = f.places;
+    let key = request::text_of(line, places[0]);
+    let is_read = (f.count == 5) & scan::same(key, b"read");
+    let is_cread = (f.count == 6) & scan::same(key, b"cread");
+    let is_prog = (f.count == 3) & scan::same(key, b"prog");
+    if is_read {
+        run_read(line, places);
+        return;
+    }
+    if is_cread {
+        run_cread(line, places);
+        return;
+    }
+    if is_prog {
+        run_prog(line, places);
+        return;
+    }
+    say_unknown();
+}
+
+// Answers the request on a line, which is without its end, by one line.
+pub fn run(line: &mut [u8]) {
+    answer(line);
+    say(b"\n");
+}

@@ -1,0 +1,152 @@
+-- The labels of the layouts: each fits its room, stands in it before the blanks, and is found at its own place and at no other.
+-- Assumes nothing.
+use Prim.Native.Nat.{ℕ, zero, suc, _+_, _-_, _≤_, _<_}
+use Rattle.layout.proofs.Labels.{few, labels-length, label-at, GoodLabel, good-label}
+use Rattle.layout.specs.Fields.{command, technical, market, mfrr, rc, mg, eb, lb, sr, vq, ri, qr}
+use Rattle.layout.specs.Layouts.{fieldsOf, labelsOf, sizeOf, labelAt, labelOf}
+use Rattle.layout.specs.declared.Layout.{Layout}
+use Rattle.layout.specs.declared.Layout.the-variants.{Market, Mfrr, Revocation, Generic, Exclusion, Limitation, Secondary, VoltVar, Rejection, Reserve}
+use Rattle.layout.specs.declared.label.Label.{Label}
+use Rattle.lines.proofs.Standing.{later, place-here, place-on, place-end}
+use Rattle.lines.specs.Entries.{placeOf}
+use Rattle.text.proofs.Tables.{off, all-at}
+use Rattle.text.proofs.Tests.{by-le, and-parts}
+use Rattle.text.specs.Bytes.{part, same, all}
+use borrow.Author.Tests.{eqb-true}
+use lib.Dec.{eqb}
+use lib.ListN.{length, getD, drop, replicate, length-append}
+use lib.Seq.{take-append-seam}
+use mathlib.Core.Bool.{Bool, true, false, _&&_}
+use mathlib.Core.List.{List, [], _∷_}
+use mathlib.Core.Path.{_≡_, refl, sym, ap, _∙_}
+use native.Mathlib.Nat.{sub-zero}
+use native.Mathlib.Omega.{arith}
+
+-- ---- a label that a layout has
+
+pub labels-few : (l : Layout) → length (labelsOf l) ≤ 26
+labels-few l = omega (arith, few l, labels-length l)
+
+none-past : (l : Layout) (k : ℕ) → sizeOf l < k → length (labelAt l k) ≡ 0
+unfolding labelAt
+none-past l k h = ap length (sym (off ([] ∷ labelsOf l) k [] (omega (arith, labels-length l))))
+
+none-first : (l : Layout) → length (labelAt l 0) ≡ 0
+unfolding labelAt
+none-first l = refl
+
+-- a field of the layout, by its label
+pub in-layout : (l : Layout) (k : ℕ) → 1 ≤ length (labelAt l k) → (1 ≤ k) × (k ≤ sizeOf l)
+in-layout l zero h = absurd (omega (arith, none-first l))
+in-layout l (suc k) h =
+    (omega arith, by-le (suc k) (sizeOf l) (λ j. j) (λ j. absurd (omega (arith, none-past l (suc k) j))))
+
+pub good-at : (l : Layout) (k : ℕ) → 1 ≤ length (labelAt l k) → GoodLabel (labelAt l k)
+good-at l k h = let b = in-layout l k h in good-label l k (b .0) (b .1)
+
+-- ---- a label in its room
+
+pub label-size : (r : Label) (t : List ℕ) → r ≡ labelOf t → r .size ≡ length t
+unfolding labelOf
+label-size r t e = ap (λ (x : Label). x .size) e
+
+pub size-inside : (r : Label) (t : List ℕ) → r ≡ labelOf t → r .size ≤ length (r .text)
+unfolding labelOf
+size-inside r t e =
+    omega (arith, label-size r t e, ap (λ (x : Label). length (x .text)) e, length-append t (replicate (36 - length t) 32))
+
+pub label-part : (r : Label) (t : List ℕ) → r ≡ labelOf t → part 0 (r .size) (r .text) ≡ t
+unfolding labelOf
+label-part r t e = ap (λ (x : Label). part 0 (x .size) (x .text)) e ∙ rw sub-zero (take-append-seam t _)
+
+-- ---- one turn of the search among the labels, and its end
+
+module _ (l : Layout) (s : List ℕ) (k : ℕ) (h : k < sizeOf l) where
+  next-label : same (getD (labelsOf l) k []) s ≡ same (labelAt l (k + 1)) s
+  next-label =
+      let n : suc k ≡ k + 1 = omega arith in
+      ap (λ (t : List ℕ). same t s) (sym (label-at l k) ∙ ap (labelAt l) n)
+
+  inside : k < length (labelsOf l)
+  inside = omega (arith, h, labels-length l)
+
+  pub label-here : same (labelAt l (k + 1)) s ≡ true → k + 1 ≡ later k (placeOf (drop k (labelsOf l)) s)
+  label-here e = place-here (labelsOf l) s k inside (next-label ∙ e)
+
+  pub label-on : same (labelAt l (k + 1)) s ≡ false → later k (placeOf (drop k (labelsOf l)) s) ≡ later (k + 1) (placeOf (drop (k + 1) (labelsOf l)) s)
+  label-on e = place-on (labelsOf l) s k inside (next-label ∙ e)
+
+pub label-none : (l : Layout) (s : List ℕ) (k : ℕ) → sizeOf l ≤ k → 0 ≡ later k (placeOf (drop k (labelsOf l)) s)
+label-none l s k h = place-end (labelsOf l) s k (omega (arith, h, labels-length l))
+
+-- ---- the place of a label in its own layout
+
+-- the labels ts are in ls at i, i + 1, ..
+placed : ℕ → List (List ℕ) → List (List ℕ) → Bool
+placed i ls [] = true
+placed i ls (t ∷ ts) = eqb (placeOf ls t) i && placed (suc i) ls ts
+
+placed-at : (i : ℕ) (ls ts : List (List ℕ)) (k : ℕ) → placed i ls ts ≡ true → k < length ts → placeOf ls (getD ts k []) ≡ i + k
+unfolding placed
+placed-at i ls [] k e h = absurd (omega (arith, h))
+placed-at i ls (t ∷ ts) zero e h =
+    omega (arith, eqb-true (placeOf ls t) i (and-parts (eqb (placeOf ls t) i) (placed (suc i) ls ts) e .0))
+placed-at i ls (t ∷ ts) (suc k) e h =
+    let n : suc i + k ≡ i + suc k = omega arith in
+    placed-at (suc i) ls ts k (and-parts (eqb (placeOf ls t) i) (placed (suc i) ls ts) e .1) (omega (arith, h)) ∙ n
+
+all-placed : (l : Layout) → placed 1 (labelsOf l) (labelsOf l) ≡ true
+unfolding placed placeOf same labelsOf fieldsOf market command technical mfrr rc mg eb lb sr vq ri qr
+all-placed Market = refl
+all-placed Mfrr = refl
+all-placed Revocation = refl
+all-placed Generic = refl
+all-placed Exclusion = refl
+all-placed Limitation = refl
+all-placed Secondary = refl
+all-placed VoltVar = refl
+all-placed Rejection = refl
+all-placed Reserve = refl
+
+pub own-place : (l : Layout) (k : ℕ) → 1 ≤ length (labelAt l k) → k ≡ placeOf (labelsOf l) (labelAt l k)
+unfolding labelAt
+own-place l zero h = absurd (omega (arith, none-first l))
+own-place l (suc k) h =
+    let n : 1 + k ≡ suc k = omega arith in
+    let b : k < length (labelsOf l) = omega (arith, in-layout l (suc k) h .1, labels-length l) in
+    sym (placed-at 1 (labelsOf l) (labelsOf l) k (all-placed l) b ∙ n)
+
+-- ---- market and mFRR: their first two labels are the same, the others are foreign to each other
+
+foreign : List (List ℕ) → List ℕ → Bool
+foreign ls t = eqb (placeOf ls t) 0
+
+from-third : (ts : List (List ℕ)) (k : ℕ) → getD ts (suc (suc k)) [] ≡ getD (drop 2 ts) k []
+from-third [] k = refl
+from-third (x ∷ []) k = refl
+from-third (x ∷ y ∷ ts) k = refl
+
+-- a test of the whole table from the third label on
+foreign-at : (ls : List (List ℕ)) (l : Layout) (k : ℕ) → all (foreign ls) (drop 2 (labelsOf l)) ≡ true → foreign ls [] ≡ true → 2 < k
+    → 0 ≡ placeOf ls (labelAt l k)
+unfolding foreign labelAt
+foreign-at ls l zero e z h = absurd (omega (arith, h))
+foreign-at ls l (suc zero) e z h = absurd (omega (arith, h))
+foreign-at ls l (suc (suc zero)) e z h = absurd (omega (arith, h))
+foreign-at ls l (suc (suc (suc k))) e z h =
+    sym (ap (placeOf ls) (from-third (labelsOf l) k) ∙ eqb-true (placeOf ls (getD (drop 2 (labelsOf l)) k [])) 0 (all-at (foreign ls) (drop 2 (labelsOf l)) k [] e z))
+
+pub market-foreign : (k : ℕ) → 2 < k → 0 ≡ placeOf (labelsOf Mfrr) (labelAt Market k)
+unfolding foreign all placeOf same labelsOf fieldsOf market command technical mfrr
+market-foreign k h = foreign-at (labelsOf Mfrr) Market k refl refl h
+
+pub mfrr-foreign : (k : ℕ) → 2 < k → 0 ≡ placeOf (labelsOf Market) (labelAt Mfrr k)
+unfolding foreign all placeOf same labelsOf fieldsOf market command technical mfrr
+mfrr-foreign k h = foreign-at (labelsOf Market) Mfrr k refl refl h
+
+pub market-shared : (k : ℕ) → 1 ≤ length (labelAt Market k) → k ≤ 2 → k ≡ placeOf (labelsOf Mfrr) (labelAt Market k)
+unfolding placeOf same labelAt labelsOf fieldsOf market command technical mfrr
+market-shared zero h j = absurd (omega (arith, none-first Market))
+market-shared (suc zero) h j = refl
+market-shared (suc (suc zero)) h j = refl
+market-shared (suc (suc (suc k))) h j = absurd (omega (arith, j))

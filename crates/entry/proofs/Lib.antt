@@ -1,0 +1,4 @@
+pub mod Labels
+pub mod Turns
+pub mod Heads
+pub mod Meanings

@@ -1,0 +1,82 @@
+-- What a caller knows of what was filled: the record that is made of it, and that it names a bad field just where there is one.
+-- Assumes nothing.
+use Prim.Native.Nat.{ℕ, suc, _≤_}
+use Rattle.fill.specs.Filled.{filledOf, triplesOf, recordWith}
+use Rattle.layout.specs.Rows.{textAt}
+use Rattle.layout.specs.declared.Layout.{Layout}
+use Rattle.list.specs.Forms.{gradientsIn}
+use Rattle.list.specs.declared.Triple.{Triple}
+use Rattle.record.specs.Records.{Typed, joined, typed, cellsOf, recordOf, reasonField, noteField, gradientsField}
+use Rattle.record.specs.Records.Typed.{bad, good}
+use Rattle.record.specs.declared.Cell.{Cell}
+use Rattle.room.specs.Rooms.{keptIn}
+use Rattle.value.specs.Kinds.{valueOf}
+use Rattle.value.specs.declared.Got.{Got}
+use Rattle.value.specs.declared.Got.the-variants.{Read, Bad}
+use Rattle.value.specs.declared.Kind.{Kind}
+use Rattle.value.specs.declared.Value.{Value}
+use mathlib.Core.List.{List, [], _∷_}
+use mathlib.Core.Path.{_≡_, refl, ap, _∙_}
+use native.Mathlib.Omega.{arith}
+
+pub record-with : (l : Layout) (col : List (List ℕ)) (vs : List Value) → recordWith l col (cellsOf vs) (triplesOf l col) ≡ recordOf l col vs
+unfolding recordWith recordOf triplesOf
+record-with l col vs = refl
+
+-- ---- a record from what its rooms hold
+
+pub room-is : (n : ℕ) (col : List (List ℕ)) (room text : List ℕ) (k j : ℕ) → room ≡ keptIn n text → text ≡ textAt col k → k ≡ j → room ≡ keptIn n (textAt col j)
+room-is n col room text k j e f g = e ∙ ap (keptIn n) (f ∙ ap (textAt col) g)
+
+pub triples-are : (l : Layout) (col : List (List ℕ)) (triples : List Triple) (text : List ℕ) (k : ℕ) → triples ≡ gradientsIn text .list .values
+    → text ≡ textAt col k → k ≡ gradientsField l → triples ≡ triplesOf l col
+unfolding triplesOf
+triples-are l col triples text k e f g = e ∙ ap (λ (t : List ℕ). gradientsIn t .list .values) (f ∙ ap (textAt col) g)
+
+pub record-is : (l : Layout) (col : List (List ℕ)) (cells : List Cell) (u r n : List ℕ) (g : List Triple)
+    → u ≡ keptIn 16 (textAt col 2) → r ≡ keptIn 128 (textAt col (reasonField l)) → n ≡ keptIn 256 (textAt col (noteField l))
+    → record { layout = l; cells = cells; unit = u; reason = r; note = n; gradients = g } ≡ recordWith l col cells g
+unfolding recordWith
+record-is l col cells u r n g a b c = rw (a, b, c)
+
+-- ---- a bad field has a number: 0 is none
+
+good-not : {vs : List Value} {j : ℕ} → good vs ≡ bad j → ⊥
+good-not e = let z : _≡_ {A = ℕ} 0 1 = cc in omega arith
+
+bad-is : {i j : ℕ} → bad i ≡ bad j → i ≡ j
+bad-is e = cc
+
+joined-bad : (k : ℕ) (g : Got) (t : Typed) (j : ℕ) → ((i : ℕ) → t ≡ bad i → 1 ≤ i) → joined (suc k) g t ≡ bad j → 1 ≤ j
+unfolding joined
+joined-bad k Bad t j f e = omega (arith, bad-is e)
+joined-bad k (Read v) (bad i) j f e = f j e
+joined-bad k (Read v) (good vs) j f e = absurd (good-not e)
+
+pub typed-bad-some : (k : ℕ) (ks : List Kind) (col : List (List ℕ)) (j : ℕ) → typed (suc k) ks col ≡ bad j → 1 ≤ j
+unfolding typed
+typed-bad-some k [] col j e = absurd (good-not e)
+typed-bad-some k (d ∷ ds) [] j e = omega (arith, bad-is e)
+typed-bad-some k (d ∷ ds) (t ∷ ts) j e = joined-bad k (valueOf d t) (typed (suc (suc k)) ds ts) j (λ i q. typed-bad-some (suc k) ds ts i q) e
+
+-- ---- from what was filled to what was read
+
+-- a number that is not 0 is that of the first bad field
+pub filled-bad : (y : Typed) → (filledOf y .bad ≡ 0 → ⊥) → y ≡ bad (filledOf y .bad)
+unfolding filledOf
+filled-bad (bad k) h = refl
+filled-bad (good vs) h = absurd (h refl)
+
+-- all was read, and the cells hold it
+pub record Good (y : Typed) : Type 0 where
+  pub values : List Value
+  pub read-as : y ≡ good values
+  pub kept : filledOf y .cells ≡ cellsOf values
+
+good-of : (y : Typed) → ((j : ℕ) → y ≡ bad j → 1 ≤ j) → filledOf y .bad ≡ 0 → Good y
+unfolding filledOf
+good-of (bad k) f e = absurd (omega (arith, f k refl, e))
+good-of (good vs) f e = record { values = vs; read-as = refl; kept = refl }
+
+pub filled-good : (ks : List Kind) (col : List (List ℕ)) → filledOf (typed 1 ks col) .bad ≡ 0 → Good (typed 1 ks col)
+filled-good ks col e = good-of (typed 1 ks col) (λ j q. typed-bad-some 0 ks col j q) e

@@ -1,0 +1,122 @@
+-- The loop of `fill`: its state, and its laws. Assumes nothing.
+use Prim.Native.Nat.{ℕ, suc, _+_, _-_, _≤_, _<_}
+use Rattle.fill.proofs.Columns.{column-step}
+use Rattle.fill.specs.Filled.{filledOf}
+use Rattle.layout.proofs.Labels.{few, kinds-length, kind-at}
+use Rattle.layout.specs.Layouts.{kindsOf, kindAt, noKind, sizeOf}
+use Rattle.layout.specs.declared.Layout.{Layout}
+use Rattle.lines.specs.Places.{partOf, spanAt, columnIn, Placed}
+use Rattle.lines.specs.declared.Span.{Span}
+use Rattle.record.specs.Records.{Typed, joined, typed, cell, cellsOf}
+use Rattle.record.specs.Records.Typed.{bad, good}
+use Rattle.record.specs.declared.Cell.{Cell}
+use Rattle.value.specs.Kinds.{valueOf}
+use Rattle.value.specs.declared.Got.{Got}
+use Rattle.value.specs.declared.Got.the-variants.{Read, Bad}
+use Rattle.value.specs.declared.Value.{Value}
+use Rattle.value.specs.declared.Value.the-variants.{Blank}
+use lib.ListN.{length, drop, set, replicate, length-append, drop-of-length-le}
+use lib.Seq.{drop-cons}
+use mathlib.Core.List.{List, [], _∷_, _++_, map, append-assoc}
+use mathlib.Core.Path.{_≡_, refl, sym, ap, _∙_}
+use native.Mathlib.Numerals.{add-one}
+use native.Mathlib.Omega.{arith}
+
+-- ---- values already read, before those to come
+
+unfoldable pub prefixed : List Value → Typed → Typed
+prefixed done (bad k) = bad k
+prefixed done (good vs) = good (done ++ vs)
+
+prefixed-step : (k : ℕ) (done : List Value) (v : Value) (t : Typed) → prefixed done (joined k (Read v) t) ≡ prefixed (done ++ v ∷ []) t
+unfolding prefixed joined
+prefixed-step k done v (bad j) = refl
+prefixed-step k done v (good vs) = ap good (sym (append-assoc done (v ∷ []) vs))
+
+prefixed-none : (t : Typed) → t ≡ prefixed [] t
+unfolding prefixed
+prefixed-none (bad j) = refl
+prefixed-none (good vs) = refl
+
+-- ---- one more cell
+
+map-snoc : {A B : Type 0} (f : A → B) (l : List A) (x : A) → map f (l ++ x ∷ []) ≡ map f l ++ f x ∷ []
+map-snoc f [] x = refl
+map-snoc {B = B} f (y ∷ l) x = ap (λ (m : List B). f y ∷ m) (map-snoc f l x)
+
+set-next : {A : Type 0} (a : List A) (m : ℕ) (x y : A) → set (a ++ replicate (suc m) x) (length a) y ≡ (a ++ y ∷ []) ++ replicate m x
+set-next [] m x y = refl
+set-next {A} (z ∷ a) m x y = ap (λ (l : List A). z ∷ l) (set-next a m x y)
+
+length-map : {A B : Type 0} (f : A → B) (l : List A) → length (map f l) ≡ length l
+length-map f [] = refl
+length-map f (x ∷ l) = ap suc (length-map f l)
+
+cells-step : (done : List Value) (k : ℕ) (v : Value) → length done ≡ k → k < 26 → set (cellsOf done) k (cell v) ≡ cellsOf (done ++ v ∷ [])
+unfolding cellsOf
+cells-step done k v e h =
+    let n : 26 - length done ≡ suc (26 - length (done ++ v ∷ [])) = omega (arith, length-append done (v ∷ [])) in
+    let l : k ≡ length (map cell done) = sym e ∙ sym (length-map cell done) in
+    rw (n, l, map-snoc cell done v) (set-next (map cell done) (26 - length (done ++ v ∷ [])) (cell Blank) (cell v))
+
+-- ---- the first k fields are read: their values stand in the cells, and what is to come is the column from k on
+
+pub record Sofar (l : Layout) (col : List (List ℕ)) (k : ℕ) (cells : List Cell) : Type 0 where
+  pub done : List Value
+  pub count-is : length done ≡ k
+  pub rest : typed 1 (kindsOf l) col ≡ prefixed done (typed (k + 1) (drop k (kindsOf l)) (drop k col))
+  pub kept : cells ≡ cellsOf done
+
+pub start : (l : Layout) (col : List (List ℕ)) → Sofar l col 0 (replicate 26 (cell Blank))
+unfolding cellsOf
+start l col = record { done = []; count-is = refl; rest = prefixed-none (typed 1 (kindsOf l) col); kept = refl }
+
+typed-at : (l : Layout) (col : List (List ℕ)) (k : ℕ) (x : List ℕ) → k < sizeOf l → drop k col ≡ x ∷ drop (k + 1) col
+    → typed (k + 1) (drop k (kindsOf l)) (drop k col) ≡ joined (k + 1) (valueOf (kindAt l (k + 1)) x) (typed (k + 1 + 1) (drop (k + 1) (kindsOf l)) (drop (k + 1) col))
+unfolding typed
+typed-at l col k x h e =
+    let j : k < length (kindsOf l) = omega (arith, kinds-length l) in
+    rw (e, drop-cons (kindsOf l) k noKind j, add-one k, add-one (suc k), kind-at l k)
+
+module _ (l : Layout) (file : List ℕ) (spans : List Span) (k : ℕ) (cells : List Cell) (s : Sofar l (columnIn (sizeOf l) file spans) k cells)
+    (p : Placed (sizeOf l) file spans) (h : k < sizeOf l) where
+  abbrev col : List (List ℕ)
+  col = columnIn (sizeOf l) file spans
+
+  abbrev text : List ℕ
+  text = partOf file (spanAt spans (k + 1))
+
+  here : typed 1 (kindsOf l) col ≡ prefixed (s .done) (joined (k + 1) (valueOf (kindAt l (k + 1)) text) (typed (k + 1 + 1) (drop (k + 1) (kindsOf l)) (drop (k + 1) col)))
+  here =
+      let j : sizeOf l < length spans = omega (arith, few l, p .long) in
+      s .rest ∙ ap (prefixed (s .done)) (typed-at l col k text h (column-step (sizeOf l) file spans k h j))
+
+  pub turn : (g : Got) (v : Value) → g ≡ valueOf (kindAt l (k + 1)) text → g ≡ Read v → Sofar l col (k + 1) (set cells k (cell v))
+  turn g v e r =
+      record {
+        done = s .done ++ v ∷ [];
+        count-is = omega (arith, length-append (s .done) (v ∷ []), s .count-is);
+        rest = here ∙ rw (sym e ∙ r) (prefixed-step (k + 1) (s .done) v (typed (k + 1 + 1) (drop (k + 1) (kindsOf l)) (drop (k + 1) col)));
+        kept = ap (λ (c : List Cell). set c k (cell v)) (s .kept) ∙ cells-step (s .done) k v (s .count-is) (omega (arith, few l));
+      }
+
+  pub stop : (g : Got) → g ≡ valueOf (kindAt l (k + 1)) text → g ≡ Bad → record { bad = k + 1; cells = replicate 26 (cell Blank) } ≡ filledOf (typed 1 (kindsOf l) col)
+  unfolding filledOf prefixed joined
+  stop g e r = rw (here, sym e ∙ r)
+
+append-nil : {A : Type 0} (l : List A) → l ++ [] ≡ l
+append-nil [] = refl
+append-nil {A} (x ∷ l) = ap (λ (m : List A). x ∷ m) (append-nil l)
+
+pub finish : (l : Layout) (col : List (List ℕ)) (k : ℕ) (cells : List Cell) → Sofar l col k cells → sizeOf l ≤ k → record { bad = 0; cells = cells } ≡ filledOf (typed 1 (kindsOf l) col)
+unfolding filledOf prefixed typed
+finish l col k cells s h =
+    let j : length (kindsOf l) ≤ k = omega (arith, kinds-length l) in
+    rw (s .kept, s .rest, drop-of-length-le (kindsOf l) j, append-nil (s .done))
+
+-- what holds at the loop's head
+pub record Head (l : Layout) (file : List ℕ) (spans : List Span) (n k : ℕ) (cells : List Cell) : Type 0 where
+  pub n-is : n ≡ sizeOf l
+  pub room : length cells ≡ 26
+  pub placed : Placed (sizeOf l) file spans
+  pub sofar : Sofar l (columnIn (sizeOf l) file spans) k cells

@@ -1,0 +1,30 @@
+-- The kind of the field, and the part of the file.
+use Rattle.fill.proofs.value_at.Statement.{statement}
+use Rattle.fill.proofs.value_at.Tie as tie
+use Rattle.lines.specs.Places.{partOf}
+use Rattle.value.specs.Kinds.{valueOf}
+use borrow.Author.Needs.{needs}
+use mathlib.Core.Path.{ap, _∙_}
+
+of-field-requires : tie.Need-of-field-requires
+of-field-requires c κs = search needs
+
+sub-read : tie.Need-sub-read
+sub-read c = search needs
+
+part-read-start : tie.Need-part-read-start
+part-read-start c = search needs
+
+part-read-end : tie.Need-part-read-end
+part-read-end c = search needs
+
+read-requires : tie.Need-read-requires
+read-requires c κs = search needs
+
+returns : tie.Need-returns
+returns c = c .read .ensures ∙ ap (λ k. valueOf k (partOf (c .before .before .before .before .args .file .now) (c .before .before .before .before .args .p))) (c .before .before .of-field .ensures)
+
+pub value-at-spec : {M : Type 1} → statement M
+value-at-spec =
+    tie.close
+    (tie.spec of-field-requires sub-read part-read-start part-read-end read-requires returns)

@@ -1,0 +1,28 @@
+// What the gateway's host calls from C: numbers and byte slices only. Each slice goes as a pointer and a length (host/include/halimpung.h).
+use text::put;
+use text::scan;
+ghost use Rattle.gateway.specs.Entry.{codeOf, outOf};
+ghost use Rattle.reader.specs.Reader.{readOf};
+ghost use lib.ListN.{length};
+ghost use mathlib.Core.Path.{_≡_};
+
+// Reads a file at an address of a plan, and writes the six lines of its record into out.
+#[no_mangle]
+pub extern "C" fn halimpung_read(ca: u32, ioa: u32, plan: &[u8], file: &[u8], out: &mut [u8]) -> u32
+    ensures { λ r. ⌜ (r ≡ codeOf (readOf ca ioa (now (plan .entry)) (now (file .entry))) (length (now (out .entry))))
+        × (now (out .exit) ≡ outOf (readOf ca ioa (now (plan .entry)) (now (file .entry))) (now (out .entry))) ⌝ }
+{
+    let answer = reader::read(ca, ioa, plan, file);
+    if answer.number != 0 {
+        return answer.number as u32 * 65536 + answer.detail as u32;
+    }
+    let body = answer.body;
+    let mut lines = [0u8; 89];
+    let size = report::put_record(&mut lines, 0, body);
+    let length = size as u32;
+    if out.len() < size {
+        return 11 * 65536 + length;
+    }
+    put::put_text(out, 0, scan::front(&lines, size));
+    length
+}

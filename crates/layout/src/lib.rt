@@ -1,0 +1,76 @@
+// The ten layouts of messages: fields, labels, kinds, row orders and banners, as tables by match.
+pub mod banner;
+pub mod kind;
+pub mod label;
+pub mod row;
+
+use name::MessageType;
+ghost use Rattle.layout.specs.Layouts.{typeOf, layoutOf, sizeOf};
+ghost use mathlib.Core.Path.{_≡_};
+
+// The type CB has two layouts, every other type has one.
+pub enum Layout {
+    Market,
+    Mfrr,
+    Revocation,
+    Generic,
+    Exclusion,
+    Limitation,
+    Secondary,
+    VoltVar,
+    Rejection,
+    Reserve,
+}
+
+// The type whose layout it is.
+pub fn type_of(l: Layout) -> MessageType
+    ensures { λ r. ⌜ r ≡ typeOf l ⌝ }
+{
+    match l {
+        Layout::Market => MessageType::Cb,
+        Layout::Mfrr => MessageType::Cb,
+        Layout::Revocation => MessageType::Rc,
+        Layout::Generic => MessageType::Mg,
+        Layout::Exclusion => MessageType::Eb,
+        Layout::Limitation => MessageType::Lb,
+        Layout::Secondary => MessageType::Sr,
+        Layout::VoltVar => MessageType::Vq,
+        Layout::Rejection => MessageType::Ri,
+        Layout::Reserve => MessageType::Qr,
+    }
+}
+
+// The layout of a type; of CB the market layout.
+pub fn of_type(t: MessageType) -> Layout
+    ensures { λ r. ⌜ r ≡ layoutOf t ⌝ }
+{
+    match t {
+        MessageType::Cb => Layout::Market,
+        MessageType::Rc => Layout::Revocation,
+        MessageType::Mg => Layout::Generic,
+        MessageType::Eb => Layout::Exclusion,
+        MessageType::Lb => Layout::Limitation,
+        MessageType::Sr => Layout::Secondary,
+        MessageType::Vq => Layout::VoltVar,
+        MessageType::Ri => Layout::Rejection,
+        MessageType::Qr => Layout::Reserve,
+    }
+}
+
+// How many fields it has.
+pub fn size(l: Layout) -> usize
+    ensures { λ r. ⌜ r ≡ sizeOf l ⌝ }
+{
+    match l {
+        Layout::Market => 26,
+        Layout::Mfrr => 12,
+        Layout::Revocation => 5,
+        Layout::Generic => 7,
+        Layout::Exclusion => 8,
+        Layout::Limitation => 10,
+        Layout::Secondary => 9,
+        Layout::VoltVar => 13,
+        Layout::Rejection => 6,
+        Layout::Reserve => 9,
+    }
+}

@@ -1,0 +1,82 @@
+// Lines of a file by their places: where a line ends, where its text stands without blanks, and whether it is a separator.
+use text::scan;
+ghost use Prim.Native.Nat.{_≤_};
+ghost use Rattle.lines.specs.Lines.{isSep};
+ghost use Rattle.lines.specs.Places.{Holds, plainRun, breakOf};
+ghost use Rattle.text.specs.Bytes.{part, trim};
+ghost use lib.ListN.{length, drop};
+ghost use mathlib.Core.Path.{_≡_};
+
+// A part of a file, by its ends.
+pub struct Span {
+    pub from: usize,
+    pub to: usize,
+}
+
+// How many bytes end a line, or that what stands there is not allowed.
+pub enum Break {
+    After(usize),
+    Bad,
+}
+
+// How many bytes from the start are 20 to 7E hex. One test for the bytes and the line's end: what stands after the run ends the line or is bad.
+pub fn plain_run(s: &[u8]) -> usize
+    ensures { λ r. ⌜ r ≡ plainRun (now (s .entry)) ⌝ }
+{
+    let mut i = 0;
+    while i < s.len() {
+        let b = s[i];
+        if (b < 32) | (126 < b) {
+            return i;
+        }
+        i += 1;
+    }
+    i
+}
+
+// What ends the line at a place: the end of the file, LF, or CR LF.
+pub fn break_at(s: &[u8], at: usize) -> Break
+    requires { ⌜ at ≤ length (now s) ⌝ }
+    ensures { λ r. ⌜ r ≡ breakOf (drop at (now (s .entry))) ⌝ }
+{
+    if at == s.len() {
+        return Break::After(0);
+    }
+    if s[at] == 10 {
+        return Break::After(1);
+    }
+    if at + 1 == s.len() {
+        return Break::Bad;
+    }
+    if (s[at] == 13) & (s[at + 1] == 10) {
+        return Break::After(2);
+    }
+    Break::Bad
+}
+
+// The place of the part at..end without the blanks at its ends.
+pub fn trim_span(s: &[u8], at: usize, end: usize) -> Span
+    requires { ⌜ (at ≤ end) × (end ≤ length (now s)) ⌝ }
+    ensures { λ r. ⌜ Holds (now (s .entry)) r (trim (part at end (now (s .entry)))) ⌝ }
+{
+    let from = at + scan::lead(&s[at..end]);
+    let to = from + scan::body(&s[from..end]);
+    Span { from, to }
+}
+
+// A separator: five or more '+' and nothing else.
+pub fn is_separator(t: &[u8]) -> bool
+    ensures { λ r. ⌜ r ≡ isSep (now (t .entry)) ⌝ }
+{
+    if t.len() < 5 {
+        return false;
+    }
+    let mut i = 0;
+    while i < t.len() {
+        if t[i] != b'+' {
+            return false;
+        }
+        i += 1;
+    }
+    true
+}

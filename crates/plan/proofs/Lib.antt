@@ -1,0 +1,4 @@
+pub mod Values
+pub mod Readers
+pub mod Walks
+pub mod Cases

@@ -1,0 +1,118 @@
+-- One loop over the rows: what is read so far, and what the rest gives below it, is the plan.
+use Prim.Native.Nat.{_-_}
+use Rattle.plan.proofs.Walks.{Sofar, empty, begin, finish, too-many, bad-line, next-row}
+use Rattle.plan.proofs.seek.Statement.{statement}
+use Rattle.plan.proofs.seek.Tie as tie
+use borrow.Author.Needs.{needs}
+use lib.ListN.{length}
+use mathlib.Core.Path.{_≡_, refl}
+use native.Mathlib.Omega.{arith}
+
+abbrev Inv-loop : tie.InvT-loop
+Inv-loop plan ca ioa addresses₀ count₀ found₀ rest₀ addresses count found rest = (length addresses ≡ 64) × Sofar plan ca ioa addresses count found rest
+
+abbrev μ-loop : tie.MeasureT-loop
+μ-loop plan ca ioa addresses₀ count₀ found₀ rest₀ addresses count found rest = 64 - count
+
+refused-requires : tie.Need-refused-requires Inv-loop μ-loop
+refused-requires c κs = search needs
+
+returns : tie.Need-returns Inv-loop μ-loop
+returns c = empty _ _ _ _ (c .before .if1 .taken) (c .refused .ensures)
+
+refused-requires-2 : tie.Need-refused-requires-2 Inv-loop μ-loop
+refused-requires-2 c κs = search needs
+
+loop-holds : tie.Need-loop-holds Inv-loop μ-loop
+loop-holds c = (refl, begin _ _ _ _ _ (c .before .if1 .left) (c .refused2 .ensures))
+
+mul-line : tie.Need-mul-line Inv-loop μ-loop
+mul-line c = search needs
+
+add-line : tie.Need-add-line Inv-loop μ-loop
+add-line c = search needs
+
+refused-requires-3 : tie.Need-refused-requires-3 Inv-loop μ-loop
+refused-requires-3 c κs = search needs
+
+returns-2 : tie.Need-returns-2 Inv-loop μ-loop
+returns-2 c = too-many _ _ _ _ _ _ _ (c .before .before .before .loop .inv .1) (c .before .before .loop-test .taken) _ (c .before .if2 .taken) (c .refused3 .ensures)
+
+row-at-requires : tie.Need-row-at-requires Inv-loop μ-loop
+row-at-requires c κs = search needs
+
+enum-known-k : tie.Need-enum-known-k Inv-loop μ-loop
+enum-known-k c = search needs
+
+cast-refused : tie.Need-cast-refused Inv-loop μ-loop
+cast-refused c = search needs
+
+add-refused : tie.Need-add-refused Inv-loop μ-loop
+add-refused c = search needs
+
+refused-requires-4 : tie.Need-refused-requires-4 Inv-loop μ-loop
+refused-requires-4 c κs = search needs
+
+returns-3 : tie.Need-returns-3 Inv-loop μ-loop
+returns-3 c =
+    let r = c .before .before .before .before in
+    bad-line _ _ _ _ _ _ _ (r .before .before .before .loop .inv .1) (r .before .before .loop-test .taken) _ (r .before .if2 .left) (r .row-at .ensures) _ _ (c .before .before .k .given .1) (c .refused4 .ensures)
+
+enum-known-e : tie.Need-enum-known-e Inv-loop μ-loop
+enum-known-e c = search needs
+
+look-requires : tie.Need-look-requires Inv-loop μ-loop
+look-requires c κs = search needs
+
+mul-addresses : tie.Need-mul-addresses Inv-loop μ-loop
+mul-addresses c = search needs
+
+array-set-from-addresses : tie.Need-array-set-from-addresses Inv-loop μ-loop
+array-set-from-addresses c = search needs
+
+add-count : tie.Need-add-count Inv-loop μ-loop
+add-count c = search needs
+
+below-row-requires : tie.Need-below-row-requires Inv-loop μ-loop
+below-row-requires c κs = search needs
+
+loop-less : tie.Need-loop-less Inv-loop μ-loop
+loop-less c = search needs
+
+loop-again : tie.Need-loop-again Inv-loop μ-loop
+loop-again c =
+    let r = c .before .before .before .before .before .before in
+    (search needs, next-row _ _ _ _ _ _ _ (r .before .before .before .loop .inv .1) (r .before .before .loop-test .taken) _ (r .before .if2 .left) (r .row-at .ensures) _ _ _ (omega arith) (c .before .look .ensures) (c .below-row .ensures) (c .before .before .before .before .e .given .1))
+
+returns-4 : tie.Need-returns-4 Inv-loop μ-loop
+returns-4 c = finish _ _ _ _ _ _ _ (c .before .loop .inv .1) (c .loop-test .left)
+
+pub seek-spec : {M : Type 1} → statement M
+seek-spec =
+    tie.close
+    (tie.spec
+    Inv-loop
+    μ-loop
+    refused-requires
+    returns
+    refused-requires-2
+    loop-holds
+    mul-line
+    add-line
+    refused-requires-3
+    returns-2
+    row-at-requires
+    enum-known-k
+    cast-refused
+    add-refused
+    refused-requires-4
+    returns-3
+    enum-known-e
+    look-requires
+    mul-addresses
+    array-set-from-addresses
+    add-count
+    below-row-requires
+    loop-less
+    loop-again
+    returns-4)

@@ -1,0 +1,4 @@
+pub mod Refusals
+pub mod Messages
+pub mod Reader
+pub mod State

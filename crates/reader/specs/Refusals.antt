@@ -1,0 +1,28 @@
+-- Refusals as lists. Document 01, "The book of commands": a refusal is given exactly when its condition is the first in its list to hold. So a list of
+-- refusals, each with its number, its detail and whether its condition holds, has one answer.
+use Prim.Native.Nat.{ℕ}
+use Rattle.reader.specs.declared.Answer.{Answer}
+use Rattle.record.specs.Records.{zeroRecord}
+use Rattle.record.specs.declared.Record.{Record}
+use mathlib.Core.Bool.{Bool, cond}
+use mathlib.Core.List.{List, [], _∷_}
+
+pub record Refusal : Type 0 where
+  pub number : ℕ
+  pub detail : ℕ
+  pub holds : Bool
+
+abbrev pub refusal : ℕ → ℕ → Bool → Refusal
+refusal n d b = record { number = n; detail = d; holds = b }
+
+-- an answer: a refusal's number and detail with the all-zero record, or the number 0 with the record
+abbrev pub refused : ℕ → ℕ → Answer
+refused n d = record { number = n; detail = d; body = zeroRecord }
+
+abbrev pub accepted : Record → Answer
+accepted r = record { number = 0; detail = 0; body = r }
+
+-- THE DEFINITION: the first refusal that holds, or else the record
+unfoldable pub answer : List Refusal → Record → Answer
+answer [] r = accepted r
+answer (x ∷ xs) r = cond (x .holds) (refused (x .number) (x .detail)) (answer xs r)

@@ -1,0 +1,5 @@
+pub mod Others
+pub mod Fields
+pub mod Sizes
+pub mod Puts
+pub mod Hearing

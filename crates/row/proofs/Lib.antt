@@ -1,0 +1,4 @@
+pub mod Pieces
+pub mod Joins
+pub mod Fields
+pub mod Halves

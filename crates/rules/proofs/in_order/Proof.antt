@@ -1,0 +1,22 @@
+-- The rule, test by test as its definition says.
+use Rattle.rules.proofs.in_order.Statement.{statement}
+use Rattle.rules.proofs.in_order.Tie as tie
+use Rattle.rules.specs.Rules.{inOrder}
+use borrow.Author.Needs.{needs}
+
+filled-requires : tie.Need-filled-requires
+filled-requires c κs = search needs
+
+instant-at-requires : tie.Need-instant-at-requires
+instant-at-requires c κs = search needs
+
+instant-at-requires-2 : tie.Need-instant-at-requires-2
+instant-at-requires-2 c κs = search needs
+
+returns : tie.Need-returns
+unfolding inOrder
+returns c = rw (c .before .before .filled .ensures, c .before .instant-at .ensures, c .instant-at2 .ensures)
+
+pub in-order-spec : {M : Type 1} → statement M
+in-order-spec =
+    tie.close (tie.spec filled-requires instant-at-requires instant-at-requires-2 returns)

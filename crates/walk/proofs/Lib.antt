@@ -1,0 +1,5 @@
+pub mod Marking
+pub mod Fields
+pub mod Line
+pub mod Walking
+pub mod Told
