@@ -1,12 +1,11 @@
 // One request answered.
-use crate::hex;
-use crate::request;
 use crate::said;
-use hex::Decoded;
+use brief::Brief;
 use layout::Layout;
-use lines::Span;
 use reader::Answer;
-use record::Record;
+use request::Part;
+use request::hex;
+use request::hex::Decoded;
 use said::say;
 use said::say_hex;
 use said::say_number;
@@ -40,24 +39,26 @@ fn say_instant(v: Value) {
     say(b"-");
 }
 
-fn say_record(r: Record) {
-    let unit = r.unit;
-    let l = r.layout;
+fn say_brief(b: Brief) {
+    let unit = b.unit;
+    let l = b.layout;
+    let start = b.start;
+    let end = b.end;
     say(b"OK ");
     say_layout(l);
-    say_number(report::number_of(r));
+    say_number(b.number);
     say(b" ");
-    say(scan::front(&unit, report::unit_size_of(r)));
+    say(scan::front(&unit, b.size));
     say(b" ");
-    say_instant(report::start_of(r));
+    say_instant(start);
     say(b" ");
-    say_instant(report::end_of(r));
+    say_instant(end);
 }
 
 fn say_answer(a: Answer) {
     if a.number == 0 {
         let body = a.body;
-        say_record(body);
+        say_brief(brief::of_record(body));
         return;
     }
     say(b"R ");
@@ -71,11 +72,11 @@ struct Asked {
     good: bool,
     ca: u32,
     ioa: u32,
-    plan: Span,
-    file: Span,
+    plan: Part,
+    file: Part,
 }
 
-const NOTHING: Span = Span { from: 0, to: 0 };
+const NOTHING: Part = Part { from: 0, to: 0 };
 
 fn not_asked() -> Asked {
     Asked {
@@ -88,7 +89,7 @@ fn not_asked() -> Asked {
 }
 
 // The fields 1 to 4 of a request: PLAN CA IOA FILE.
-fn asked_of(line: &mut [u8], places: [Span; 8]) -> Asked {
+fn asked_of(line: &mut [u8], places: [Part; 8]) -> Asked {
     let Digits::Are(ca) = request::number_of(line, places[2]) else {
         return not_asked();
     };
@@ -117,7 +118,7 @@ fn asked_of(line: &mut [u8], places: [Span; 8]) -> Asked {
 }
 
 // `read PLAN CA IOA FILE`
-fn run_read(line: &mut [u8], places: [Span; 8]) {
+fn run_read(line: &mut [u8], places: [Part; 8]) {
     let a = asked_of(line, places);
     let plan = a.plan;
     let file = a.file;
@@ -150,7 +151,7 @@ fn say_entry(a: Asked, plan: &[u8], file: &[u8], out: &mut [u8]) {
 }
 
 // `cread PLAN CA IOA FILE ROOM`
-fn run_cread(line: &mut [u8], places: [Span; 8]) {
+fn run_cread(line: &mut [u8], places: [Part; 8]) {
     let a = asked_of(line, places);
     let plan = a.plan;
     let file = a.file;
@@ -177,7 +178,7 @@ fn run_cread(line: &mut [u8], places: [Span; 8]) {
 }
 
 // The plan of `prog`: `!` is one that cannot be read, which is an empty one.
-fn plan_of(line: &mut [u8], p: Span) -> Decoded {
+fn plan_of(line: &mut [u8], p: Part) -> Decoded {
     if scan::same(request::text_of(line, p), b"!") {
         return Decoded::At(NOTHING);
     }
@@ -185,7 +186,7 @@ fn plan_of(line: &mut [u8], p: Span) -> Decoded {
 }
 
 // `prog PLAN STDIN`: what the program prints.
-fn run_prog(line: &mut [u8], places: [Span; 8]) {
+fn run_prog(line: &mut [u8], places: [Part; 8]) {
     let Decoded::At(plan) = plan_of(line, places[1]) else {
         say_unknown();
         return;

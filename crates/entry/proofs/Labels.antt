@@ -1,25 +1,22 @@
--- The labels of the layouts: each fits its room, stands in it before the blanks, and is found at its own place and at no other.
+-- The labels of the layouts: each is found at its own place and at no other.
 -- Assumes nothing.
-use Prim.Native.Nat.{ℕ, zero, suc, _+_, _-_, _≤_, _<_}
+use Prim.Native.Nat.{ℕ, zero, suc, _+_, _≤_, _<_}
 use Rattle.layout.proofs.Labels.{few, labels-length, label-at, GoodLabel, good-label}
 use Rattle.layout.specs.Fields.{command, technical, market, mfrr, rc, mg, eb, lb, sr, vq, ri, qr}
-use Rattle.layout.specs.Layouts.{fieldsOf, labelsOf, sizeOf, labelAt, labelOf}
+use Rattle.layout.specs.Layouts.{fieldsOf, labelsOf, sizeOf, labelAt}
 use Rattle.layout.specs.declared.Layout.{Layout}
 use Rattle.layout.specs.declared.Layout.the-variants.{Market, Mfrr, Revocation, Generic, Exclusion, Limitation, Secondary, VoltVar, Rejection, Reserve}
-use Rattle.layout.specs.declared.label.Label.{Label}
 use Rattle.lines.proofs.Standing.{later, place-here, place-on, place-end}
 use Rattle.lines.specs.Entries.{placeOf}
 use Rattle.text.proofs.Tables.{off, all-at}
 use Rattle.text.proofs.Tests.{by-le, and-parts}
-use Rattle.text.specs.Bytes.{part, same, all}
+use Rattle.text.specs.Bytes.{same, all}
 use borrow.Author.Tests.{eqb-true}
 use lib.Dec.{eqb}
-use lib.ListN.{length, getD, drop, replicate, length-append}
-use lib.Seq.{take-append-seam}
+use lib.ListN.{length, getD, drop}
 use mathlib.Core.Bool.{Bool, true, false, _&&_}
 use mathlib.Core.List.{List, [], _∷_}
 use mathlib.Core.Path.{_≡_, refl, sym, ap, _∙_}
-use native.Mathlib.Nat.{sub-zero}
 use native.Mathlib.Omega.{arith}
 
 -- ---- a label that a layout has
@@ -43,21 +40,6 @@ in-layout l (suc k) h =
 
 pub good-at : (l : Layout) (k : ℕ) → 1 ≤ length (labelAt l k) → GoodLabel (labelAt l k)
 good-at l k h = let b = in-layout l k h in good-label l k (b .0) (b .1)
-
--- ---- a label in its room
-
-pub label-size : (r : Label) (t : List ℕ) → r ≡ labelOf t → r .size ≡ length t
-unfolding labelOf
-label-size r t e = ap (λ (x : Label). x .size) e
-
-pub size-inside : (r : Label) (t : List ℕ) → r ≡ labelOf t → r .size ≤ length (r .text)
-unfolding labelOf
-size-inside r t e =
-    omega (arith, label-size r t e, ap (λ (x : Label). length (x .text)) e, length-append t (replicate (36 - length t) 32))
-
-pub label-part : (r : Label) (t : List ℕ) → r ≡ labelOf t → part 0 (r .size) (r .text) ≡ t
-unfolding labelOf
-label-part r t e = ap (λ (x : Label). part 0 (x .size) (x .text)) e ∙ rw sub-zero (take-append-seam t _)
 
 -- ---- one turn of the search among the labels, and its end
 

@@ -3,7 +3,7 @@ use layout::Layout;
 use lines::Span;
 use name::MessageType;
 use text::scan;
-ghost use Prim.Native.Nat.{_≤_};
+ghost use Prim.Native.Nat.{_≤_, _<_};
 ghost use Rattle.entry.specs.Items.{secondLabels, headOf, IsExpected, IsItem};
 ghost use Rattle.layout.specs.Layouts.{labelsOf, labelAt};
 ghost use Rattle.lines.specs.Entries.{placeOf};
@@ -35,7 +35,7 @@ pub struct Expected {
 fn is_label(l: Layout, k: usize, s: &[u8]) -> bool
     ensures { λ r. ⌜ r ≡ same (labelAt l k) (now (s .entry)) ⌝ }
 {
-    let label = layout::label::of_field(l, k);
+    let label = label::of_field(l, k);
     let n = label.size;
     let text = label.text;
     scan::same(&text[0..n], s)
@@ -91,7 +91,7 @@ fn head_with(label: &[u8], s: &[u8]) -> usize
 fn head(l: Layout, k: usize, s: &[u8]) -> usize
     ensures { λ r. ⌜ r ≡ headOf (labelAt l k) (now (s .entry)) ⌝ }
 {
-    let label = layout::label::of_field(l, k);
+    let label = label::of_field(l, k);
     let n = label.size;
     let text = label.text;
     head_with(&text[0..n], s)
@@ -146,12 +146,12 @@ fn expect(t: MessageType, turn: usize) -> Expected
 
 // The line below one separator: a separator, or the row.
 fn row_item(t: MessageType, s: &[u8], at: usize, end: usize) -> Item
-    requires { ⌜ (at ≤ end) × (end ≤ length (now s)) ⌝ }
+    requires { ⌜ (at ≤ end) × (end ≤ length (now s)) × (end < 65536) ⌝ }
     ensures { λ r. ⌜ IsItem t (now (s .entry)) (trim (part at end (now (s .entry)))) 1 r ⌝ }
 {
     let p = lines::trim_span(s, at, end);
-    let a = p.from;
-    let z = p.to;
+    let a = p.from as usize;
+    let z = p.to as usize;
     Item {
         separator: lines::is_separator(&s[a..z]),
         first: 0,
@@ -165,8 +165,8 @@ fn param_item(t: MessageType, s: &[u8], p: Span, seps: usize) -> Item
     requires { ⌜ (p .from ≤ p .to) × (p .to ≤ length (now s)) × (isSep (partOf (now s) p) ≡ false) × (seps ≡ 1 → ⊥) ⌝ }
     ensures { λ r. ⌜ IsItem t (now (s .entry)) (partOf (now (s .entry)) p) seps r ⌝ }
 {
-    let a = p.from;
-    let z = p.to;
+    let a = p.from as usize;
+    let z = p.to as usize;
     let text = &s[a..z];
     let e = scan::first(text, b'=');
     if e == text.len() {
@@ -191,7 +191,7 @@ fn param_item(t: MessageType, s: &[u8], p: Span, seps: usize) -> Item
 
 // What the line at..end is, below seps separators, with the label that is expected at this turn tried first.
 pub fn line_of(t: MessageType, s: &[u8], at: usize, end: usize, seps: usize, turn: usize) -> Item
-    requires { ⌜ (at ≤ end) × (end ≤ length (now s)) ⌝ }
+    requires { ⌜ (at ≤ end) × (end ≤ length (now s)) × (end < 65536) ⌝ }
     ensures { λ r. ⌜ IsItem t (now (s .entry)) (trim (part at end (now (s .entry)))) seps r ⌝ }
 {
     if seps == 1 {
@@ -210,8 +210,8 @@ pub fn line_of(t: MessageType, s: &[u8], at: usize, end: usize, seps: usize, tur
         };
     }
     let p = lines::trim_span(s, at, end);
-    let a = p.from;
-    let z = p.to;
+    let a = p.from as usize;
+    let z = p.to as usize;
     if lines::is_separator(&s[a..z]) {
         return Item {
             separator: true,

@@ -1,4 +1,4 @@
-pub mod Columns
+pub mod Rooms
 pub mod Steps
 pub mod Records
 pub mod Stored

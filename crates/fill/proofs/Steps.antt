@@ -1,10 +1,10 @@
 -- The loop of `fill`: its state, and its laws. Assumes nothing.
 use Prim.Native.Nat.{ℕ, suc, _+_, _-_, _≤_, _<_}
-use Rattle.fill.proofs.Columns.{column-step}
 use Rattle.fill.specs.Filled.{filledOf}
 use Rattle.layout.proofs.Labels.{few, kinds-length, kind-at}
 use Rattle.layout.specs.Layouts.{kindsOf, kindAt, noKind, sizeOf}
 use Rattle.layout.specs.declared.Layout.{Layout}
+use Rattle.lines.proofs.Columns.{column-at, column-length}
 use Rattle.lines.specs.Places.{partOf, spanAt, columnIn, Placed}
 use Rattle.lines.specs.declared.Span.{Span}
 use Rattle.record.specs.Records.{Typed, joined, typed, cell, cellsOf}
@@ -15,9 +15,9 @@ use Rattle.value.specs.declared.Got.{Got}
 use Rattle.value.specs.declared.Got.the-variants.{Read, Bad}
 use Rattle.value.specs.declared.Value.{Value}
 use Rattle.value.specs.declared.Value.the-variants.{Blank}
-use lib.ListN.{length, drop, set, replicate, length-append, drop-of-length-le}
+use lib.ListN.{length, drop, set, replicate, length-append, length-map, drop-of-length-le}
 use lib.Seq.{drop-cons}
-use mathlib.Core.List.{List, [], _∷_, _++_, map, append-assoc}
+use mathlib.Core.List.{List, [], _∷_, _++_, map, append-nil, append-assoc, map-append}
 use mathlib.Core.Path.{_≡_, refl, sym, ap, _∙_}
 use native.Mathlib.Numerals.{add-one}
 use native.Mathlib.Omega.{arith}
@@ -40,24 +40,24 @@ prefixed-none (good vs) = refl
 
 -- ---- one more cell
 
-map-snoc : {A B : Type 0} (f : A → B) (l : List A) (x : A) → map f (l ++ x ∷ []) ≡ map f l ++ f x ∷ []
-map-snoc f [] x = refl
-map-snoc {B = B} f (y ∷ l) x = ap (λ (m : List B). f y ∷ m) (map-snoc f l x)
-
 set-next : {A : Type 0} (a : List A) (m : ℕ) (x y : A) → set (a ++ replicate (suc m) x) (length a) y ≡ (a ++ y ∷ []) ++ replicate m x
 set-next [] m x y = refl
 set-next {A} (z ∷ a) m x y = ap (λ (l : List A). z ∷ l) (set-next a m x y)
-
-length-map : {A B : Type 0} (f : A → B) (l : List A) → length (map f l) ≡ length l
-length-map f [] = refl
-length-map f (x ∷ l) = ap suc (length-map f l)
 
 cells-step : (done : List Value) (k : ℕ) (v : Value) → length done ≡ k → k < 26 → set (cellsOf done) k (cell v) ≡ cellsOf (done ++ v ∷ [])
 unfolding cellsOf
 cells-step done k v e h =
     let n : 26 - length done ≡ suc (26 - length (done ++ v ∷ [])) = omega (arith, length-append done (v ∷ [])) in
-    let l : k ≡ length (map cell done) = sym e ∙ sym (length-map cell done) in
-    rw (n, l, map-snoc cell done v) (set-next (map cell done) (26 - length (done ++ v ∷ [])) (cell Blank) (cell v))
+    let l : k ≡ length (map cell done) = sym e ∙ sym (length-map done cell) in
+    rw (n, l, map-append cell done (v ∷ [])) (set-next (map cell done) (26 - length (done ++ v ∷ [])) (cell Blank) (cell v))
+
+-- ---- the next text of the column
+
+column-step : (n : ℕ) (file : List ℕ) (spans : List Span) (k : ℕ) → k < n → n < length spans
+    → drop k (columnIn n file spans) ≡ partOf file (spanAt spans (k + 1)) ∷ drop (k + 1) (columnIn n file spans)
+column-step n file spans k h j =
+    let e = column-at n (suc k) file spans (omega arith) h j in
+    rw add-one (drop-cons (columnIn n file spans) k [] (omega (arith, column-length n file spans j)) ∙ ap (λ (t : List ℕ). t ∷ drop (suc k) (columnIn n file spans)) e)
 
 -- ---- the first k fields are read: their values stand in the cells, and what is to come is the column from k on
 
@@ -103,10 +103,6 @@ module _ (l : Layout) (file : List ℕ) (spans : List Span) (k : ℕ) (cells : L
   pub stop : (g : Got) → g ≡ valueOf (kindAt l (k + 1)) text → g ≡ Bad → record { bad = k + 1; cells = replicate 26 (cell Blank) } ≡ filledOf (typed 1 (kindsOf l) col)
   unfolding filledOf prefixed joined
   stop g e r = rw (here, sym e ∙ r)
-
-append-nil : {A : Type 0} (l : List A) → l ++ [] ≡ l
-append-nil [] = refl
-append-nil {A} (x ∷ l) = ap (λ (m : List A). x ∷ m) (append-nil l)
 
 pub finish : (l : Layout) (col : List (List ℕ)) (k : ℕ) (cells : List Cell) → Sofar l col k cells → sizeOf l ≤ k → record { bad = 0; cells = cells } ≡ filledOf (typed 1 (kindsOf l) col)
 unfolding filledOf prefixed typed

@@ -28,9 +28,9 @@ fn value_at(l: Layout, k: usize, file: &[u8], p: Span) -> Got
     requires { ⌜ (p .from ≤ p .to) × (p .to ≤ length (now file)) ⌝ }
     ensures { λ r. ⌜ r ≡ valueOf (kindAt l k) (partOf (now (file .entry)) p) ⌝ }
 {
-    let from = p.from;
-    let to = p.to;
-    value::read::read(layout::kind::of_field(l, k), &file[from..to])
+    let from = p.from as usize;
+    let to = p.to as usize;
+    value::read::read(kind::of_field(l, k), &file[from..to])
 }
 
 // Every field of the layout, read from its place in the file by its kind.
@@ -64,8 +64,8 @@ fn text_at<'a>(l: Layout, file: &'a [u8], spans: [Span; 27], k: usize) -> &'a [u
         return &file[0..0];
     }
     let p = spans[k];
-    let from = p.from;
-    let to = p.to;
+    let from = p.from as usize;
+    let to = p.to as usize;
     &file[from..to]
 }
 

@@ -2,7 +2,7 @@
 use Prim.Native.Nat.{ℕ, _+_, _*_, _≤_, _<_}
 use Rattle.gateway.specs.Entry.{lengthOr11, codeOf, outOf}
 use Rattle.reader.specs.declared.Answer.{Answer}
-use Rattle.report.specs.Report.{sixLines}
+use Rattle.brief.specs.Brief.{sixLines}
 use Rattle.text.specs.Puts.{bufferOf}
 use borrow.Author.Tests.{eq-eqb, ne-eqb, le-leb, lt-leb}
 use lib.ListN.{length, take, drop, replicate, length-replicate}

@@ -1,11 +1,11 @@
 -- Every detail fits 16 bits, and the six lines are short: so an answer is never mistaken for another.
 use Prim.Native.Nat.{ℕ, _+_, _≤_, _<_}
-use Rattle.reader.proofs.Small.{detail-small, number-small}
+use Rattle.reading.proofs.Small.{detail-small, number-small}
 use Rattle.reader.specs.Reader.{readOf}
 use Rattle.reader.specs.declared.Answer.{Answer}
 use Rattle.record.specs.declared.Record.{Record}
-use Rattle.report.proofs.Sizes.{six-length}
-use Rattle.report.specs.Report.{sixLines}
+use Rattle.brief.proofs.Sizes.{six-length}
+use Rattle.brief.specs.Brief.{sixLines}
 use lib.ListN.{length}
 use mathlib.Core.List.{List}
 use mathlib.Core.Path.{_≡_, ap}

@@ -2,7 +2,7 @@
 -- detail; its refusals are the reader's, then 11, no room for the output, with its length. A refusal changes no byte of the output.
 use Prim.Native.Nat.{ℕ, _+_, _*_}
 use Rattle.reader.specs.declared.Answer.{Answer}
-use Rattle.report.specs.Report.{sixLines}
+use Rattle.brief.specs.Brief.{sixLines}
 use Rattle.text.specs.Puts.{bufferOf}
 use lib.Dec.{eqb, leb}
 use lib.ListN.{length}

@@ -1,15 +1,11 @@
--- The arms of the tables: the entry at a number, none past the last, the two parts of the market layout, and what goes by the layout.
+-- The arms of the tables: the entry at a number, what goes by the layout, and the two parts of the market layout.
 -- Assumes nothing.
 use Prim.Native.Nat.{ℕ, suc, _+_, _-_, _≤_, _<_}
-use Rattle.layout.specs.Banners.{bannerOf}
 use Rattle.layout.specs.Fields.{Field, command, technical, market}
-use Rattle.layout.specs.Layouts.{labelsOf, kindsOf, labelAt, kindAt, labelOf, noKind}
 use Rattle.layout.specs.declared.Layout.{Layout}
-use Rattle.text.proofs.Tables.{Missed, no-entry}
-use Rattle.text.specs.Puts.{limit}
-use lib.ListN.{length, getD, List·getD-append}
-use lib.Seq.{sets, getD-append-add}
-use mathlib.Core.List.{List, [], _∷_, map}
+use lib.ListN.{getD, List·getD-append}
+use lib.Seq.{getD-append-add}
+use mathlib.Core.List.{_∷_, map}
 use mathlib.Core.Path.{_≡_, sym, ap, _∙_}
 use native.Mathlib.Omega.{arith}
 
@@ -20,16 +16,6 @@ entry f e = ap f (sym e)
 
 pub of-layout : {A : Type 0} (f : Layout → A) {l m : Layout} → l ≡ m → f m ≡ f l
 of-layout f e = ap f (sym e)
-
--- ---- the arm `_`
-
-pub no-label-at : (l : Layout) (k : ℕ) → Missed 1 (length (labelsOf l)) k → labelOf [] ≡ labelOf (labelAt l k)
-unfolding labelAt
-no-label-at l k m = ap labelOf (no-entry [] (labelsOf l) k m)
-
-pub no-kind-at : (l : Layout) (k : ℕ) → Missed 1 (length (kindsOf l)) k → noKind ≡ kindAt l k
-unfolding kindAt
-no-kind-at l k m = no-entry noKind (kindsOf l) k m
 
 -- ---- the market layout, of which the two parts are tables from 0
 
@@ -45,12 +31,3 @@ module _ {A : Type 0} (f : Field → A) (d : A) where
   technical-part k h =
       let e : suc (12 + (k - 13)) ≡ k = omega arith in
       sym (getD-append-add (map f command) (map f technical) (k - 13) d) ∙ ap (λ (n : ℕ). getD (d ∷ map f market) n d) e
-
--- ---- a banner, by its layout
-
-pub banner-room : (at : ℕ) {l m : Layout} → l ≡ m → at + length (bannerOf l) < limit → at + length (bannerOf m) < limit
-banner-room at e h = rw (sym e) h
-
-pub banner-put : (buffer : List ℕ) (at r : ℕ) (after : List ℕ) {l m : Layout} → l ≡ m → (r ≡ at + length (bannerOf m)) × (after ≡ sets buffer at (bannerOf m))
-    → (r ≡ at + length (bannerOf l)) × (after ≡ sets buffer at (bannerOf l))
-banner-put buffer at r after e p = rw e p

@@ -1,16 +1,15 @@
 -- The layouts by name: the type of each, its fields, and what stands at a field's number. Document 01, "Lines of a message".
-use Prim.Native.Nat.{ℕ, _-_}
+use Prim.Native.Nat.{ℕ}
 use Rattle.layout.specs.Fields.{Field, market, mfrr, rc, mg, eb, lb, sr, vq, ri, qr}
 use Rattle.layout.specs.declared.Layout.{Layout}
 use Rattle.layout.specs.declared.Layout.the-variants.{Market, Mfrr, Revocation, Generic, Exclusion, Limitation, Secondary, VoltVar, Rejection, Reserve}
-use Rattle.layout.specs.declared.label.Label.{Label}
 use Rattle.name.specs.declared.MessageType.{MessageType}
 use Rattle.name.specs.declared.MessageType.the-variants.{Cb, Rc, Mg, Eb, Lb, Sr, Vq, Ri, Qr}
 use Rattle.value.specs.declared.Kind.{Kind}
 use Rattle.value.specs.declared.Shape.the-variants.{IsNote}
-use lib.ListN.{length, getD, replicate}
+use lib.ListN.{length, getD}
 use mathlib.Core.Bool.{true}
-use mathlib.Core.List.{List, [], _∷_, _++_, map}
+use mathlib.Core.List.{List, [], _∷_, map}
 
 unfoldable pub fieldsOf : Layout → List Field
 fieldsOf Market = market
@@ -67,7 +66,3 @@ noKind = record { shape = IsNote; blank = true }
 
 unfoldable pub kindAt : Layout → ℕ → Kind
 kindAt l k = getD (noKind ∷ kindsOf l) k noKind
-
--- a label in its room of 36 bytes, filled up with blanks
-unfoldable pub labelOf : List ℕ → Label
-labelOf t = record { size = length t; text = t ++ replicate (36 - length t) 32 }

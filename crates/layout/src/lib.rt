@@ -1,7 +1,5 @@
-// The ten layouts of messages: fields, labels, kinds, row orders and banners, as tables by match.
-pub mod banner;
-pub mod kind;
-pub mod label;
+// The ten layouts of messages. Its specs/ is the one table of fields, labels, kinds, rows and banners; the crates label, kind and banner tie the
+// code's own tables to it, and this one its sizes and the order of its rows.
 pub mod row;
 
 use name::MessageType;

@@ -1,16 +1,16 @@
 // Lines of a file by their places: where a line ends, where its text stands without blanks, and whether it is a separator.
 use text::scan;
-ghost use Prim.Native.Nat.{_≤_};
+ghost use Prim.Native.Nat.{_≤_, _<_};
 ghost use Rattle.lines.specs.Lines.{isSep};
 ghost use Rattle.lines.specs.Places.{Holds, plainRun, breakOf};
 ghost use Rattle.text.specs.Bytes.{part, trim};
 ghost use lib.ListN.{length, drop};
 ghost use mathlib.Core.Path.{_≡_};
 
-// A part of a file, by its ends.
+// A part of a file, by its ends. A file has at most 8,192 bytes, so 16 bits hold an end, and a layout's places are small enough to go by value.
 pub struct Span {
-    pub from: usize,
-    pub to: usize,
+    pub from: u16,
+    pub to: u16,
 }
 
 // How many bytes end a line, or that what stands there is not allowed.
@@ -56,12 +56,15 @@ pub fn break_at(s: &[u8], at: usize) -> Break
 
 // The place of the part at..end without the blanks at its ends.
 pub fn trim_span(s: &[u8], at: usize, end: usize) -> Span
-    requires { ⌜ (at ≤ end) × (end ≤ length (now s)) ⌝ }
+    requires { ⌜ (at ≤ end) × (end ≤ length (now s)) × (end < 65536) ⌝ }
     ensures { λ r. ⌜ Holds (now (s .entry)) r (trim (part at end (now (s .entry)))) ⌝ }
 {
     let from = at + scan::lead(&s[at..end]);
     let to = from + scan::body(&s[from..end]);
-    Span { from, to }
+    Span {
+        from: from as u16,
+        to: to as u16,
+    }
 }
 
 // A separator: five or more '+' and nothing else.

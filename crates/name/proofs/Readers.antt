@@ -1,7 +1,9 @@
 -- The ways through the readers of an identifier and of a sequence. Assumes nothing.
 use Prim.Native.Nat.{ℕ, _-_, _≤_, _<_}
 use Rattle.name.specs.Names.{prefixOf, exactly, identifierOf, sequenceOf}
+use Rattle.name.specs.Types.{codeOf}
 use Rattle.name.specs.declared.MessageType.{MessageType}
+use Rattle.name.specs.declared.MessageType.the-variants.{Cb, Rc, Mg, Eb, Lb, Sr, Vq, Ri, Qr}
 use Rattle.text.proofs.Cuts.{tail}
 use Rattle.text.specs.Bytes.{same}
 use Rattle.text.specs.Digits.{digitsOf}
@@ -10,11 +12,26 @@ use Rattle.text.specs.declared.digits.Digits.the-variants.{Not}
 use borrow.Author.Tests.{eq-eqb, ne-eqb, lt-ltb, le-ltb}
 use lib.ListN.{length, getD, take, drop, length-drop}
 use mathlib.Core.Bool.{Bool, true, false, cond, and-false}
-use mathlib.Core.List.{List}
-use mathlib.Core.Path.{_≡_, refl, sym}
+use mathlib.Core.List.{List, [], _∷_}
+use mathlib.Core.Path.{_≡_, refl, sym, ap, _∙_}
 use native.Mathlib.Omega.{arith}
 
 -- ---- identifier
+
+dashed : (t : MessageType) → getD (codeOf t) 0 0 ∷ getD (codeOf t) 1 0 ∷ 45 ∷ [] ≡ prefixOf t
+dashed Cb = refl
+dashed Rc = refl
+dashed Mg = refl
+dashed Eb = refl
+dashed Lb = refl
+dashed Sr = refl
+dashed Vq = refl
+dashed Ri = refl
+dashed Qr = refl
+
+-- a type's code with its '-' (45)
+pub with-dash : (t : MessageType) (c : List ℕ) → c ≡ codeOf t → getD c 0 0 ∷ getD c 1 0 ∷ 45 ∷ [] ≡ prefixOf t
+with-dash t c e = ap (λ (x : List ℕ). getD x 0 0 ∷ getD x 1 0 ∷ 45 ∷ []) e ∙ dashed t
 
 cond-same : {A : Type 0} (t : Bool) (x : A) → x ≡ cond t x x
 cond-same true x = refl

@@ -14,17 +14,8 @@ ghost use mathlib.Core.Path.{_≡_};
 fn prefix(t: MessageType) -> [u8; 3]
     ensures { λ r. ⌜ r ≡ prefixOf t ⌝ }
 {
-    match t {
-        MessageType::Cb => *b"CB-",
-        MessageType::Rc => *b"RC-",
-        MessageType::Mg => *b"MG-",
-        MessageType::Eb => *b"EB-",
-        MessageType::Lb => *b"LB-",
-        MessageType::Sr => *b"SR-",
-        MessageType::Vq => *b"VQ-",
-        MessageType::Ri => *b"RI-",
-        MessageType::Qr => *b"QR-",
-    }
+    let code = crate::code(t);
+    [code[0], code[1], b'-']
 }
 
 pub fn read(t: MessageType, s: &[u8]) -> Digits

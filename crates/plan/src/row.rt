@@ -6,7 +6,6 @@ use name::unit;
 use text::digits::Digits;
 use text::scan;
 ghost use Prim.Native.Nat.{_≤_};
-ghost use Rattle.name.specs.Types.{codeOf};
 ghost use Rattle.name.specs.declared.MessageType.the-variants.{Cb};
 ghost use Rattle.plan.specs.Kept.{above, given, typeReadOf, rowAtOf};
 ghost use Rattle.plan.specs.Rows.{isAt, types, typeFrom, typeAt, unitAt, rowOf};
@@ -82,22 +81,6 @@ fn nth_type(k: usize) -> MessageType
     }
 }
 
-fn code(t: MessageType) -> [u8; 2]
-    ensures { λ r. ⌜ r ≡ codeOf t ⌝ }
-{
-    match t {
-        MessageType::Cb => *b"CB",
-        MessageType::Rc => *b"RC",
-        MessageType::Mg => *b"MG",
-        MessageType::Eb => *b"EB",
-        MessageType::Lb => *b"LB",
-        MessageType::Sr => *b"SR",
-        MessageType::Vq => *b"VQ",
-        MessageType::Ri => *b"RI",
-        MessageType::Qr => *b"QR",
-    }
-}
-
 // The type whose code this is.
 fn type_of(s: &[u8]) -> TypeRead
     ensures { λ r. ⌜ r ≡ typeReadOf (typeFrom types (now (s .entry))) ⌝ }
@@ -105,7 +88,7 @@ fn type_of(s: &[u8]) -> TypeRead
     let mut k = 0;
     while k < 9 {
         let t = nth_type(k);
-        let c = code(t);
+        let c = name::code(t);
         if scan::same(&c, s) {
             return TypeRead::Is(t);
         }

@@ -16,10 +16,10 @@ use Rattle.reader.proofs.Firsts.NoneHolds.{none}
 use Rattle.reader.specs.Messages.{valuesOf, isBad, badOf, goodOf, bodyOf}
 use Rattle.reader.specs.Reader.{valued}
 use Rattle.reader.specs.Refusals.{refused, accepted, answer}
-use Rattle.reader.specs.declared.Answer.{Answer}
+use Rattle.reader.specs.State.{stopped, finished}
+use Rattle.reader.specs.declared.Verdict.{Verdict}
 use Rattle.record.specs.Records.{Typed, typed, cellsOf}
 use Rattle.record.specs.Records.Typed.{bad, good}
-use Rattle.record.specs.declared.Record.{Record}
 use Rattle.rules.specs.Rules.{rulesOf, lowest, brokenIn}
 use Rattle.text.specs.Bytes.{same}
 use borrow.Author.Tests.{lt-ltb, le-ltb}
@@ -77,11 +77,11 @@ module _ (l : Layout) (file : List ℕ) (spans : List Span) (p : Placed (sizeOf 
 -- ---- the ways out
 
 module _ (l : Layout) (unit row : List ℕ) (col : List (List ℕ)) (f : Filled) (e : f ≡ filledOf (valuesOf l col)) where
-  abbrev Judged : Answer → Type 0
-  Judged a = a ≡ answer (valued l unit row col) (bodyOf l col)
+  abbrev Judged : Verdict → Type 0
+  Judged v = finished l col v ≡ answer (valued l unit row col) (bodyOf l col)
 
-  pub bad-value : (f .bad ≡ 0 → ⊥) → Judged (refused 7 (f .bad))
-  unfolding valued
+  pub bad-value : (f .bad ≡ 0 → ⊥) → Judged (stopped 7 (f .bad))
+  unfolding valued finished
   bad-value n =
       let b = is-bad l col f e n in
       ap (refused 7) (b .1) ∙ sym (answer-yes 7 _ _ _ _ (b .0))
@@ -93,8 +93,8 @@ module _ (l : Layout) (unit row : List ℕ) (col : List (List ℕ)) (f : Filled)
     broken-is : k ≡ brokenIn (bodyOf l col)
     broken-is = b ∙ is-broken l col f e n gs g
 
-    pub broken-rule : (k ≡ 0 → ⊥) → Judged (refused 8 k)
-    unfolding valued
+    pub broken-rule : (k ≡ 0 → ⊥) → Judged (stopped 8 k)
+    unfolding valued finished
     broken-rule h =
         let q : 0 < brokenIn (bodyOf l col) = omega (arith, broken-is, h) in
         ap (refused 8) broken-is ∙ sym (answer-no 7 _ _ _ _ values ∙ answer-yes 8 _ _ _ _ (lt-ltb 0 (brokenIn (bodyOf l col)) q))
@@ -103,18 +103,18 @@ module _ (l : Layout) (unit row : List ℕ) (col : List (List ℕ)) (f : Filled)
       unbroken : ltb 0 (brokenIn (bodyOf l col)) ≡ false
       unbroken = let h : brokenIn (bodyOf l col) ≤ 0 = omega (arith, broken-is, zero-k) in le-ltb 0 (brokenIn (bodyOf l col)) h
 
-      pub other-unit : same unit (textAt col 2) ≡ false → Judged (refused 9 0)
-      unfolding valued
+      pub other-unit : same unit (textAt col 2) ≡ false → Judged (stopped 9 0)
+      unfolding valued finished
       other-unit u = sym (answer-no 7 _ _ _ _ values ∙ answer-no 8 _ _ _ _ unbroken ∙ answer-yes 9 _ _ _ _ (ap not u))
 
       module _ (units : same unit (textAt col 2) ≡ true) where
-        pub other-row : same row (rowOf l col) ≡ false → Judged (refused 10 0)
-        unfolding valued
+        pub other-row : same row (rowOf l col) ≡ false → Judged (stopped 10 0)
+        unfolding valued finished
         other-row w =
             sym (answer-no 7 _ _ _ _ values ∙ answer-no 8 _ _ _ _ unbroken ∙ answer-no 9 _ _ _ _ (ap not units) ∙ answer-yes 10 _ _ _ _ (ap not w))
 
-        pub all-well : same row (rowOf l col) ≡ true → (r : Record) → r ≡ recordWith l col (f .cells) gs → Judged (accepted r)
-        unfolding valued
-        all-well w r h =
-            ap accepted (h ∙ is-body l col f e n gs g)
+        pub all-well : same row (rowOf l col) ≡ true → Judged (record { number = 0; detail = 0; cells = f .cells; gradients = gs })
+        unfolding valued finished
+        all-well w =
+            ap accepted (is-body l col f e n gs g)
             ∙ sym (answer-no 7 _ _ _ _ values ∙ answer-no 8 _ _ _ _ unbroken ∙ answer-no 9 _ _ _ _ (ap not units) ∙ answer-no 10 _ _ _ _ (ap not w) ∙ none-given _ none)

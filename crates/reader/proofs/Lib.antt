@@ -1,10 +1,5 @@
 pub mod Firsts
 pub mod Judging
+pub mod Concluding
 pub mod Taking
 pub mod Reading
-pub mod Alike
-pub mod Agreed
-pub mod Small
-pub mod Example
-pub mod Held
-pub mod Validity

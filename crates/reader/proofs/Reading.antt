@@ -1,13 +1,13 @@
 -- Refusals 2 to 4, 13 and 1 as the code meets them.
 use Prim.Native.Nat.{ℕ, _≤_, _<_}
 use Rattle.entry.specs.Items.{firstLabels, secondLabels}
-use Rattle.layout.specs.Layouts.{labelsOf, layoutOf}
+use Rattle.layout.specs.Layouts.{labelsOf, sizeOf, layoutOf}
 use Rattle.layout.specs.declared.Layout.{Layout}
 use Rattle.layout.specs.declared.Layout.the-variants.{Mfrr}
 use Rattle.lines.proofs.Steps.{allowed-length}
 use Rattle.lines.specs.Entries.{entries, column}
 use Rattle.lines.specs.Lines.{inside, texts, framed, allowedUpto}
-use Rattle.lines.specs.Places.{Holds, partOf}
+use Rattle.lines.specs.Places.{Holds, partOf, columnIn}
 use Rattle.name.specs.declared.MessageType.{MessageType}
 use Rattle.plan.specs.Rows.{Row, Plan, isAt, lookUp, soughtOf}
 use Rattle.plan.specs.Rows.Plan.{rows, wrong}
@@ -17,8 +17,9 @@ use Rattle.reader.proofs.Taking.{is-mfrr, not-mfrr}
 use Rattle.reader.specs.Messages.{given, rowIn, layoutIn, entriesIn, bodyOf}
 use Rattle.reader.specs.Reader.{labelled, reading, bodyIn, messageOf, planned, answerAt, unitIn}
 use Rattle.reader.specs.Refusals.{refused, answer}
-use Rattle.reader.specs.State.{Ready, Takes, isMfrr}
+use Rattle.reader.specs.State.{finished, Ready, Takes, isMfrr}
 use Rattle.reader.specs.declared.Answer.{Answer}
+use Rattle.reader.specs.declared.Verdict.{Verdict}
 use Rattle.text.proofs.Tests.{by-test}
 use Rattle.text.specs.Bytes.{within}
 use Rattle.walk.proofs.Told.{framed-by, row-by, first-by, second-by}
@@ -119,19 +120,21 @@ module _ (t : MessageType) (unit file : List ℕ) where
           pub mfrr-ready : isMfrr t (r .second .seen) ≡ true → Ready Mfrr file (r .frame .row) (r .second) (r .others)
           mfrr-ready e = record { ordered = row-holds .ordered; inside = row-holds .inside; es = entries (labelsOf Mfrr) (given file); fields = mfrr-fields e }
 
-          pub mfrr-read : isMfrr t (r .second .seen) ≡ true → (a : Answer)
-              → Takes Mfrr unit file (r .frame .row) (r .second) (r .others) a → Read a
-          unfolding Takes
-          mfrr-read e a h = laid Mfrr (is-mfrr file (r .second) (r .others) t seconds e .1) a (h (entries (labelsOf Mfrr) (given file)) (mfrr-fields e))
+          pub mfrr-read : isMfrr t (r .second .seen) ≡ true → (v : Verdict)
+              → Takes Mfrr unit file (r .frame .row) (r .second) (r .others) v → Read (finished Mfrr (columnIn (sizeOf Mfrr) file (r .others)) v)
+          mfrr-read e v h = laid Mfrr (is-mfrr file (r .second) (r .others) t seconds e .1) _ (h .answers (entries (labelsOf Mfrr) (given file)) (mfrr-fields e))
 
           -- the type's layout
-          pub first-ready : Ready (layoutOf t) file (r .frame .row) (r .first) (r .places)
-          first-ready = record { ordered = row-holds .ordered; inside = row-holds .inside; es = entries (firstLabels t) (given file); fields = firsts }
+          module _ (l : Layout) (is-first : l ≡ layoutOf t) where
+            first-fields : Fields file (labelsOf l) (r .first) (r .places) (entries (labelsOf l) (given file))
+            first-fields = subst (λ (k : Layout). Fields file (labelsOf k) (r .first) (r .places) (entries (labelsOf k) (given file))) (sym is-first) firsts
 
-          pub first-read : isMfrr t (r .second .seen) ≡ false → (a : Answer)
-              → Takes (layoutOf t) unit file (r .frame .row) (r .first) (r .places) a → Read a
-          unfolding Takes
-          first-read e a h = laid (layoutOf t) (not-mfrr file (r .second) (r .others) t seconds e) a (h (entries (firstLabels t) (given file)) firsts)
+            pub first-ready : Ready l file (r .frame .row) (r .first) (r .places)
+            first-ready = record { ordered = row-holds .ordered; inside = row-holds .inside; es = entries (labelsOf l) (given file); fields = first-fields }
+
+            pub first-read : isMfrr t (r .second .seen) ≡ false → (v : Verdict)
+                → Takes l unit file (r .frame .row) (r .first) (r .places) v → Read (finished l (columnIn (sizeOf l) file (r .places)) v)
+            first-read e v h = laid l (not-mfrr file (r .second) (r .others) t seconds e ∙ sym is-first) _ (h .answers (entries (labelsOf l) (given file)) first-fields)
 
 -- ---- refusals 13 and 1: what the plan gave
 

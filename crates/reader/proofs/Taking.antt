@@ -17,8 +17,8 @@ use Rattle.reader.proofs.Firsts.{answer-yes, answer-no}
 use Rattle.reader.specs.Messages.{given, layoutIn, isKindOfCommand, bodyOf}
 use Rattle.reader.specs.Reader.{valued, labelled, isThere, numberOr}
 use Rattle.reader.specs.Refusals.{refused, answer}
-use Rattle.reader.specs.State.{isMfrr}
-use Rattle.reader.specs.declared.Answer.{Answer}
+use Rattle.reader.specs.State.{stopped, finished, isMfrr}
+use Rattle.reader.specs.declared.Verdict.{Verdict}
 use Rattle.text.proofs.Cuts.{same-true}
 use Rattle.text.proofs.Tests.{by-test}
 use Rattle.text.specs.Bytes.{bytes, same, any}
@@ -44,14 +44,14 @@ pub seen-26 : (l : Layout) (n : ℕ) → n ≤ sizeOf l → n ≤ 26
 seen-26 l n h = omega (arith, h, few l)
 
 module _ (l : Layout) (unit row file : List ℕ) (m : Marks) (spans : List Span) (es : List Entry) (f : Fields file (labelsOf l) m spans es) where
-  abbrev Taken : Answer → Type 0
-  Taken a = a ≡ answer (labelled l unit row es) (bodyOf l (column 1 (labelsOf l) es))
+  abbrev Taken : Verdict → Type 0
+  Taken v = finished l (columnIn (sizeOf l) file spans) v ≡ answer (labelled l unit row es) (bodyOf l (column 1 (labelsOf l) es))
 
   pub seen-few : ones (m .seen) ≤ sizeOf l
   seen-few = omega (arith, seen-le file (labelsOf l) m spans es f, labels-length l)
 
-  pub refused-5 : (m .again ≡ 0 → ⊥) → Taken (refused 5 (m .again))
-  unfolding labelled
+  pub refused-5 : (m .again ≡ 0 → ⊥) → Taken (stopped 5 (m .again))
+  unfolding labelled finished
   refused-5 n =
       let e = repeat-some file (labelsOf l) m spans es f n in
       ap (λ (o : Option ℕ). refused 5 (numberOr o)) (sym e) ∙ sym (answer-yes 5 _ _ _ _ (ap isThere e))
@@ -67,8 +67,8 @@ module _ (l : Layout) (unit row file : List ℕ) (m : Marks) (spans : List Span)
       left : size - ones (m .seen) ≡ missing 1 (labelsOf l) es
       left = ap (λ (n : ℕ). n - ones (m .seen)) is-size ∙ missing-is
 
-      pub refused-6 : (size - ones (m .seen) ≡ 0 → ⊥) → Taken (refused 6 (size - ones (m .seen)))
-      unfolding labelled
+      pub refused-6 : (size - ones (m .seen) ≡ 0 → ⊥) → Taken (stopped 6 (size - ones (m .seen)))
+      unfolding labelled finished
       refused-6 n =
           let h : 0 < missing 1 (labelsOf l) es = omega (arith, left, n) in
           ap (refused 6) left ∙ sym (answer-no 5 _ _ _ _ no-repeat ∙ answer-yes 6 _ _ _ _ (lt-ltb 0 (missing 1 (labelsOf l) es) h))
@@ -85,9 +85,11 @@ module _ (l : Layout) (unit row file : List ℕ) (m : Marks) (spans : List Span)
             ap (λ (n : ℕ). columnIn n file spans) (sym (labels-length l))
             ∙ column-by file (labelsOf l) m spans es f none-missing (omega (arith, few l, labels-length l))
 
-        pub judged-on : (a : Answer) → a ≡ answer (valued l unit row (columnIn (sizeOf l) file spans)) (bodyOf l (columnIn (sizeOf l) file spans)) → Taken a
+        pub judged-on : (v : Verdict)
+            → finished l (columnIn (sizeOf l) file spans) v ≡ answer (valued l unit row (columnIn (sizeOf l) file spans)) (bodyOf l (columnIn (sizeOf l) file spans))
+            → Taken v
         unfolding labelled
-        judged-on a e =
+        judged-on v e =
             let h : missing 1 (labelsOf l) es ≤ 0 = omega (arith, none-missing) in
             e ∙ ap (λ (c : List (List ℕ)). answer (valued l unit row c) (bodyOf l c)) column-is
             ∙ sym (answer-no 5 _ _ _ _ no-repeat ∙ answer-no 6 _ _ _ _ (le-ltb 0 (missing 1 (labelsOf l) es) h))

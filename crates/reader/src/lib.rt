@@ -1,7 +1,9 @@
 // The reader: address, plan and file give the typed record, or one refusal with its detail and no record.
 use layout::Layout;
 use lines::Span;
+use list::Triple;
 use name::MessageType;
+use record::Cell;
 use record::Record;
 use text::scan;
 use walk::Marks;
@@ -11,7 +13,7 @@ ghost use Rattle.lines.specs.Places.{partOf, Placed, columnIn};
 ghost use Rattle.reader.specs.Messages.{bodyOf};
 ghost use Rattle.reader.specs.Reader.{valued, messageOf, readOf};
 ghost use Rattle.reader.specs.Refusals.{refused, accepted, answer};
-ghost use Rattle.reader.specs.State.{Ready, Takes, isMfrr};
+ghost use Rattle.reader.specs.State.{stopped, finished, Ready, Takes, isMfrr};
 ghost use Rattle.text.specs.Bytes.{same};
 ghost use lib.ListN.{length};
 ghost use mathlib.Core.Path.{_≡_};
@@ -43,53 +45,91 @@ fn accept(body: Record) -> Answer
     }
 }
 
+// What is judged of a layout's values: a refusal's number and detail, or the number 0 with the cells and triples of the record. It is apart from the
+// answer so that the judging's stack is free again when the record is built of it.
+pub struct Verdict {
+    pub number: u8,
+    pub detail: usize,
+    pub cells: [Cell; 26],
+    pub gradients: [Triple; 16],
+}
+
+fn stop(number: u8, detail: usize) -> Verdict
+    ensures { λ r. ⌜ r ≡ stopped number detail ⌝ }
+{
+    Verdict {
+        number,
+        detail,
+        cells: [record::EMPTY; 26],
+        gradients: [record::NO_TRIPLE; 16],
+    }
+}
+
 // Whether a text is the one at a place of the file.
 fn is_at(text: &[u8], file: &[u8], p: Span) -> bool
     requires { ⌜ (p .from ≤ p .to) × (p .to ≤ length (now file)) ⌝ }
     ensures { λ r. ⌜ r ≡ same (now (text .entry)) (partOf (now (file .entry)) p) ⌝ }
 {
-    let from = p.from;
-    let to = p.to;
+    let from = p.from as usize;
+    let to = p.to as usize;
     scan::same(text, &file[from..to])
 }
 
 // Refusals 7 to 10, on the places of the layout's values.
-fn judge(l: Layout, unit: &[u8], file: &[u8], row: Span, spans: [Span; 27]) -> Answer
+fn judge(l: Layout, unit: &[u8], file: &[u8], row: Span, spans: [Span; 27]) -> Verdict
     requires { ⌜ (row .from ≤ row .to) × (row .to ≤ length (now file)) × Placed (sizeOf l) (now file) spans ⌝ }
-    ensures { λ r. ⌜ r ≡ answer (valued l (now (unit .entry)) (partOf (now (file .entry)) row) (columnIn (sizeOf l) (now (file .entry)) spans)) (bodyOf l (columnIn (sizeOf l) (now (file .entry)) spans)) ⌝ }
+    ensures { λ r. ⌜ finished l (columnIn (sizeOf l) (now (file .entry)) spans) r ≡ answer (valued l (now (unit .entry)) (partOf (now (file .entry)) row) (columnIn (sizeOf l) (now (file .entry)) spans)) (bodyOf l (columnIn (sizeOf l) (now (file .entry)) spans)) ⌝ }
 {
     let filled = fill::fill(l, file, spans);
     if filled.bad != 0 {
-        return refuse(7, filled.bad);
+        return stop(7, filled.bad);
     }
     let cells = filled.cells;
     let gradients = fill::triples_of(l, file, spans);
     let broken = rules::lowest_of(l, cells, gradients);
     if broken != 0 {
-        return refuse(8, broken as usize);
+        return stop(8, broken as usize);
     }
     if !is_at(unit, file, spans[2]) {
-        return refuse(9, 0);
+        return stop(9, 0);
     }
     if !row::agrees(l, file, row, spans) {
-        return refuse(10, 0);
+        return stop(10, 0);
     }
-    accept(fill::record_of(l, file, spans, cells, gradients))
+    Verdict {
+        number: 0,
+        detail: 0,
+        cells,
+        gradients,
+    }
 }
 
 // Refusals 5 and 6: a label twice, and how many labels have no line, which is the layout's count of fields less the count of bits.
-fn take(l: Layout, unit: &[u8], file: &[u8], row: Span, m: Marks, spans: [Span; 27]) -> Answer
+fn take(l: Layout, unit: &[u8], file: &[u8], row: Span, m: Marks, spans: [Span; 27]) -> Verdict
     requires { ⌜ Ready l (now file) row m spans ⌝ }
     ensures { λ r. ⌜ Takes l (now (unit .entry)) (now (file .entry)) row m spans r ⌝ }
 {
     if m.again != 0 {
-        return refuse(5, m.again);
+        return stop(5, m.again);
     }
     let missing = layout::size(l) - u32::count_ones(m.seen) as usize;
     if missing != 0 {
-        return refuse(6, missing);
+        return stop(6, missing);
     }
     judge(l, unit, file, row, spans)
+}
+
+// The answer of a verdict: its refusal, or the record with the texts kept in their rooms.
+fn conclude(l: Layout, file: &[u8], spans: [Span; 27], v: Verdict) -> Answer
+    requires { ⌜ (v .number ≡ 0 → Placed (sizeOf l) (now file) spans) ⌝ }
+    ensures { λ r. ⌜ r ≡ finished l (columnIn (sizeOf l) (now (file .entry)) spans) v ⌝ }
+{
+    if v.number != 0 {
+        return refuse(v.number, v.detail);
+    }
+    let cells = v.cells;
+    let gradients = v.gradients;
+    accept(fill::record_of(l, file, spans, cells, gradients))
 }
 
 // A CB file is the mFRR layout when `Tipo Comando`, its field 8, has a line.
@@ -134,11 +174,14 @@ pub fn read_message(t: MessageType, unit: &[u8], file: &[u8]) -> Answer
     let second = found.second;
     if is_mfrr(t, second) {
         let others = found.others;
-        return take(Layout::Mfrr, unit, file, row, second, others);
+        let verdict = take(Layout::Mfrr, unit, file, row, second, others);
+        return conclude(Layout::Mfrr, file, others, verdict);
     }
     let first = found.first;
     let places = found.places;
-    take(layout::of_type(t), unit, file, row, first, places)
+    let l = layout::of_type(t);
+    let verdict = take(l, unit, file, row, first, places);
+    conclude(l, file, places, verdict)
 }
 
 // A file read at an address of a plan.

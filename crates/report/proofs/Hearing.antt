@@ -4,7 +4,7 @@ use Rattle.plan.specs.Keyed.{below}
 use Rattle.plan.specs.Rows.{caAt, ioaAt}
 use Rattle.reader.specs.Reader.{readOf}
 use Rattle.reader.specs.declared.Answer.{Answer}
-use Rattle.report.proofs.Puts.{Was}
+use Rattle.brief.proofs.Puts.{Was}
 use Rattle.report.specs.Program.{atAddress, heardOf, printedOf}
 use Rattle.report.specs.Report.{reportOf}
 use Rattle.text.specs.declared.digits.Digits.{Digits}

@@ -1,102 +1,12 @@
--- What is printed of a reading. Document 01, "The program": six lines of a record, two of a refusal, each ended by LF (10).
+-- What is printed of a reading. Document 01, "The program": six lines of a record, two of a refusal.
 use Prim.Native.Nat.{ℕ}
-use Rattle.layout.specs.Layouts.{typeOf}
-use Rattle.layout.specs.declared.Layout.{Layout}
-use Rattle.layout.specs.declared.Layout.the-variants.{Market, Mfrr, Revocation, Generic, Exclusion, Limitation, Secondary, VoltVar, Rejection, Reserve}
-use Rattle.name.specs.Types.{codeOf}
+use Rattle.brief.specs.Brief.{lineText, sixLines}
 use Rattle.reader.specs.declared.Answer.{Answer}
-use Rattle.record.specs.Records.{fieldOf}
-use Rattle.record.specs.declared.Record.{Record}
-use Rattle.rules.specs.Values.{isFilled, instantIn}
 use Rattle.text.specs.Bytes.{bytes}
 use Rattle.text.specs.Digits.{wholeText}
-use Rattle.value.specs.declared.Value.{Value}
-use Rattle.value.specs.declared.Value.the-variants.{Blank, Id, Unit, When, Amount, Count, Reason, Note, Word, List as Numbers, Triples, Voltage, Regulator, Change, Reactive}
 use lib.Dec.{eqb}
-use lib.ListN.{take}
 use mathlib.Core.Bool.{cond}
-use mathlib.Core.List.{List, [], _∷_, _++_}
-
--- ---- what is told of a record
-
--- the number of an identifier; 0 of any other value
-abbrev pub numberIn : Value → ℕ
-numberIn Blank = 0
-numberIn (Id n) = n
-numberIn (Unit n) = 0
-numberIn (When d) = 0
-numberIn (Amount v) = 0
-numberIn (Count n) = 0
-numberIn (Reason n) = 0
-numberIn (Note n) = 0
-numberIn (Word w) = 0
-numberIn (Numbers x) = 0
-numberIn (Triples n) = 0
-numberIn (Voltage v) = 0
-numberIn (Regulator v) = 0
-numberIn (Change v) = 0
-numberIn (Reactive v) = 0
-
--- how many bytes a unit's code has; 0 of any other value
-abbrev pub unitSize : Value → ℕ
-unitSize Blank = 0
-unitSize (Id n) = 0
-unitSize (Unit n) = n
-unitSize (When d) = 0
-unitSize (Amount v) = 0
-unitSize (Count n) = 0
-unitSize (Reason n) = 0
-unitSize (Note n) = 0
-unitSize (Word w) = 0
-unitSize (Numbers x) = 0
-unitSize (Triples n) = 0
-unitSize (Voltage v) = 0
-unitSize (Regulator v) = 0
-unitSize (Change v) = 0
-unitSize (Reactive v) = 0
-
-unfoldable pub numberOf : Record → ℕ
-numberOf r = numberIn (fieldOf (r .cells) 1)
-
-unfoldable pub unitOf : Record → List ℕ
-unitOf r = take (unitSize (fieldOf (r .cells) 2)) (r .unit)
-
--- start and end: fields 3 and 4, mFRR's TINI1 and TFIN2
-abbrev pub startOf : Record → Value
-startOf r = fieldOf (r .cells) 3
-
-abbrev pub endField : Layout → ℕ
-endField Market = 4
-endField Mfrr = 6
-endField Revocation = 4
-endField Generic = 4
-endField Exclusion = 4
-endField Limitation = 4
-endField Secondary = 4
-endField VoltVar = 4
-endField Rejection = 4
-endField Reserve = 4
-
-unfoldable pub endOf : Record → Value
-endOf r = fieldOf (r .cells) (endField (r .layout))
-
--- a date as its instant, a blank as nothing
-unfoldable pub instantText : Value → List ℕ
-instantText v = cond (isFilled v) (wholeText 9 (instantIn v)) []
-
--- ---- lines `key=value`
-
-abbrev pub lineText : List ℕ → List ℕ → List ℕ
-lineText key v = (key ++ v) ++ (10 ∷ [])
-
-unfoldable pub sixLines : Record → List ℕ
-sixLines r =
-    lineText (bytes "result=") (bytes "0")
-    ++ lineText (bytes "type=") (codeOf (typeOf (r .layout)))
-    ++ lineText (bytes "number=") (wholeText 9 (numberOf r))
-    ++ lineText (bytes "unit=") (unitOf r)
-    ++ lineText (bytes "start=") (instantText (startOf r))
-    ++ lineText (bytes "end=") (instantText (endOf r))
+use mathlib.Core.List.{List, _++_}
 
 unfoldable pub twoLines : ℕ → ℕ → List ℕ
 twoLines n d = lineText (bytes "result=") (wholeText 9 n) ++ lineText (bytes "detail=") (wholeText 9 d)

@@ -8,6 +8,7 @@ ghost use Rattle.layout.specs.Rows.{rowFields, textAt, bandsIn, tailText, rowTe
 ghost use Rattle.lines.specs.Places.{partOf, columnIn, Placed, Holds};
 ghost use Rattle.row.specs.Steps.{stepOf};
 ghost use Rattle.text.specs.Bytes.{same, is, upto, past, trim};
+ghost use lib.Dec.{eqb};
 ghost use lib.ListN.{length};
 ghost use mathlib.Core.List.{[], _∷_, map};
 ghost use mathlib.Core.Path.{_≡_};
@@ -18,19 +19,26 @@ pub enum Step {
     Differs,
 }
 
+// A `;` is a byte like any other: it does not end a piece.
+fn same_byte(a: u8, b: u8) -> bool
+    ensures { λ r. ⌜ r ≡ eqb a b ⌝ }
+{
+    a == b
+}
+
 // The bytes of the file from at to end begin with those of the piece.
 fn skip_piece(file: &[u8], at: usize, end: usize, p: Span) -> Step
     requires { ⌜ (at ≤ end) × (end ≤ length (now file)) × (p .from ≤ p .to) × (p .to ≤ length (now file)) ⌝ }
     ensures { λ r. ⌜ r ≡ stepOf (now (file .entry)) at end (partOf (now (file .entry)) p) ⌝ }
 {
-    let from = p.from;
-    let size = p.to - from;
+    let from = p.from as usize;
+    let size = p.to as usize - from;
     if end - at < size {
         return Step::Differs;
     }
     let mut i = 0;
     while i < size {
-        if file[at + i] != file[from + i] {
+        if !same_byte(file[at + i], file[from + i]) {
             return Step::Differs;
         }
         i += 1;
@@ -79,14 +87,22 @@ fn skip_halves(file: &[u8], at: usize, end: usize, p: Span) -> Step
     requires { ⌜ (at ≤ end) × (end ≤ length (now file)) × (p .from ≤ p .to) × (p .to ≤ length (now file)) ⌝ }
     ensures { λ r. ⌜ r ≡ stepOf (now (file .entry)) at end (tailText (trim (upto (is 59) (partOf (now (file .entry)) p)) ∷ trim (past (is 59) (partOf (now (file .entry)) p)) ∷ [])) ⌝ }
 {
-    let from = p.from;
-    let to = p.to;
+    let from = p.from as usize;
+    let to = p.to as usize;
     let cut = from + scan::first(&file[from..to], b';');
     let Step::To(middle) = skip_mark(file, at, end, lines::trim_span(file, from, cut)) else {
         return Step::Differs;
     };
     if cut == to {
-        return skip_mark(file, middle, end, Span { from: to, to });
+        return skip_mark(
+            file,
+            middle,
+            end,
+            Span {
+                from: p.to,
+                to: p.to,
+            },
+        );
     }
     skip_mark(file, middle, end, lines::trim_span(file, cut + 1, to))
 }
@@ -115,8 +131,9 @@ pub fn agrees(l: Layout, file: &[u8], row: Span, spans: [Span; 27]) -> bool
     requires { ⌜ (row .from ≤ row .to) × (row .to ≤ length (now file)) × Placed (sizeOf l) (now file) spans ⌝ }
     ensures { λ r. ⌜ r ≡ same (partOf (now (file .entry)) row) (rowOf l (columnIn (sizeOf l) (now (file .entry)) spans)) ⌝ }
 {
-    let end = row.to;
-    let Step::To(a) = skip_fields(l, file, row.from, end, spans) else {
+    let start = row.from as usize;
+    let end = row.to as usize;
+    let Step::To(a) = skip_fields(l, file, start, end, spans) else {
         return false;
     };
     let Step::To(b) = skip_bands(l, file, a, end, spans) else {

@@ -6,7 +6,7 @@ use Rattle.list.specs.declared.Triple.{Triple}
 use Rattle.record.specs.Records.{cell, fieldOf}
 use Rattle.record.specs.declared.Cell.{Cell}
 use Rattle.rules.specs.Rules.{inOrder, ramps, updated, profiled, rises, sloped, excluded, limited, banded, quantified, rulesOf, lowest}
-use Rattle.rules.specs.Table.{table, formOf, lineOf, fits, inTable}
+use Rattle.voltvar.specs.Table.{table, formOf, lineOf, fits, inTable}
 use Rattle.text.specs.Bytes.{any, all}
 use Rattle.value.specs.declared.Value.{Value}
 use Rattle.value.specs.declared.Value.the-variants.{Blank, When, Amount, Reason, Word, List as Numbers, Triples, Voltage, Change}

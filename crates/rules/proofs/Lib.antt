@@ -1,3 +1,2 @@
-pub mod Others
 pub mod Steps
 pub mod Cases

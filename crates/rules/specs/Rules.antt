@@ -6,8 +6,8 @@ use Rattle.list.specs.declared.Triple.{Triple}
 use Rattle.record.specs.Records.{fieldOf}
 use Rattle.record.specs.declared.Cell.{Cell}
 use Rattle.record.specs.declared.Record.{Record}
-use Rattle.rules.specs.Table.{inTable}
-use Rattle.rules.specs.Values.{isFilled, instantIn, amountIn, isWord, triplesIn, notNegative}
+use Rattle.voltvar.specs.Table.{inTable}
+use Rattle.asked.specs.Values.{isFilled, instantIn, amountIn, isWord, triplesIn, notNegative}
 use Rattle.text.specs.Bytes.{all}
 use lib.Dec.{leb, ltb}
 use lib.IntN.{pos}

@@ -1,7 +1,4 @@
 // The rules across fields, 1 to 9 by number, on a record's values.
-pub mod asked;
-pub mod voltvar;
-
 use asked::amount_in;
 use asked::instant_in;
 use asked::is_filled;
@@ -15,7 +12,7 @@ use record::Record;
 ghost use Prim.Native.Nat.{_≤_};
 ghost use Rattle.record.specs.Records.{fieldOf};
 ghost use Rattle.rules.specs.Rules.{filled, says, instantAt, inOrder, ramps, updated, profiled, excluded, limited, banded, quantified, rises, sloped, rule, lowest, rulesOf, brokenIn};
-ghost use Rattle.rules.specs.Values.{amountIn};
+ghost use Rattle.asked.specs.Values.{amountIn};
 ghost use Rattle.text.specs.Bytes.{all};
 ghost use lib.ListN.{take};
 ghost use lib.Signed.{leZ};

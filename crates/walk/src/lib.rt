@@ -7,6 +7,7 @@ ghost use Prim.Native.Nat.{_+_, _<_, _≤_};
 ghost use Rattle.walk.specs.State.{notedOf, frameOf, Whole};
 ghost use Rattle.text.specs.Puts.{limit};
 ghost use lib.Dec.{eqb};
+ghost use lib.ListN.{length};
 ghost use mathlib.Core.Bool.{cond};
 ghost use mathlib.Core.Path.{_≡_};
 
@@ -136,6 +137,7 @@ fn turn_after(turn: usize, first: usize, second: usize) -> usize
 
 // One walk over the file, to its end or to the first byte that is not allowed.
 pub fn walk(t: MessageType, s: &[u8]) -> Found
+    requires { ⌜ length (now s) ≤ 8192 ⌝ }
     ensures { λ r. ⌜ Whole t (now (s .entry)) r ⌝ }
 {
     let mut frame = OUTSET;

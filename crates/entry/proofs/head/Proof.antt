@@ -1,6 +1,6 @@
 -- The label stands in its room before the blanks.
 use Prim.Native.Nat.{ℕ}
-use Rattle.entry.proofs.Labels.{size-inside, label-part}
+use Rattle.label.proofs.Rooms.{size-inside, label-part}
 use Rattle.entry.proofs.head.Statement.{statement}
 use Rattle.entry.proofs.head.Tie as tie
 use Rattle.entry.specs.Items.{headOf}

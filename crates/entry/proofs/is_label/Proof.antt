@@ -1,6 +1,6 @@
 -- The label stands in its room before the blanks.
 use Prim.Native.Nat.{ℕ}
-use Rattle.entry.proofs.Labels.{size-inside, label-part}
+use Rattle.label.proofs.Rooms.{size-inside, label-part}
 use Rattle.entry.proofs.is_label.Statement.{statement}
 use Rattle.entry.proofs.is_label.Tie as tie
 use Rattle.text.specs.Bytes.{same}

@@ -43,6 +43,12 @@ returns-2 c = as-expected _ _ _ _ _ _ _ (c .before .before .before .before .expe
 trim-span-requires-2 : tie.Need-trim-span-requires-2
 trim-span-requires-2 c κs = search needs
 
+cast-a : tie.Need-cast-a
+cast-a c = search needs
+
+cast-z : tie.Need-cast-z
+cast-z c = search needs
+
 sub-is-separator : tie.Need-sub-is-separator
 sub-is-separator c = search needs
 
@@ -56,15 +62,15 @@ is-separator-requires : tie.Need-is-separator-requires
 is-separator-requires c κs = search needs
 
 returns-3 : tie.Need-returns-3
-returns-3 c = is-separator _ _ _ _ _ (sym (c .before .is-separator .ensures) ∙ c .if3 .taken) (c .before .before .before .trim-span2 .ensures)
+returns-3 c = is-separator _ _ _ _ _ (sym (c .before .is-separator .ensures) ∙ c .if3 .taken) (c .before .before .before .before .before .trim-span2 .ensures)
 
 param-item-requires : tie.Need-param-item-requires
 param-item-requires c κs =
-    let w = c .before .before .before .trim-span2 .ensures in
-    (w .ordered, w .inside, sym (c .before .is-separator .ensures) ∙ c .if3 .left, c .before .before .before .before .before .before .before .before .if1 .left)
+    let w = c .before .before .before .before .before .trim-span2 .ensures in
+    (w .ordered, w .inside, sym (c .before .is-separator .ensures) ∙ c .if3 .left, c .before .before .before .before .before .before .before .before .before .before .if1 .left)
 
 returns-4 : tie.Need-returns-4
-returns-4 c = by-place _ _ _ _ _ _ (c .before .before .before .before .trim-span2 .ensures) (c .param-item .ensures)
+returns-4 c = by-place _ _ _ _ _ _ (c .before .before .before .before .before .before .trim-span2 .ensures) (c .param-item .ensures)
 
 pub line-of-spec : {M : Type 1} → statement M
 line-of-spec =
@@ -81,6 +87,8 @@ line-of-spec =
     trim-span-requires
     returns-2
     trim-span-requires-2
+    cast-a
+    cast-z
     sub-is-separator
     part-is-separator-start
     part-is-separator-end

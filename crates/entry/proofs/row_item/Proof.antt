@@ -7,6 +7,12 @@ use borrow.Author.Needs.{needs}
 trim-span-requires : tie.Need-trim-span-requires
 trim-span-requires c κs = search needs
 
+cast-a : tie.Need-cast-a
+cast-a c = search needs
+
+cast-z : tie.Need-cast-z
+cast-z c = search needs
+
 sub-is-separator : tie.Need-sub-is-separator
 sub-is-separator c = search needs
 
@@ -20,13 +26,15 @@ is-separator-requires : tie.Need-is-separator-requires
 is-separator-requires c κs = search needs
 
 returns : tie.Need-returns
-returns c = is-row _ _ _ _ _ (c .is-separator .ensures) (c .before .before .trim-span .ensures)
+returns c = is-row _ _ _ _ _ (c .is-separator .ensures) (c .before .before .before .before .trim-span .ensures)
 
 pub row-item-spec : {M : Type 1} → statement M
 row-item-spec =
     tie.close
     (tie.spec
     trim-span-requires
+    cast-a
+    cast-z
     sub-is-separator
     part-is-separator-start
     part-is-separator-end

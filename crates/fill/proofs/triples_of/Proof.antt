@@ -1,7 +1,7 @@
 -- The triples of the text that has the gradients.
 use Prim.Native.Nat.{ℕ}
-use Rattle.fill.proofs.Columns.{gradients-in}
 use Rattle.fill.proofs.Records.{triples-are}
+use Rattle.fill.proofs.Rooms.{gradients-in}
 use Rattle.fill.proofs.triples_of.Statement.{statement}
 use Rattle.fill.proofs.triples_of.Tie as tie
 use Rattle.layout.specs.Layouts.{sizeOf}

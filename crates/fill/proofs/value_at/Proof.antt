@@ -6,6 +6,12 @@ use Rattle.value.specs.Kinds.{valueOf}
 use borrow.Author.Needs.{needs}
 use mathlib.Core.Path.{ap, _∙_}
 
+cast-from : tie.Need-cast-from
+cast-from c = search needs
+
+cast-to : tie.Need-cast-to
+cast-to c = search needs
+
 of-field-requires : tie.Need-of-field-requires
 of-field-requires c κs = search needs
 
@@ -22,9 +28,19 @@ read-requires : tie.Need-read-requires
 read-requires c κs = search needs
 
 returns : tie.Need-returns
-returns c = c .read .ensures ∙ ap (λ k. valueOf k (partOf (c .before .before .before .before .args .file .now) (c .before .before .before .before .args .p))) (c .before .before .of-field .ensures)
+returns c =
+    let z = c .before .before .before .before .before .before in
+    c .read .ensures ∙ ap (λ k. valueOf k (partOf (z .args .file .now) (z .args .p))) (c .before .before .of-field .ensures)
 
 pub value-at-spec : {M : Type 1} → statement M
 value-at-spec =
     tie.close
-    (tie.spec of-field-requires sub-read part-read-start part-read-end read-requires returns)
+    (tie.spec
+    cast-from
+    cast-to
+    of-field-requires
+    sub-read
+    part-read-start
+    part-read-end
+    read-requires
+    returns)

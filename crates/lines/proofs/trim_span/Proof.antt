@@ -1,9 +1,16 @@
 -- What stands past the leading blanks, and of that what stands before the last.
+use Prim.Native.Nat.{_+_, _≤_}
 use Rattle.lines.proofs.Leaves.{trim-fits, trim-holds}
 use Rattle.lines.proofs.trim_span.Statement.{statement}
 use Rattle.lines.proofs.trim_span.Tie as tie
 use borrow.Author.Needs.{needs}
 use native.Mathlib.Omega.{arith}
+
+-- What is left ends where the part ends, or before.
+ends : (c : tie.After-body) → c .before .before .before .before .before .args .at + c .before .before .lead .result + c .body .result ≤ c .before .before .before .before .before .args .end
+ends c =
+    let z = c .before .before .before .before .before in
+    trim-fits _ _ _ _ _ (z .pre .0) (z .pre .1) (c .before .before .lead .ensures) (c .body .ensures)
 
 sub-lead : tie.Need-sub-lead
 sub-lead c = search needs
@@ -33,9 +40,13 @@ body-requires : tie.Need-body-requires
 body-requires c κs = search needs
 
 add-to : tie.Need-add-to
-add-to c =
-    let z = c .before .before .before .before .before in
-    omega (arith, trim-fits (z .args .s .now) (z .args .at) (z .args .end) (c .before .before .lead .result) (c .body .result) (z .pre .0) (z .pre .1) (c .before .before .lead .ensures) (c .body .ensures))
+add-to c = omega (arith, ends c)
+
+cast-t14 : tie.Need-cast-t14
+cast-t14 c = search needs
+
+cast-t15 : tie.Need-cast-t15
+cast-t15 c = omega (arith, ends c, c .before .before .before .before .before .pre .2)
 
 returns : tie.Need-returns
 returns c =
@@ -56,4 +67,6 @@ trim-span-spec =
     part-body-end
     body-requires
     add-to
+    cast-t14
+    cast-t15
     returns)

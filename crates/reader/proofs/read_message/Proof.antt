@@ -47,17 +47,23 @@ is-mfrr-requires c κs = search needs
 take-requires : tie.Need-take-requires
 take-requires c κs = mfrr-ready _ [] _ (c .before .before .before .before .before .before .before .before .before .before .before .before .before .before .if1 .left) (c .before .before .before .before .before .before .before .before .before .before .before .before .before .if2 .left) _ (c .before .before .before .before .before .before .before .before .before .before .before .before .walk .ensures) (c .before .before .before .before .before .before .before .before .before .before .if3 .left) (c .before .before .before .before .before .before .before .if4 .left) (c .before .before .before .before .before .if5 .left) (sym (c .before .before .is-mfrr .ensures) ∙ c .before .if6 .taken)
 
+conclude-requires : tie.Need-conclude-requires
+conclude-requires c κs = c .take .ensures .placed
+
 returns-6 : tie.Need-returns-6
-returns-6 c = mfrr-read _ _ _ (c .before .before .before .before .before .before .before .before .before .before .before .before .before .before .before .if1 .left) (c .before .before .before .before .before .before .before .before .before .before .before .before .before .before .if2 .left) _ (c .before .before .before .before .before .before .before .before .before .before .before .before .before .walk .ensures) (c .before .before .before .before .before .before .before .before .before .before .before .if3 .left) (c .before .before .before .before .before .before .before .before .if4 .left) (c .before .before .before .before .before .before .if5 .left) (sym (c .before .before .before .is-mfrr .ensures) ∙ c .before .before .if6 .taken) _ (c .take .ensures)
+returns-6 c = c .conclude .ensures ∙ mfrr-read _ _ _ (c .before .before .before .before .before .before .before .before .before .before .before .before .before .before .before .before .if1 .left) (c .before .before .before .before .before .before .before .before .before .before .before .before .before .before .before .if2 .left) _ (c .before .before .before .before .before .before .before .before .before .before .before .before .before .before .walk .ensures) (c .before .before .before .before .before .before .before .before .before .before .before .before .if3 .left) (c .before .before .before .before .before .before .before .before .before .if4 .left) (c .before .before .before .before .before .before .before .if5 .left) (sym (c .before .before .before .before .is-mfrr .ensures) ∙ c .before .before .before .if6 .taken) _ (c .before .take .ensures)
 
 of-type-requires : tie.Need-of-type-requires
 of-type-requires c κs = search needs
 
 take-requires-2 : tie.Need-take-requires-2
-take-requires-2 c κs = rw (c .of-type .ensures) (first-ready _ [] _ (c .before .before .before .before .before .before .before .before .before .before .before .before .before .before .before .before .if1 .left) (c .before .before .before .before .before .before .before .before .before .before .before .before .before .before .before .if2 .left) _ (c .before .before .before .before .before .before .before .before .before .before .before .before .before .before .walk .ensures) (c .before .before .before .before .before .before .before .before .before .before .before .before .if3 .left) (c .before .before .before .before .before .before .before .before .before .if4 .left) (c .before .before .before .before .before .before .before .if5 .left))
+take-requires-2 c κs = first-ready _ [] _ (c .before .before .before .before .before .before .before .before .before .before .before .before .before .before .before .before .if1 .left) (c .before .before .before .before .before .before .before .before .before .before .before .before .before .before .before .if2 .left) _ (c .before .before .before .before .before .before .before .before .before .before .before .before .before .before .walk .ensures) (c .before .before .before .before .before .before .before .before .before .before .before .before .if3 .left) (c .before .before .before .before .before .before .before .before .before .if4 .left) (c .before .before .before .before .before .before .before .if5 .left) _ (c .of-type .ensures)
+
+conclude-requires-2 : tie.Need-conclude-requires-2
+conclude-requires-2 c κs = c .take2 .ensures .placed
 
 returns-7 : tie.Need-returns-7
-returns-7 c = first-read _ _ _ (c .before .before .before .before .before .before .before .before .before .before .before .before .before .before .before .before .before .if1 .left) (c .before .before .before .before .before .before .before .before .before .before .before .before .before .before .before .before .if2 .left) _ (c .before .before .before .before .before .before .before .before .before .before .before .before .before .before .before .walk .ensures) (c .before .before .before .before .before .before .before .before .before .before .before .before .before .if3 .left) (c .before .before .before .before .before .before .before .before .before .before .if4 .left) (c .before .before .before .before .before .before .before .before .if5 .left) (sym (c .before .before .before .before .before .is-mfrr .ensures) ∙ c .before .before .before .before .if6 .left) _ (rw (c .before .of-type .ensures) at (c .take2 .ensures))
+returns-7 c = c .conclude2 .ensures ∙ first-read _ _ _ (c .before .before .before .before .before .before .before .before .before .before .before .before .before .before .before .before .before .before .if1 .left) (c .before .before .before .before .before .before .before .before .before .before .before .before .before .before .before .before .before .if2 .left) _ (c .before .before .before .before .before .before .before .before .before .before .before .before .before .before .before .before .walk .ensures) (c .before .before .before .before .before .before .before .before .before .before .before .before .before .before .if3 .left) (c .before .before .before .before .before .before .before .before .before .before .before .if4 .left) (c .before .before .before .before .before .before .before .before .before .if5 .left) _ (c .before .before .of-type .ensures) (sym (c .before .before .before .before .before .before .is-mfrr .ensures) ∙ c .before .before .before .before .before .if6 .left) _ (c .before .take2 .ensures)
 
 pub read-message-spec : {M : Type 1} → statement M
 read-message-spec =
@@ -76,7 +82,9 @@ read-message-spec =
     returns-5
     is-mfrr-requires
     take-requires
+    conclude-requires
     returns-6
     of-type-requires
     take-requires-2
+    conclude-requires-2
     returns-7)

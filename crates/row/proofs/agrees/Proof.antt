@@ -6,6 +6,12 @@ use Rattle.row.proofs.agrees.Statement.{statement}
 use Rattle.row.proofs.agrees.Tie as tie
 use borrow.Author.Needs.{needs}
 
+cast-start : tie.Need-cast-start
+cast-start c = search needs
+
+cast-end : tie.Need-cast-end
+cast-end c = search needs
+
 skip-fields-requires : tie.Need-skip-fields-requires
 skip-fields-requires c κs = search needs
 
@@ -17,12 +23,12 @@ enum-told c = search needs
 
 returns : tie.Need-returns
 returns c =
-    let z = c .before .before .before .before in
+    let z = c .before .before .before .before .before .before in
     fields-other _ _ _ _ _ (z .pre .0) (z .pre .1) _ (c .before .before .skip-fields .ensures) (c .enum-told .given .1)
 
 skip-bands-requires : tie.Need-skip-bands-requires
 skip-bands-requires c κs =
-    let z = c .before .before .before .before .before in
+    let z = c .before .before .before .before .before .before .before in
     (fields-fit _ _ _ _ (columnIn (sizeOf (z .args .l)) (z .args .file .now) (z .args .spans)) (z .pre .0) (z .pre .1) _ (c .before .before .before .skip-fields .ensures) _ (c .before .a .given .1), z .pre .1, z .pre .2)
 
 enum-known-b : tie.Need-enum-known-b
@@ -33,18 +39,20 @@ enum-told-2 c = search needs
 
 returns-2 : tie.Need-returns-2
 returns-2 c =
-    let z = c .before .before .before .before .before .before .before .before in
+    let z = c .before .before .before .before .before .before .before .before .before .before in
     bands-other _ _ _ _ _ (z .pre .0) (z .pre .1) _ (c .before .before .before .before .before .before .skip-fields .ensures) _ (c .before .before .before .before .a .given .1) _ (c .before .before .skip-bands .ensures) (c .enum-told2 .given .1)
 
 returns-3 : tie.Need-returns-3
 returns-3 c =
-    let z = c .before .before .before .before .before .before .before .before .before in
+    let z = c .before .before .before .before .before .before .before .before .before .before .before in
     bands-last _ _ _ _ _ (z .pre .0) (z .pre .1) _ (c .before .before .before .before .before .before .before .skip-fields .ensures) _ (c .before .before .before .before .before .a .given .1) _ (c .before .before .before .skip-bands .ensures) _ (c .before .b .given .1)
 
 pub agrees-spec : {M : Type 1} → statement M
 agrees-spec =
     tie.close
     (tie.spec
+    cast-start
+    cast-end
     skip-fields-requires
     enum-known-a
     enum-told

@@ -5,8 +5,9 @@ use Rattle.row.proofs.skip_piece.Statement.{statement}
 use Rattle.row.proofs.skip_piece.Tie as tie
 use Rattle.text.specs.Bytes.{part, starts}
 use borrow.Author.Needs.{needs}
+use borrow.Author.Tests.{eqb-true, eqb-false, not-true, not-false}
 use lib.ListN.{length, take, drop}
-use mathlib.Core.Path.{_≡_, refl}
+use mathlib.Core.Path.{_≡_, refl, sym, _∙_}
 use native.Mathlib.Omega.{arith}
 
 abbrev Inv-loop : tie.InvT-loop
@@ -15,6 +16,12 @@ Inv-loop file at end from size i₀ i = (i ≤ size) × (size ≤ end - at) × (
 abbrev μ-loop : tie.MeasureT-loop
 μ-loop file at end from size i₀ i = size - i
 
+cast-from : tie.Need-cast-from Inv-loop μ-loop
+cast-from c = search needs
+
+cast-size : tie.Need-cast-size Inv-loop μ-loop
+cast-size c = search needs
+
 sub-size : tie.Need-sub-size Inv-loop μ-loop
 sub-size c = search needs
 
@@ -22,25 +29,34 @@ sub-if1 : tie.Need-sub-if1 Inv-loop μ-loop
 sub-if1 c = search needs
 
 returns : tie.Need-returns Inv-loop μ-loop
-returns c = piece-long (c .before .before .args .file .now) (c .before .before .args .at) (c .before .before .args .end) (c .before .before .args .p .from) (c .before .before .args .p .to) (omega arith) (omega arith) (omega arith)
+returns c =
+    let z = c .before .before .before .before in
+    piece-long (z .args .file .now) (z .args .at) (z .args .end) (z .args .p .from) (z .args .p .to) (omega arith) (omega arith) (omega arith)
 
 loop-holds : tie.Need-loop-holds Inv-loop μ-loop
 loop-holds c = (omega arith, omega arith, omega arith, omega arith, omega arith, refl)
 
-add-if2 : tie.Need-add-if2 Inv-loop μ-loop
-add-if2 c = search needs
+add-same-byte : tie.Need-add-same-byte Inv-loop μ-loop
+add-same-byte c = search needs
 
-shared-slice-read-if2 : tie.Need-shared-slice-read-if2 Inv-loop μ-loop
-shared-slice-read-if2 c = search needs
+shared-slice-read-same-byte : tie.Need-shared-slice-read-same-byte Inv-loop μ-loop
+shared-slice-read-same-byte c = search needs
 
-add-if2-2 : tie.Need-add-if2-2 Inv-loop μ-loop
-add-if2-2 c = search needs
+add-same-byte-2 : tie.Need-add-same-byte-2 Inv-loop μ-loop
+add-same-byte-2 c = search needs
 
-shared-slice-read-if2-2 : tie.Need-shared-slice-read-if2-2 Inv-loop μ-loop
-shared-slice-read-if2-2 c = search needs
+shared-slice-read-same-byte-2 : tie.Need-shared-slice-read-same-byte-2 Inv-loop μ-loop
+shared-slice-read-same-byte-2 c = search needs
+
+same-byte-requires : tie.Need-same-byte-requires Inv-loop μ-loop
+same-byte-requires c κs = search needs
 
 returns-2 : tie.Need-returns-2 Inv-loop μ-loop
-returns-2 c = piece-here (c .before .before .before .before .before .before .before .args .file .now) (c .before .before .before .before .before .before .before .args .at) (c .before .before .before .before .before .before .before .args .end) (c .before .before .before .before .before .before .before .args .p .from) (c .before .before .before .before .before .before .before .args .p .to) (omega arith) (omega arith) (c .before .before .before .before .loop .i) (omega arith) (c .before .before .before .before .loop .inv .5) (omega arith) (c .if2 .taken)
+returns-2 c =
+    let l = c .before .before .before .before .before in
+    let z = l .before .before .before .before .before in
+    piece-here (z .args .file .now) (z .args .at) (z .args .end) (z .args .p .from) (z .args .p .to) (omega arith) (omega arith) (l .loop .i) (omega arith) (l .loop .inv .5) (omega arith)
+    (eqb-false _ _ (sym (c .before .same-byte .ensures) ∙ not-true _ (c .if2 .taken)))
 
 add-i : tie.Need-add-i Inv-loop μ-loop
 add-i c = search needs
@@ -49,13 +65,21 @@ loop-less : tie.Need-loop-less Inv-loop μ-loop
 loop-less c = search needs
 
 loop-again : tie.Need-loop-again Inv-loop μ-loop
-loop-again c = (omega arith, omega arith, omega arith, omega arith, omega arith, piece-on (c .before .before .before .before .before .before .before .args .file .now) (c .before .before .before .before .before .before .before .args .at) (c .before .before .before .before .before .before .before .args .end) (c .before .before .before .before .before .before .before .args .p .from) (c .before .before .before .before .before .before .before .args .p .to) (omega arith) (omega arith) (c .before .before .before .before .loop .i) (omega arith) (c .before .before .before .before .loop .inv .5) (omega arith) (c .if2 .left))
+loop-again c =
+    let l = c .before .before .before .before .before in
+    let z = l .before .before .before .before .before in
+    let on = piece-on (z .args .file .now) (z .args .at) (z .args .end) (z .args .p .from) (z .args .p .to) (omega arith) (omega arith) (l .loop .i) (omega arith) (l .loop .inv .5) (omega arith)
+    (eqb-true _ _ (sym (c .before .same-byte .ensures) ∙ not-false _ (c .if2 .left))) in
+    (omega arith, omega arith, omega arith, omega arith, omega arith, on)
 
 add-t8 : tie.Need-add-t8 Inv-loop μ-loop
 add-t8 c = search needs
 
 returns-3 : tie.Need-returns-3 Inv-loop μ-loop
-returns-3 c = piece-end (c .before .before .before .before .args .file .now) (c .before .before .before .before .args .at) (c .before .before .before .before .args .end) (c .before .before .before .before .args .p .from) (c .before .before .before .before .args .p .to) (omega arith) (omega arith) (c .before .loop .i) (omega arith) (c .before .loop .inv .5) (omega arith)
+returns-3 c =
+    let l = c .before in
+    let z = l .before .before .before .before .before in
+    piece-end (z .args .file .now) (z .args .at) (z .args .end) (z .args .p .from) (z .args .p .to) (omega arith) (omega arith) (l .loop .i) (omega arith) (l .loop .inv .5) (omega arith)
 
 pub skip-piece-spec : {M : Type 1} → statement M
 skip-piece-spec =
@@ -63,14 +87,17 @@ skip-piece-spec =
     (tie.spec
     Inv-loop
     μ-loop
+    cast-from
+    cast-size
     sub-size
     sub-if1
     returns
     loop-holds
-    add-if2
-    shared-slice-read-if2
-    add-if2-2
-    shared-slice-read-if2-2
+    add-same-byte
+    shared-slice-read-same-byte
+    add-same-byte-2
+    shared-slice-read-same-byte-2
+    same-byte-requires
     returns-2
     add-i
     loop-less

@@ -2,7 +2,7 @@
 use Rattle.rules.proofs.banded.Statement.{statement}
 use Rattle.rules.proofs.banded.Tie as tie
 use Rattle.rules.specs.Rules.{banded}
-use Rattle.rules.specs.Values.{notNegative}
+use Rattle.asked.specs.Values.{notNegative}
 use borrow.Author.Needs.{needs}
 use mathlib.Core.Path.{sym, ap, _∙_}
 

@@ -1,7 +1,7 @@
 -- The question, asked of the field.
 use Rattle.rules.proofs.filled.Statement.{statement}
 use Rattle.rules.proofs.filled.Tie as tie
-use Rattle.rules.specs.Values.{isFilled}
+use Rattle.asked.specs.Values.{isFilled}
 use borrow.Author.Needs.{needs}
 use mathlib.Core.Path.{ap, _∙_}
 

@@ -1,7 +1,7 @@
 -- The question, asked of the field.
 use Rattle.rules.proofs.instant_at.Statement.{statement}
 use Rattle.rules.proofs.instant_at.Tie as tie
-use Rattle.rules.specs.Values.{instantIn}
+use Rattle.asked.specs.Values.{instantIn}
 use borrow.Author.Needs.{needs}
 use mathlib.Core.Path.{ap, _∙_}
 

@@ -50,7 +50,8 @@ line-of-requires : tie.Need-line-of-requires Inv-loop μ-loop
 line-of-requires c κs =
     let run = c .before .before .before .before in
     let start = run .before .before .before .before .before in
-    (omega arith, end-near (start .args .s .now) (run .before .before .before .loop .at) (run .plain-run .result) (run .before .before .loop-test .taken) (run .plain-run .ensures))
+    let near = end-near (start .args .s .now) (run .before .before .before .loop .at) (run .plain-run .result) (run .before .before .loop-test .taken) (run .plain-run .ensures) in
+    (omega arith, near, omega (arith, near, start .pre))
 
 frame-in-requires : tie.Need-frame-in-requires Inv-loop μ-loop
 frame-in-requires c κs = search needs

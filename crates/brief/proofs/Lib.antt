@@ -1,0 +1,4 @@
+pub mod Others
+pub mod Fields
+pub mod Sizes
+pub mod Puts

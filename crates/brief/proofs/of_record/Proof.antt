@@ -1,0 +1,42 @@
+-- Each part from its field.
+use Rattle.brief.proofs.Fields.{end-within, brief-is}
+use Rattle.brief.proofs.of_record.Statement.{statement}
+use Rattle.brief.proofs.of_record.Tie as tie
+use borrow.Author.Needs.{needs}
+
+field-requires : tie.Need-field-requires
+field-requires c κs = search needs
+
+number-in-requires : tie.Need-number-in-requires
+number-in-requires c κs = search needs
+
+field-requires-2 : tie.Need-field-requires-2
+field-requires-2 c κs = search needs
+
+unit-size-requires : tie.Need-unit-size-requires
+unit-size-requires c κs = search needs
+
+field-requires-3 : tie.Need-field-requires-3
+field-requires-3 c κs = search needs
+
+end-field-requires : tie.Need-end-field-requires
+end-field-requires c κs = search needs
+
+field-requires-4 : tie.Need-field-requires-4
+field-requires-4 c κs = end-within (c .before .before .before .before .before .before .before .before .args .r .layout) _ (c .end-field .ensures)
+
+returns : tie.Need-returns
+returns c = brief-is (c .before .before .before .before .before .before .before .before .before .args .r) _ _ _ _ _ _ _ (c .before .before .before .before .before .before .field .ensures) (c .before .before .before .before .before .number-in .ensures) (c .before .before .before .before .field2 .ensures) (c .before .before .before .unit-size .ensures) (c .before .before .field3 .ensures) (c .before .end-field .ensures) (c .field4 .ensures)
+
+pub of-record-spec : {M : Type 1} → statement M
+of-record-spec =
+    tie.close
+    (tie.spec
+    field-requires
+    number-in-requires
+    field-requires-2
+    unit-size-requires
+    field-requires-3
+    end-field-requires
+    field-requires-4
+    returns)

@@ -1,0 +1,142 @@
+// What is told of a record in brief, and its six lines.
+use layout::Layout;
+use name::MessageType;
+use record::Record;
+use text::put;
+use text::scan;
+use value::Value;
+ghost use Prim.Native.Nat.{_+_, _<_};
+ghost use Rattle.brief.specs.Brief.{numberIn, unitSize, endField, instantText, lineText, briefOf, sixOf};
+ghost use Rattle.name.specs.Types.{codeOf};
+ghost use Rattle.text.specs.Bytes.{bytes};
+ghost use Rattle.text.specs.Digits.{wholeText};
+ghost use Rattle.text.specs.Puts.{limit};
+ghost use lib.ListN.{length};
+ghost use lib.Seq.{sets};
+ghost use mathlib.Core.List.{_++_};
+ghost use mathlib.Core.Path.{_≡_};
+
+// The layout, the message's number, the unit's code in its room, and start and end as they stand in the record.
+pub struct Brief {
+    pub layout: Layout,
+    pub number: u64,
+    pub size: usize,
+    pub unit: [u8; 16],
+    pub start: Value,
+    pub end: Value,
+}
+
+fn number_in(v: Value) -> u64
+    ensures { λ r. ⌜ r ≡ numberIn v ⌝ }
+{
+    match v {
+        Value::Id(n) => n,
+        _ => 0,
+    }
+}
+
+fn unit_size(v: Value) -> usize
+    ensures { λ r. ⌜ r ≡ unitSize v ⌝ }
+{
+    match v {
+        Value::Unit(n) => n,
+        _ => 0,
+    }
+}
+
+// The field with the end: TFIN2 for mFRR.
+fn end_field(l: Layout) -> usize
+    ensures { λ r. ⌜ r ≡ endField l ⌝ }
+{
+    match l {
+        Layout::Mfrr => 6,
+        Layout::Market => 4,
+        Layout::Revocation => 4,
+        Layout::Generic => 4,
+        Layout::Exclusion => 4,
+        Layout::Limitation => 4,
+        Layout::Secondary => 4,
+        Layout::VoltVar => 4,
+        Layout::Rejection => 4,
+        Layout::Reserve => 4,
+    }
+}
+
+// What is told of a record.
+pub fn of_record(r: Record) -> Brief
+    ensures { λ b. ⌜ b ≡ briefOf r ⌝ }
+{
+    let layout = r.layout;
+    let cells = r.cells;
+    let unit = r.unit;
+    Brief {
+        layout,
+        number: number_in(record::field(cells, 1)),
+        size: unit_size(record::field(cells, 2)),
+        unit,
+        start: record::field(cells, 3),
+        end: record::field(cells, end_field(layout)),
+    }
+}
+
+fn put_line(out: &mut [u8], at: usize, key: &[u8], v: &[u8]) -> usize
+    requires { ⌜ at + length (now key) + length (now v) + 1 < limit ⌝ }
+    ensures { λ r. ⌜ (r ≡ at + length (lineText (now (key .entry)) (now (v .entry)))) × (now (out .exit) ≡ sets (now (out .entry)) at (lineText (now (key .entry)) (now (v .entry)))) ⌝ }
+{
+    let a = put::put_text(out, at, key);
+    let b = put::put_text(out, a, v);
+    put::put_byte(out, b, b'\n')
+}
+
+pub fn put_number(out: &mut [u8], at: usize, key: &[u8], n: u64) -> usize
+    requires { ⌜ at + length (now key) + 11 < limit ⌝ }
+    ensures { λ r. ⌜ (r ≡ at + length (lineText (now (key .entry)) (wholeText 9 n))) × (now (out .exit) ≡ sets (now (out .entry)) at (lineText (now (key .entry)) (wholeText 9 n))) ⌝ }
+{
+    let a = put::put_text(out, at, key);
+    let b = put::put_whole(out, a, 9, n);
+    put::put_byte(out, b, b'\n')
+}
+
+fn put_type(out: &mut [u8], at: usize, t: MessageType) -> usize
+    requires { ⌜ at + 8 < limit ⌝ }
+    ensures { λ r. ⌜ (r ≡ at + length (lineText (bytes "type=") (codeOf t))) × (now (out .exit) ≡ sets (now (out .entry)) at (lineText (bytes "type=") (codeOf t))) ⌝ }
+{
+    let code = name::code(t);
+    put_line(out, at, b"type=", &code)
+}
+
+// A date as its instant, a blank as nothing.
+fn put_instant(out: &mut [u8], at: usize, key: &[u8], v: Value) -> usize
+    requires { ⌜ at + length (now key) + 11 < limit ⌝ }
+    ensures { λ r. ⌜ (r ≡ at + length (lineText (now (key .entry)) (instantText v))) × (now (out .exit) ≡ sets (now (out .entry)) at (lineText (now (key .entry)) (instantText v))) ⌝ }
+{
+    if asked::is_filled(v) {
+        return put_number(out, at, key, asked::instant_in(v));
+    }
+    put_line(out, at, key, b"")
+}
+
+// The first three lines: the result, the type and the number.
+fn put_head(out: &mut [u8], at: usize, t: MessageType, n: u64) -> usize
+    requires { ⌜ at + 200 < limit ⌝ }
+    ensures { λ r. ⌜ (r ≡ at + length (lineText (bytes "result=") (bytes "0") ++ lineText (bytes "type=") (codeOf t) ++ lineText (bytes "number=") (wholeText 9 n))) × (now (out .exit) ≡ sets (now (out .entry)) at (lineText (bytes "result=") (bytes "0") ++ lineText (bytes "type=") (codeOf t) ++ lineText (bytes "number=") (wholeText 9 n))) ⌝ }
+{
+    let a = put_line(out, at, b"result=", b"0");
+    let b = put_type(out, a, t);
+    put_number(out, b, b"number=", n)
+}
+
+// The six lines.
+pub fn put_lines(out: &mut [u8], at: usize, b: Brief) -> usize
+    requires { ⌜ at + 200 < limit ⌝ }
+    ensures { λ n. ⌜ (n ≡ at + length (sixOf b)) × (now (out .exit) ≡ sets (now (out .entry)) at (sixOf b)) ⌝ }
+{
+    let l = b.layout;
+    let unit = b.unit;
+    let start = b.start;
+    let end = b.end;
+    let head = put_head(out, at, layout::type_of(l), b.number);
+    let third = put_line(out, head, b"unit=", scan::front(&unit, b.size));
+    let fourth = put_instant(out, third, b"start=", start);
+    put_instant(out, fourth, b"end=", end)
+}

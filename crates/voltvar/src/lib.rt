@@ -1,0 +1,128 @@
+// Rule 8: a VQ message is one of the eleven rows of the table of Annex A.34, 2.9.
+use asked::is_filled;
+use asked::word_number;
+use record::Cell;
+use value::Value;
+ghost use Prim.Native.Nat.{_<_};
+ghost use Rattle.voltvar.specs.Table.{line, table, formOf, lineOf, takes, fits, inTable};
+ghost use lib.ListN.{getD};
+ghost use mathlib.Core.Path.{_≡_};
+
+// State, mode and regulation as words' numbers, 0 for a blank. A setting: 0 blank, 1 a number, 2 a word; of the table also 3, either.
+pub struct Line {
+    pub state: u8,
+    pub mode: u8,
+    pub regulation: u8,
+    pub voltage: u8,
+    pub regulator: u8,
+    pub change: u8,
+    pub reactive: u8,
+}
+
+fn row_of(
+    state: u8,
+    mode: u8,
+    regulation: u8,
+    voltage: u8,
+    regulator: u8,
+    change: u8,
+    reactive: u8,
+) -> Line
+    ensures { λ r. ⌜ r ≡ line state mode regulation voltage regulator change reactive ⌝ }
+{
+    Line {
+        state,
+        mode,
+        regulation,
+        voltage,
+        regulator,
+        change,
+        reactive,
+    }
+}
+
+// The rows, from 0.
+fn table_row(k: usize) -> Line
+    requires { ⌜ k < 11 ⌝ }
+    ensures { λ r. ⌜ r ≡ getD table k (line 0 0 0 0 0 0 0) ⌝ }
+{
+    match k {
+        0 => row_of(13, 15, 0, 0, 0, 0, 0),
+        1 => row_of(13, 16, 19, 0, 0, 0, 0),
+        2 => row_of(13, 16, 20, 3, 0, 0, 0),
+        3 => row_of(0, 16, 20, 1, 0, 0, 0),
+        4 => row_of(13, 16, 20, 2, 0, 1, 0),
+        5 => row_of(14, 17, 21, 0, 3, 0, 0),
+        6 => row_of(0, 17, 21, 0, 3, 0, 0),
+        7 => row_of(14, 17, 21, 0, 2, 1, 0),
+        8 => row_of(0, 17, 21, 0, 2, 1, 0),
+        9 => row_of(14, 18, 22, 0, 0, 0, 3),
+        _ => row_of(0, 18, 22, 0, 0, 0, 3),
+    }
+}
+
+// Blank, a number or a word.
+fn form_of(v: Value) -> u8
+    ensures { λ r. ⌜ r ≡ formOf v ⌝ }
+{
+    if !is_filled(v) {
+        return 0;
+    }
+    if word_number(v) == 0 {
+        return 1;
+    }
+    2
+}
+
+fn line_of(cells: [Cell; 26]) -> Line
+    ensures { λ r. ⌜ r ≡ lineOf cells ⌝ }
+{
+    let state = word_number(record::field(cells, 5));
+    let mode = word_number(record::field(cells, 6));
+    let regulation = word_number(record::field(cells, 7));
+    let voltage = form_of(record::field(cells, 8));
+    let regulator = form_of(record::field(cells, 9));
+    let change = form_of(record::field(cells, 10));
+    let reactive = form_of(record::field(cells, 11));
+    row_of(
+        state,
+        mode,
+        regulation,
+        voltage,
+        regulator,
+        change,
+        reactive,
+    )
+}
+
+fn takes(asked: u8, is: u8) -> bool
+    ensures { λ r. ⌜ r ≡ takes asked is ⌝ }
+{
+    (is == asked) | ((asked == 3) & (1 <= is))
+}
+
+fn fits(l: Line, row: Line) -> bool
+    ensures { λ r. ⌜ r ≡ fits l row ⌝ }
+{
+    (l.state == row.state)
+        & (l.mode == row.mode)
+        & (l.regulation == row.regulation)
+        & takes(row.voltage, l.voltage)
+        & takes(row.regulator, l.regulator)
+        & takes(row.change, l.change)
+        & takes(row.reactive, l.reactive)
+}
+
+pub fn in_table(cells: [Cell; 26]) -> bool
+    ensures { λ r. ⌜ r ≡ inTable cells ⌝ }
+{
+    let l = line_of(cells);
+    let mut k = 0;
+    while k < 11 {
+        if fits(l, table_row(k)) {
+            return true;
+        }
+        k += 1;
+    }
+    false
+}
