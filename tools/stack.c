@@ -1,4 +1,4 @@
-/* How much stack the reading entry takes: it runs on a stack of its own that was painted before, for each message file named on the command line.
+/* How much stack each entry takes: it runs on a stack of its own that was painted before, for each message file named on the command line.
    stack PLAN FILE CA IOA [FILE CA IOA ..] */
 #include <stdint.h>
 #include <stdio.h>
@@ -8,17 +8,21 @@
 
 uint32_t halimpung_read(uint32_t ca, uint32_t ioa, const uint8_t *plan, size_t plan_len, const uint8_t *file, size_t file_len,
                         uint8_t *out, size_t out_len);
+uint32_t halimpung_normalise(uint32_t ca, uint32_t ioa, const uint8_t *plan, size_t plan_len, const uint8_t *file, size_t file_len,
+                             uint8_t *out, size_t out_len);
 
 enum { STACK = 1 << 18, PAINT = 0xA5 };
 
 static ucontext_t home, away;
-static uint8_t plan[65536], file[65536], out[128];
+static uint8_t plan[65536], file[65536], out[8192];
 static size_t plan_len, file_len;
 static uint32_t ca, ioa, answer;
 
 static void nothing(void) {}
 
-static void call(void) { answer = halimpung_read(ca, ioa, plan, plan_len, file, file_len, out, sizeof out); }
+static void read_it(void) { answer = halimpung_read(ca, ioa, plan, plan_len, file, file_len, out, sizeof out); }
+
+static void normalise_it(void) { answer = halimpung_normalise(ca, ioa, plan, plan_len, file, file_len, out, sizeof out); }
 
 static size_t load(const char *name, uint8_t *into, size_t room) {
     FILE *f = fopen(name, "rb");
@@ -52,8 +56,10 @@ int main(int argc, char **argv) {
         file_len = load(argv[i], file, sizeof file);
         ca = (uint32_t)strtoul(argv[i + 1], NULL, 10);
         ioa = (uint32_t)strtoul(argv[i + 2], NULL, 10);
-        size_t n = used(call, stack);
-        printf("%s: answer %u, stack %zu bytes\n", argv[i], (unsigned)answer, n - none);
+        size_t n = used(read_it, stack);
+        printf("%s: read, answer %u, stack %zu bytes\n", argv[i], (unsigned)answer, n - none);
+        n = used(normalise_it, stack);
+        printf("%s: normalise, answer %u, stack %zu bytes\n", argv[i], (unsigned)answer, n - none);
     }
     return 0;
 }

@@ -26,6 +26,42 @@ isFilled (Regulator v) = true
 isFilled (Change v) = true
 isFilled (Reactive v) = true
 
+-- the number of an identifier; 0 of any other value
+abbrev pub numberIn : Value → ℕ
+numberIn Blank = 0
+numberIn (Id n) = n
+numberIn (Unit n) = 0
+numberIn (When d) = 0
+numberIn (Amount v) = 0
+numberIn (Count n) = 0
+numberIn (Reason n) = 0
+numberIn (Note n) = 0
+numberIn (Word w) = 0
+numberIn (Numbers x) = 0
+numberIn (Triples n) = 0
+numberIn (Voltage v) = 0
+numberIn (Regulator v) = 0
+numberIn (Change v) = 0
+numberIn (Reactive v) = 0
+
+-- how many bytes of its room a text has; 0 of any other value
+abbrev pub sizeIn : Value → ℕ
+sizeIn Blank = 0
+sizeIn (Id n) = 0
+sizeIn (Unit n) = n
+sizeIn (When d) = 0
+sizeIn (Amount v) = 0
+sizeIn (Count n) = 0
+sizeIn (Reason n) = n
+sizeIn (Note n) = n
+sizeIn (Word w) = 0
+sizeIn (Numbers x) = 0
+sizeIn (Triples n) = 0
+sizeIn (Voltage v) = 0
+sizeIn (Regulator v) = 0
+sizeIn (Change v) = 0
+sizeIn (Reactive v) = 0
+
 -- a date's instant; 0 of any other value
 abbrev pub instantIn : Value → ℕ
 instantIn Blank = 0

@@ -1,7 +1,7 @@
 // What a rule asks of a value: one question for each shape, with what is said where the value is of another.
 use list::Numbers;
 use value::Value;
-ghost use Rattle.asked.specs.Values.{isFilled, instantIn, amountIn, wordNumber, triplesIn, noneBelow, notNegative};
+ghost use Rattle.asked.specs.Values.{isFilled, numberIn, sizeIn, instantIn, amountIn, wordNumber, triplesIn, noneBelow, notNegative};
 ghost use mathlib.Core.Path.{_≡_};
 
 pub fn is_filled(v: Value) -> bool
@@ -10,6 +10,28 @@ pub fn is_filled(v: Value) -> bool
     match v {
         Value::Blank => false,
         _ => true,
+    }
+}
+
+// The number of an identifier.
+pub fn number_in(v: Value) -> u64
+    ensures { λ r. ⌜ r ≡ numberIn v ⌝ }
+{
+    match v {
+        Value::Id(n) => n,
+        _ => 0,
+    }
+}
+
+// How many bytes of its room a text has.
+pub fn size_in(v: Value) -> usize
+    ensures { λ r. ⌜ r ≡ sizeIn v ⌝ }
+{
+    match v {
+        Value::Unit(n) => n,
+        Value::Reason(n) => n,
+        Value::Note(n) => n,
+        _ => 0,
     }
 }
 

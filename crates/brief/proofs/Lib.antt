@@ -1,4 +1,3 @@
-pub mod Others
 pub mod Fields
 pub mod Sizes
 pub mod Puts

@@ -4,7 +4,7 @@ use Rattle.layout.specs.Layouts.{typeOf}
 use Rattle.name.specs.Types.{codeOf}
 use Rattle.name.specs.declared.MessageType.{MessageType}
 use Rattle.brief.proofs.Sizes.{headText, unitText, startText, endText}
-use Rattle.brief.specs.Brief.{instantText, lineText, sixOf}
+use Rattle.brief.specs.Brief.{lineText, sixOf}
 use Rattle.brief.specs.declared.Brief.{Brief}
 use Rattle.text.proofs.Runs.{puts, puts-of, then, same-puts}
 use Rattle.text.specs.Bytes.{bytes}

@@ -1,6 +1,6 @@
 -- What is told of a record in brief. Document 01, "The program": six lines `key=value`, each ended by LF (10).
 use Prim.Native.Nat.{ℕ}
-use Rattle.asked.specs.Values.{isFilled, instantIn}
+use Rattle.asked.specs.Values.{isFilled, numberIn, sizeIn, instantIn}
 use Rattle.brief.specs.declared.Brief.{Brief}
 use Rattle.layout.specs.Layouts.{typeOf}
 use Rattle.layout.specs.declared.Layout.{Layout}
@@ -11,48 +11,11 @@ use Rattle.record.specs.declared.Record.{Record}
 use Rattle.text.specs.Bytes.{bytes}
 use Rattle.text.specs.Digits.{wholeText}
 use Rattle.value.specs.declared.Value.{Value}
-use Rattle.value.specs.declared.Value.the-variants.{Blank, Id, Unit, When, Amount, Count, Reason, Note, Word, List as Numbers, Triples, Voltage, Regulator, Change, Reactive}
 use lib.ListN.{take}
 use mathlib.Core.Bool.{cond}
 use mathlib.Core.List.{List, [], _∷_, _++_}
 
 -- ---- what is told of a record
-
--- the number of an identifier; 0 of any other value
-abbrev pub numberIn : Value → ℕ
-numberIn Blank = 0
-numberIn (Id n) = n
-numberIn (Unit n) = 0
-numberIn (When d) = 0
-numberIn (Amount v) = 0
-numberIn (Count n) = 0
-numberIn (Reason n) = 0
-numberIn (Note n) = 0
-numberIn (Word w) = 0
-numberIn (Numbers x) = 0
-numberIn (Triples n) = 0
-numberIn (Voltage v) = 0
-numberIn (Regulator v) = 0
-numberIn (Change v) = 0
-numberIn (Reactive v) = 0
-
--- how many bytes a unit's code has; 0 of any other value
-abbrev pub unitSize : Value → ℕ
-unitSize Blank = 0
-unitSize (Id n) = 0
-unitSize (Unit n) = n
-unitSize (When d) = 0
-unitSize (Amount v) = 0
-unitSize (Count n) = 0
-unitSize (Reason n) = 0
-unitSize (Note n) = 0
-unitSize (Word w) = 0
-unitSize (Numbers x) = 0
-unitSize (Triples n) = 0
-unitSize (Voltage v) = 0
-unitSize (Regulator v) = 0
-unitSize (Change v) = 0
-unitSize (Reactive v) = 0
 
 unfoldable pub numberOf : Record → ℕ
 numberOf r = numberIn (fieldOf (r .cells) 1)
@@ -91,7 +54,7 @@ briefOf r =
     record {
       layout = r .layout;
       number = numberOf r;
-      size = unitSize (fieldOf (r .cells) 2);
+      size = sizeIn (fieldOf (r .cells) 2);
       unit = r .unit;
       start = startOf r;
       end = endOf r;

@@ -6,7 +6,7 @@ use text::put;
 use text::scan;
 use value::Value;
 ghost use Prim.Native.Nat.{_+_, _<_};
-ghost use Rattle.brief.specs.Brief.{numberIn, unitSize, endField, instantText, lineText, briefOf, sixOf};
+ghost use Rattle.brief.specs.Brief.{endField, instantText, lineText, briefOf, sixOf};
 ghost use Rattle.name.specs.Types.{codeOf};
 ghost use Rattle.text.specs.Bytes.{bytes};
 ghost use Rattle.text.specs.Digits.{wholeText};
@@ -24,24 +24,6 @@ pub struct Brief {
     pub unit: [u8; 16],
     pub start: Value,
     pub end: Value,
-}
-
-fn number_in(v: Value) -> u64
-    ensures { λ r. ⌜ r ≡ numberIn v ⌝ }
-{
-    match v {
-        Value::Id(n) => n,
-        _ => 0,
-    }
-}
-
-fn unit_size(v: Value) -> usize
-    ensures { λ r. ⌜ r ≡ unitSize v ⌝ }
-{
-    match v {
-        Value::Unit(n) => n,
-        _ => 0,
-    }
 }
 
 // The field with the end: TFIN2 for mFRR.
@@ -71,8 +53,8 @@ pub fn of_record(r: Record) -> Brief
     let unit = r.unit;
     Brief {
         layout,
-        number: number_in(record::field(cells, 1)),
-        size: unit_size(record::field(cells, 2)),
+        number: asked::number_in(record::field(cells, 1)),
+        size: asked::size_in(record::field(cells, 2)),
         unit,
         start: record::field(cells, 3),
         end: record::field(cells, end_field(layout)),

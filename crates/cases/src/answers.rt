@@ -3,6 +3,7 @@ use crate::said;
 use brief::Brief;
 use layout::Layout;
 use reader::Answer;
+use record::Record;
 use request::Part;
 use request::hex;
 use request::hex::Decoded;
@@ -13,6 +14,7 @@ use said::say_unknown;
 use text::digits::Digits;
 use text::scan;
 use value::Value;
+use writer::Written;
 ghost use lib.ListN.{length};
 ghost use mathlib.Core.Path.{_≡_};
 
@@ -55,16 +57,31 @@ fn say_brief(b: Brief) {
     say_instant(end);
 }
 
+fn say_refusal(number: u8, detail: usize) {
+    say(b"R ");
+    say_number(number as u64);
+    say(b" ");
+    say_number(detail as u64);
+}
+
+// The written form of a record: none has more than 8,192 bytes.
+fn say_written(r: Record) {
+    let mut out = [0u8; 8192];
+    match writer::write(r, &mut out) {
+        Written::Length(n) => say_hex(scan::front(&out, n)),
+        Written::Refused(number, detail) => say_refusal(number, detail),
+    }
+}
+
 fn say_answer(a: Answer) {
     if a.number == 0 {
         let body = a.body;
         say_brief(brief::of_record(body));
+        say(b" ");
+        say_written(body);
         return;
     }
-    say(b"R ");
-    say_number(a.number as u64);
-    say(b" ");
-    say_number(a.detail as u64);
+    say_refusal(a.number, a.detail);
 }
 
 // A plan, an address and a file, decoded where they stand in the line.
@@ -134,24 +151,54 @@ fn run_read(line: &mut [u8], places: [Part; 8]) {
     ));
 }
 
-// The largest buffer of the entry, each byte of which is AA hex.
+// The largest buffer of an entry, each byte of which is AA hex.
 fn untouched() -> [u8; 65536]
     ensures { λ r. ⌜ 65536 ≡ length r ⌝ }
 {
     [170; 65536]
 }
 
-// The entry's answer, and the whole buffer after it.
-fn say_entry(a: Asked, plan: &[u8], file: &[u8], out: &mut [u8]) {
-    let n = gateway::halimpung_read(a.ca, a.ioa, plan, file, out);
+// What is asked of a file and a buffer: the normaliser, or one of the two entries.
+enum Roomed {
+    Norm,
+    Cread,
+    Cnorm,
+}
+
+// The normaliser's answer, and what it wrote.
+fn say_normal(a: Asked, plan: &[u8], file: &[u8], out: &mut [u8]) {
+    match writer::normalise(a.ca, a.ioa, plan, file, out) {
+        Written::Length(n) => {
+            say(b"OK ");
+            say_number(n as u64);
+            say(b" ");
+            say_hex(scan::front(out, n));
+        }
+        Written::Refused(number, detail) => say_refusal(number, detail),
+    }
+}
+
+// An entry's answer, and the whole buffer after it.
+fn say_entry(n: u32, out: &[u8]) {
     say(b"N ");
     say_number(n as u64);
     say(b" ");
     say_hex(out);
 }
 
-// `cread PLAN CA IOA FILE ROOM`
-fn run_cread(line: &mut [u8], places: [Part; 8]) {
+fn say_roomed(key: Roomed, a: Asked, plan: &[u8], file: &[u8], out: &mut [u8]) {
+    match key {
+        Roomed::Norm => say_normal(a, plan, file, out),
+        Roomed::Cread => say_entry(gateway::halimpung_read(a.ca, a.ioa, plan, file, out), out),
+        Roomed::Cnorm => say_entry(
+            gateway::halimpung_normalise(a.ca, a.ioa, plan, file, out),
+            out,
+        ),
+    }
+}
+
+// `norm PLAN CA IOA FILE ROOM`, `cread ..` and `cnorm ..`
+fn run_roomed(key: Roomed, line: &mut [u8], places: [Part; 8]) {
     let a = asked_of(line, places);
     let plan = a.plan;
     let file = a.file;
@@ -169,7 +216,8 @@ fn run_cread(line: &mut [u8], places: [Part; 8]) {
     }
     let size = room as usize;
     let mut space = untouched();
-    say_entry(
+    say_roomed(
+        key,
         a,
         request::text_of(line, plan),
         request::text_of(line, file),
@@ -211,14 +259,24 @@ fn answer(line: &mut [u8]) {
     let places = f.places;
     let key = request::text_of(line, places[0]);
     let is_read = (f.count == 5) & scan::same(key, b"read");
+    let is_norm = (f.count == 6) & scan::same(key, b"norm");
     let is_cread = (f.count == 6) & scan::same(key, b"cread");
+    let is_cnorm = (f.count == 6) & scan::same(key, b"cnorm");
     let is_prog = (f.count == 3) & scan::same(key, b"prog");
     if is_read {
         run_read(line, places);
         return;
     }
+    if is_norm {
+        run_roomed(Roomed::Norm, line, places);
+        return;
+    }
     if is_cread {
-        run_cread(line, places);
+        run_roomed(Roomed::Cread, line, places);
+        return;
+    }
+    if is_cnorm {
+        run_roomed(Roomed::Cnorm, line, places);
         return;
     }
     if is_prog {

@@ -20,7 +20,7 @@ front-put t part room n h e f g =
 
 module _ (out : List ℕ) where
   abbrev Ends : Answer → ℕ → List ℕ → Type 0
-  Ends a r out₂ = (r ≡ codeOf a (length out)) × (out₂ ≡ outOf a out)
+  Ends a r out₂ = (r ≡ codeOf sixLines a (length out)) × (out₂ ≡ outOf sixLines a out)
 
   -- what holds of the answer holds of what the reader's definition gives
   pub as-read : (a b : Answer) (r : ℕ) (out₂ : List ℕ) → a ≡ b → Ends a r out₂ → Ends b r out₂

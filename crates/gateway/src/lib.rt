@@ -1,16 +1,19 @@
 // What the gateway's host calls from C: numbers and byte slices only. Each slice goes as a pointer and a length (host/include/halimpung.h).
 use text::put;
 use text::scan;
+use writer::Written;
+ghost use Rattle.brief.specs.Brief.{sixLines};
 ghost use Rattle.gateway.specs.Entry.{codeOf, outOf};
 ghost use Rattle.reader.specs.Reader.{readOf};
+ghost use Rattle.written.specs.Written.{fileOf};
 ghost use lib.ListN.{length};
 ghost use mathlib.Core.Path.{_≡_};
 
 // Reads a file at an address of a plan, and writes the six lines of its record into out.
 #[no_mangle]
 pub extern "C" fn halimpung_read(ca: u32, ioa: u32, plan: &[u8], file: &[u8], out: &mut [u8]) -> u32
-    ensures { λ r. ⌜ (r ≡ codeOf (readOf ca ioa (now (plan .entry)) (now (file .entry))) (length (now (out .entry))))
-        × (now (out .exit) ≡ outOf (readOf ca ioa (now (plan .entry)) (now (file .entry))) (now (out .entry))) ⌝ }
+    ensures { λ r. ⌜ (r ≡ codeOf sixLines (readOf ca ioa (now (plan .entry)) (now (file .entry))) (length (now (out .entry))))
+        × (now (out .exit) ≡ outOf sixLines (readOf ca ioa (now (plan .entry)) (now (file .entry))) (now (out .entry))) ⌝ }
 {
     let answer = reader::read(ca, ioa, plan, file);
     if answer.number != 0 {
@@ -25,4 +28,22 @@ pub extern "C" fn halimpung_read(ca: u32, ioa: u32, plan: &[u8], file: &[u8], ou
     }
     put::put_text(out, 0, scan::front(&lines, size));
     length
+}
+
+// Brings a file to the written form of its record, and writes that into out.
+#[no_mangle]
+pub extern "C" fn halimpung_normalise(
+    ca: u32,
+    ioa: u32,
+    plan: &[u8],
+    file: &[u8],
+    out: &mut [u8],
+) -> u32
+    ensures { λ r. ⌜ (r ≡ codeOf fileOf (readOf ca ioa (now (plan .entry)) (now (file .entry))) (length (now (out .entry))))
+        × (now (out .exit) ≡ outOf fileOf (readOf ca ioa (now (plan .entry)) (now (file .entry))) (now (out .entry))) ⌝ }
+{
+    match writer::normalise(ca, ioa, plan, file, out) {
+        Written::Length(n) => n as u32,
+        Written::Refused(number, detail) => number as u32 * 65536 + detail as u32,
+    }
 }

@@ -47,6 +47,20 @@ row-some VoltVar = leb-true _ _ refl
 row-some Rejection = leb-true _ _ refl
 row-some Reserve = leb-true _ _ refl
 
+-- every row begins with field 1
+pub first-field : (l : Layout) → getD (rowFields l) 0 0 ≡ 1
+unfolding rowFields
+first-field Market = refl
+first-field Mfrr = refl
+first-field Revocation = refl
+first-field Generic = refl
+first-field Exclusion = refl
+first-field Limitation = refl
+first-field Secondary = refl
+first-field VoltVar = refl
+first-field Rejection = refl
+first-field Reserve = refl
+
 -- ---- they are fields of the layout
 
 all-fields : (l : Layout) → all (within 1 (sizeOf l)) (rowFields l) ≡ true

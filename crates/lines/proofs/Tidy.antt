@@ -20,14 +20,14 @@ use native.Mathlib.Omega.{arith}
 -- ---- what holds of all holds of all that is cut out
 
 module _ {A : Type 0} (p q : A → Bool) where
-  all-upto : (s : List A) → all q s ≡ true → all q (upto p s) ≡ true
+  pub all-upto : (s : List A) → all q s ≡ true → all q (upto p s) ≡ true
   unfolding all upto
   all-upto [] h = refl
   all-upto (x ∷ s) h =
       let o = and-parts (q x) (all q s) h in
       by-test (p x) (λ e. rw e) (λ e. rw e (rw (o .0) (all-upto s (o .1))))
 
-  all-past : (s : List A) → all q s ≡ true → all q (past p s) ≡ true
+  pub all-past : (s : List A) → all q s ≡ true → all q (past p s) ≡ true
   unfolding all past
   all-past [] h = refl
   all-past (x ∷ s) h =

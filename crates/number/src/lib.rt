@@ -104,13 +104,13 @@ pub fn read(s: &[u8]) -> Number
     Number::Is(signed(false, n))
 }
 
-fn magnitude(v: i32) -> u64
-    ensures { λ r. ⌜ r ≡ natAbs v ⌝ }
+fn magnitude(x: i32) -> u64
+    ensures { λ r. ⌜ r ≡ natAbs x ⌝ }
 {
-    if v < 0 {
-        (-(v as i64)) as u64
+    if x < 0 {
+        (-(x as i64)) as u64
     } else {
-        v as u64
+        x as u64
     }
 }
 

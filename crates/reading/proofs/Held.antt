@@ -3,11 +3,9 @@
 use Prim.Native.Nat.{ℕ, zero, suc, _≤_, _<_}
 use Rattle.fill.proofs.Stored.{kept-in-room, record-stored}
 use Rattle.layout.proofs.Labels.{kinds-length, kind-at}
-use Rattle.layout.specs.Fields.{command, technical, market, mfrr, rc, mg, eb, lb, sr, vq, ri, qr}
-use Rattle.layout.specs.Layouts.{fieldsOf, kindsOf, noKind, typeOf}
+use Rattle.layout.specs.Layouts.{kindsOf, noKind, typeOf}
 use Rattle.layout.specs.Rows.{textAt}
 use Rattle.layout.specs.declared.Layout.{Layout}
-use Rattle.layout.specs.declared.Layout.the-variants.{Market, Mfrr, Revocation, Generic, Exclusion, Limitation, Secondary, VoltVar, Rejection, Reserve}
 use Rattle.list.specs.Forms.{numberIn, oneOf, oneIn, tripleIs, noTriple, gradientsIn, gradientsOf, readOf}
 use Rattle.list.specs.Lists.{cutAt, before, everyOf, counted, someOf}
 use Rattle.list.specs.declared.One.{One}
@@ -15,6 +13,7 @@ use Rattle.list.specs.declared.One.the-variants.{No}
 use Rattle.name.proofs.RoundTrip.{unit-size}
 use Rattle.name.specs.Names.{isUnit}
 use Rattle.name.specs.declared.MessageType.{MessageType}
+use Rattle.record.proofs.Places.{At, unit-at, reason-at, note-at}
 use Rattle.record.specs.Records.{Typed, joined, typed, reasonField, noteField, gradientsField, recordOf, roomsOf}
 use Rattle.record.specs.Records.Typed.{bad, good}
 use Rattle.record.specs.declared.Record.{Record}
@@ -35,13 +34,13 @@ use Rattle.value.specs.declared.Shape.{Shape}
 use Rattle.value.specs.declared.Shape.the-variants.{IsUnit, IsReason, IsNote}
 use Rattle.value.specs.declared.Value.{Value}
 use Rattle.value.specs.declared.Value.the-variants.{Blank, Reason, Note, Unit as UnitOf}
-use borrow.Author.Tests.{le-leb, leb-true, ltb-true, eqb-true}
+use borrow.Author.Tests.{le-leb, leb-true, eqb-true}
 use lib.Dec.{eqb, leb}
 use lib.IntN.{ℤ}
 use lib.ListN.{length, getD, replicate}
 use mathlib.Core.Bool.{Bool, true, false, _&&_, cond}
 use mathlib.Core.List.{List, [], _∷_, map}
-use mathlib.Core.Logic.{_⊎_, inl, inr, ⊎-elim}
+use mathlib.Core.Logic.{_⊎_, ⊎-elim}
 use mathlib.Core.Option.{Option, none, some}
 use mathlib.Core.Path.{_≡_, refl, sym, ap, _∙_, subst}
 use native.Mathlib.Omega.{arith}
@@ -140,54 +139,6 @@ module _ (t : MessageType) (r : Rooms) (s : List ℕ) (v : Value) where
       kind-kept 256 k IsNote q e
       (λ z. made-kept 256 (leb (length s) 256) (Note (length s)) z (λ u. let h = leb-true (length s) 256 u in (h, i .front h)))
 
--- ---- the tables: where the unit, the reason and the note stand
-
--- the field k of the layout is of the shape a
-record At (l : Layout) (a : Shape) (k : ℕ) : Type 0 where
-  place : ℕ
-  field-is : k ≡ suc place
-  inside : place < length (kindsOf l)
-  shape-is : getD (kindsOf l) place noKind .shape ≡ a
-
-unit-at : (l : Layout) → At l IsUnit 2
-unfolding kindsOf fieldsOf market command technical mfrr rc mg eb lb sr vq ri qr
-unit-at Market = record { place = 1; field-is = refl; inside = ltb-true _ _ refl; shape-is = refl }
-unit-at Mfrr = record { place = 1; field-is = refl; inside = ltb-true _ _ refl; shape-is = refl }
-unit-at Revocation = record { place = 1; field-is = refl; inside = ltb-true _ _ refl; shape-is = refl }
-unit-at Generic = record { place = 1; field-is = refl; inside = ltb-true _ _ refl; shape-is = refl }
-unit-at Exclusion = record { place = 1; field-is = refl; inside = ltb-true _ _ refl; shape-is = refl }
-unit-at Limitation = record { place = 1; field-is = refl; inside = ltb-true _ _ refl; shape-is = refl }
-unit-at Secondary = record { place = 1; field-is = refl; inside = ltb-true _ _ refl; shape-is = refl }
-unit-at VoltVar = record { place = 1; field-is = refl; inside = ltb-true _ _ refl; shape-is = refl }
-unit-at Rejection = record { place = 1; field-is = refl; inside = ltb-true _ _ refl; shape-is = refl }
-unit-at Reserve = record { place = 1; field-is = refl; inside = ltb-true _ _ refl; shape-is = refl }
-
-reason-at : (l : Layout) → (reasonField l ≡ 0) ⊎ At l IsReason (reasonField l)
-unfolding kindsOf fieldsOf market command technical mfrr rc mg eb lb sr vq ri qr
-reason-at Market = inl refl
-reason-at Mfrr = inl refl
-reason-at Revocation = inl refl
-reason-at Generic = inr (record { place = 4; field-is = refl; inside = ltb-true _ _ refl; shape-is = refl })
-reason-at Exclusion = inr (record { place = 4; field-is = refl; inside = ltb-true _ _ refl; shape-is = refl })
-reason-at Limitation = inr (record { place = 6; field-is = refl; inside = ltb-true _ _ refl; shape-is = refl })
-reason-at Secondary = inr (record { place = 6; field-is = refl; inside = ltb-true _ _ refl; shape-is = refl })
-reason-at VoltVar = inl refl
-reason-at Rejection = inr (record { place = 4; field-is = refl; inside = ltb-true _ _ refl; shape-is = refl })
-reason-at Reserve = inl refl
-
-note-at : (l : Layout) → (noteField l ≡ 0) ⊎ At l IsNote (noteField l)
-unfolding kindsOf fieldsOf market command technical mfrr rc mg eb lb sr vq ri qr
-note-at Market = inl refl
-note-at Mfrr = inl refl
-note-at Revocation = inl refl
-note-at Generic = inr (record { place = 5; field-is = refl; inside = ltb-true _ _ refl; shape-is = refl })
-note-at Exclusion = inr (record { place = 5; field-is = refl; inside = ltb-true _ _ refl; shape-is = refl })
-note-at Limitation = inr (record { place = 7; field-is = refl; inside = ltb-true _ _ refl; shape-is = refl })
-note-at Secondary = inr (record { place = 7; field-is = refl; inside = ltb-true _ _ refl; shape-is = refl })
-note-at VoltVar = inr (record { place = 11; field-is = refl; inside = ltb-true _ _ refl; shape-is = refl })
-note-at Rejection = inr (record { place = 5; field-is = refl; inside = ltb-true _ _ refl; shape-is = refl })
-note-at Reserve = inr (record { place = 7; field-is = refl; inside = ltb-true _ _ refl; shape-is = refl })
-
 -- ---- the record of a column
 
 map-at : (f : Value → List ℕ) → f Blank ≡ [] → (vs : List Value) (j : ℕ) → getD (map f vs) j [] ≡ f (getD vs j Blank)
@@ -209,7 +160,7 @@ no-triples : gradientsIn [] .list .values ≡ replicate 16 noTriple
 unfolding gradientsIn readOf gradientsOf someOf everyOf cutAt counted before trim skip skipEnd
 no-triples = ap (λ (o : One). readOf (counted 1 16 (before (tripleIs o) (some []))) .list .values) no-triple
 
-no-gradients : (col : List (List ℕ)) (k : ℕ) → k ≡ 0 → gradientsIn (textAt col k) .list .values ≡ replicate 16 noTriple
+pub no-gradients : (col : List (List ℕ)) (k : ℕ) → k ≡ 0 → gradientsIn (textAt col k) .list .values ≡ replicate 16 noTriple
 no-gradients col k e = ap (λ (n : ℕ). gradientsIn (textAt col n) .list .values) e ∙ no-triples
 
 kept-empty : (n : ℕ) → keptIn n [] ≡ roomOf n []
@@ -233,26 +184,37 @@ module _ (l : Layout) (col : List (List ℕ)) (vs : List Value) (read : typed 1 
   unfolding textsOf valueText recordOf
   text-of j = map-at (valueText (typeOf l) room) refl vs j
 
-  -- the room of a field: its text is the text of its value
-  room-of : (n : ℕ) (a : Shape) (k : ℕ) → At l a k
-      → ((d : Kind) (v : Value) → d .shape ≡ a → valueOf d (textAt col k) ≡ Read v → KeptAs (typeOf l) room n (textAt col k) v)
-      → keptIn n (textAt col k) ≡ roomOf n (textAt (textsOf body vs) k)
-  unfolding keptIn
-  room-of n a k w f =
+  -- a field whose text is kept in a room of n bytes
+  abbrev KeptAt : ℕ → Shape → ℕ → Type 0
+  KeptAt n a k = (d : Kind) (v : Value) → d .shape ≡ a → valueOf d (textAt col k) ≡ Read v → KeptAs (typeOf l) room n (textAt col k) v
+
+  -- its text is short, and is the text of its value
+  kept-at : (n : ℕ) (a : Shape) (k : ℕ) → At l a k → KeptAt n a k → (length (textAt col k) ≤ n) × (textAt (textsOf body vs) k ≡ textAt col k)
+  kept-at n a k w f =
       let j = w .place in
       let e = w .field-is in
       let p = f (getD (kindsOf l) j noKind) (getD vs j Blank) (w .shape-is) (rw e (read-at reads j (w .inside))) in
-      let q : textAt (textsOf body vs) k ≡ textAt col k = rw e (text-of j) ∙ p .1 in
-      rw (le-leb (length (textAt col k)) n (p .0)) (ap (roomOf n) (sym q))
+      (p .0, rw e (text-of j) ∙ p .1)
+
+  room-of : (n : ℕ) (a : Shape) (k : ℕ) → At l a k → KeptAt n a k → keptIn n (textAt col k) ≡ roomOf n (textAt (textsOf body vs) k)
+  unfolding keptIn
+  room-of n a k w f =
+      let p = kept-at n a k w f in
+      rw (le-leb (length (textAt col k)) n (p .0)) (ap (roomOf n) (sym (p .1)))
 
   -- and where there is no such field, it is empty
   no-room : (n k : ℕ) → k ≡ 0 → keptIn n (textAt col k) ≡ roomOf n (textAt (textsOf body vs) k)
   no-room n k e = rw e (kept-empty n)
 
-  unit-room : keptIn 16 (textAt col 2) ≡ roomOf 16 (textAt (textsOf body vs) 2)
+  unit-is-kept : KeptAt 16 IsUnit 2
   unfolding recordOf
-  unit-room =
-      room-of 16 IsUnit 2 (unit-at l) (λ d v q e. unit-kept (typeOf l) room (textAt col 2) v d q e (kept-in-room 16 (textAt col 2)))
+  unit-is-kept d v q e = unit-kept (typeOf l) room (textAt col 2) v d q e (kept-in-room 16 (textAt col 2))
+
+  unit-room : keptIn 16 (textAt col 2) ≡ roomOf 16 (textAt (textsOf body vs) 2)
+  unit-room = room-of 16 IsUnit 2 (unit-at l) unit-is-kept
+
+  pub unit-text : textAt (textsOf body vs) 2 ≡ textAt col 2
+  unit-text = kept-at 16 IsUnit 2 (unit-at l) unit-is-kept .1
 
   reason-room : keptIn 128 (textAt col (reasonField l)) ≡ roomOf 128 (textAt (textsOf body vs) (reasonField l))
   unfolding recordOf

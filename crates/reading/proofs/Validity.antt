@@ -26,7 +26,7 @@ use mathlib.Core.Path.{_≡_, refl, sym, ap, _∙_, subst}
 
 -- ---- a message
 
-good-of : (t : Typed) → isBad t ≡ false → t ≡ good (goodOf t)
+pub good-of : (t : Typed) → isBad t ≡ false → t ≡ good (goodOf t)
 good-of (bad k) e = absurd (false≢true (sym e))
 good-of (good vs) e = refl
 
@@ -39,7 +39,7 @@ body-valid l col e neat z =
       valid = record-valid l col (goodOf (valuesOf l col)) (good-of (valuesOf l col) e) neat z;
     }
 
-tidy-body : (t : MessageType) (file : List ℕ) → allowedUpto file ≡ length file → all tidy (bodyColumn t file) ≡ true
+pub tidy-body : (t : MessageType) (file : List ℕ) → allowedUpto file ≡ length file → all tidy (bodyColumn t file) ≡ true
 unfolding entriesIn given
 tidy-body t file h = column-tidy 1 (labelsOf (layoutIn t (given file))) file h
 

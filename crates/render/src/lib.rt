@@ -12,24 +12,25 @@ use text::scan;
 use value::Value;
 use word;
 ghost use Prim.Native.Nat.{_+_, _<_};
+ghost use Rattle.render.specs.Rooms.{Narrow};
 ghost use Rattle.text.specs.Puts.{limit, wroteOf, bufferOf};
 ghost use Rattle.value.specs.Texts.{rooms, valueText};
 ghost use lib.ListN.{length};
 ghost use lib.Seq.{sets};
 ghost use mathlib.Core.Path.{_≡_};
 
-// The text of a value, put at a place; the bytes of texts and the triples come from their rooms.
+// The text of a value, put at a place; the bytes of texts and the triples come from their rooms, which are a record's or parts of a file.
 pub fn put_value(
     out: &mut [u8],
     at: usize,
     t: MessageType,
     v: Value,
-    unit: &[u8; 16],
-    reason: &[u8; 128],
-    note: &[u8; 256],
+    unit: &[u8],
+    reason: &[u8],
+    note: &[u8],
     gradients: [Triple; 16],
 ) -> usize
-    requires { ⌜ at + 2000 < limit ⌝ }
+    requires { ⌜ (at + 2000 < limit) × Narrow (now unit) (now reason) (now note) ⌝ }
     ensures { λ r. ⌜ (r ≡ at + length (valueText t (rooms (now (unit .entry)) (now (reason .entry)) (now (note .entry)) gradients) v))
         × (now (out .exit) ≡ sets (now (out .entry)) at (valueText t (rooms (now (unit .entry)) (now (reason .entry)) (now (note .entry)) gradients) v)) ⌝ }
 {

@@ -1,12 +1,12 @@
 -- The fields of a row, compared one by one with the places of their values, and what stands after them. Assumes nothing.
 use Prim.Native.Nat.{ℕ, zero, suc, _+_, _≤_, _<_}
 use Rattle.layout.proofs.Labels.{few}
-use Rattle.layout.proofs.Rows.{row-some, row-fields}
+use Rattle.layout.proofs.Rows.{first-field, row-some, row-fields}
 use Rattle.layout.specs.Fields.{command, technical, sr}
 use Rattle.layout.specs.Layouts.{fieldsOf, sizeOf}
 use Rattle.layout.specs.Rows.{rowFields, textAt, halves, bandsIn, piecesOf, tailText, rowText, rowOf}
 use Rattle.layout.specs.declared.Layout.{Layout}
-use Rattle.layout.specs.declared.Layout.the-variants.{Market, Mfrr, Revocation, Generic, Exclusion, Limitation, Secondary, VoltVar, Rejection, Reserve}
+use Rattle.layout.specs.declared.Layout.the-variants.{Secondary}
 use Rattle.lines.proofs.Columns.{column-at}
 use Rattle.lines.specs.Places.{Placed, partOf, spanAt, columnIn}
 use Rattle.lines.specs.declared.Span.{Span}
@@ -25,20 +25,6 @@ use native.Mathlib.Numerals.{add-one}
 use native.Mathlib.Omega.{arith}
 
 -- ---- the texts of a row's fields
-
--- every row begins with field 1
-first-field : (l : Layout) → getD (rowFields l) 0 0 ≡ 1
-unfolding rowFields
-first-field Market = refl
-first-field Mfrr = refl
-first-field Revocation = refl
-first-field Generic = refl
-first-field Exclusion = refl
-first-field Limitation = refl
-first-field Secondary = refl
-first-field VoltVar = refl
-first-field Rejection = refl
-first-field Reserve = refl
 
 map-length : {A B : Type 0} (f : A → B) (l : List A) → length (map f l) ≡ length l
 map-length f [] = refl

@@ -1,15 +1,10 @@
--- Steps that the code of the rules takes: `==` of two tests, the lowest broken rule, the loop over triples.
+-- Steps that the code of the rules takes: `==` of two tests, the lowest broken rule.
 -- Assumes nothing.
-use Prim.Native.Nat.{ℕ, _+_, _≤_, _<_}
+use Prim.Native.Nat.{ℕ}
 use Rattle.rules.specs.Rules.{iff, Rule, rule, lowest}
-use Rattle.text.proofs.Cuts.{all-here, all-on, all-end}
-use Rattle.text.specs.Bytes.{all}
-use lib.ListN.{length, getD, take, drop, length-take}
-use lib.Seq.{getD-take}
 use mathlib.Core.Bool.{Bool, true, false, Bool·beq}
 use mathlib.Core.List.{List, [], _∷_}
 use mathlib.Core.Path.{_≡_, refl, ap₂, _∙_}
-use native.Mathlib.Omega.{arith}
 
 -- ---- tests
 
@@ -39,22 +34,3 @@ module _ (n : ℕ) (b : Bool) (rs : List Rule) where
 pub lowest-none : 0 ≡ lowest []
 unfolding lowest
 lowest-none = refl
-
--- ---- the first n of a list, one by one
-
-module _ {A : Type 0} (p : A → Bool) (d : A) (n : ℕ) (s : List A) (i : ℕ) (h : i < length s) (k : i < n) where
-  short : i < length (take n s)
-  short = rw length-take (omega arith)
-
-  pub front-here : p (getD s i d) ≡ false → all p (drop i (take n s)) ≡ false
-  front-here e = all-here p d (take n s) i short (rw (getD-take n s i d k) e)
-
-  pub front-on : p (getD s i d) ≡ true → all p (drop i (take n s)) ≡ all p (drop (i + 1) (take n s))
-  front-on e = all-on p d (take n s) i short (rw (getD-take n s i d k) e)
-
--- none is left of the n, or of the list
-pub front-done : {A : Type 0} (p : A → Bool) (n : ℕ) (s : List A) (i : ℕ) → n ≤ i → all p (drop i (take n s)) ≡ true
-front-done p n s i h = all-end p (take n s) i (rw length-take (omega arith))
-
-pub front-end : {A : Type 0} (p : A → Bool) (n : ℕ) (s : List A) (i : ℕ) → length s ≤ i → all p (drop i (take n s)) ≡ true
-front-end p n s i h = all-end p (take n s) i (rw length-take (omega arith))

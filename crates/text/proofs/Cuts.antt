@@ -6,7 +6,7 @@ use Rattle.text.specs.Bytes.{part, same, upto, past, any, all, skip, sta
 use borrow.Author.Tests.{eq-eqb, ne-eqb, eqb-true}
 use lib.Dec.{eqb}
 use lib.ListN.{length, getD, take, drop, length-drop, length-take, drop-of-length-le}
-use lib.Seq.{drop-cons, take-all, drop-drop, take-take, take-nil}
+use lib.Seq.{drop-cons, getD-take, take-all, drop-drop, take-take, take-nil}
 use mathlib.Core.Bool.{Bool, true, false, false≢true}
 use mathlib.Core.List.{List, [], _∷_, _++_}
 use mathlib.Core.Path.{_≡_, refl, sym, ap, ap₂, _∙_}
@@ -85,6 +85,25 @@ skip-none p s i h = rw (drop-of-length-le s h)
 pub all-end : {A : Type 0} (p : A → Bool) (s : List A) (i : ℕ) → length s ≤ i → all p (drop i s) ≡ true
 unfolding all
 all-end p s i h = rw (drop-of-length-le s h)
+
+-- ---- the first n of a list, one by one
+
+module _ {A : Type 0} (p : A → Bool) (d : A) (n : ℕ) (s : List A) (i : ℕ) (h : i < length s) (k : i < n) where
+  short : i < length (take n s)
+  short = rw length-take (omega arith)
+
+  pub front-here : p (getD s i d) ≡ false → all p (drop i (take n s)) ≡ false
+  front-here e = all-here p d (take n s) i short (rw (getD-take n s i d k) e)
+
+  pub front-on : p (getD s i d) ≡ true → all p (drop i (take n s)) ≡ all p (drop (i + 1) (take n s))
+  front-on e = all-on p d (take n s) i short (rw (getD-take n s i d k) e)
+
+-- none is left of the n, or of the list
+pub front-done : {A : Type 0} (p : A → Bool) (n : ℕ) (s : List A) (i : ℕ) → n ≤ i → all p (drop i (take n s)) ≡ true
+front-done p n s i h = all-end p (take n s) i (rw length-take (omega arith))
+
+pub front-end : {A : Type 0} (p : A → Bool) (n : ℕ) (s : List A) (i : ℕ) → length s ≤ i → all p (drop i (take n s)) ≡ true
+front-end p n s i h = all-end p (take n s) i (rw length-take (omega arith))
 
 -- ---- what is cut off, by its place
 

@@ -62,6 +62,10 @@ same-if {a = true} p q f g = sym (q .1 (f (p .0 refl)))
 same-if {a = false} {b = true} p q f g = p .1 (g (q .0 refl))
 same-if {a = false} {b = false} p q f g = refl
 
+-- a test that tells a fact tells each that says the same
+pub told : {A B : Type 0} {t : Bool} → Tells t A → (A → B) → (B → A) → Tells t B
+told p f g = (λ e. f (p .0 e), λ b. p .1 (g b))
+
 -- a test that is not told is false
 pub untold : {A : Type 0} {t : Bool} → Tells t A → (A → ⊥) → t ≡ false
 untold {t = true} p h = absurd (h (p .0 refl))

@@ -13,8 +13,8 @@ number-in-requires c κs = search needs
 field-requires-2 : tie.Need-field-requires-2
 field-requires-2 c κs = search needs
 
-unit-size-requires : tie.Need-unit-size-requires
-unit-size-requires c κs = search needs
+size-in-requires : tie.Need-size-in-requires
+size-in-requires c κs = search needs
 
 field-requires-3 : tie.Need-field-requires-3
 field-requires-3 c κs = search needs
@@ -26,7 +26,7 @@ field-requires-4 : tie.Need-field-requires-4
 field-requires-4 c κs = end-within (c .before .before .before .before .before .before .before .before .args .r .layout) _ (c .end-field .ensures)
 
 returns : tie.Need-returns
-returns c = brief-is (c .before .before .before .before .before .before .before .before .before .args .r) _ _ _ _ _ _ _ (c .before .before .before .before .before .before .field .ensures) (c .before .before .before .before .before .number-in .ensures) (c .before .before .before .before .field2 .ensures) (c .before .before .before .unit-size .ensures) (c .before .before .field3 .ensures) (c .before .end-field .ensures) (c .field4 .ensures)
+returns c = brief-is (c .before .before .before .before .before .before .before .before .before .args .r) _ _ _ _ _ _ _ (c .before .before .before .before .before .before .field .ensures) (c .before .before .before .before .before .number-in .ensures) (c .before .before .before .before .field2 .ensures) (c .before .before .before .size-in .ensures) (c .before .before .field3 .ensures) (c .before .end-field .ensures) (c .field4 .ensures)
 
 pub of-record-spec : {M : Type 1} → statement M
 of-record-spec =
@@ -35,7 +35,7 @@ of-record-spec =
     field-requires
     number-in-requires
     field-requires-2
-    unit-size-requires
+    size-in-requires
     field-requires-3
     end-field-requires
     field-requires-4

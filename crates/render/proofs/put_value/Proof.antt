@@ -1,5 +1,4 @@
 -- Each arm puts the text of its value.
-use Prim.Native.Nat.{_≤_}
 use Rattle.date.proofs.Back.{date-length}
 use Rattle.date.specs.Date.{dateText}
 use Rattle.name.proofs.RoundTrip.{identifier-length}
@@ -11,7 +10,6 @@ use Rattle.render.proofs.put_value.Tie as tie
 use Rattle.value.specs.Texts.{valueText}
 use Rattle.word.proofs.put.Reads as put-reads′′
 use borrow.Author.Needs.{needs}
-use lib.ListN.{length}
 use mathlib.Core.Path.{refl}
 use mir.Syntax.{w32}
 use mir.Val.{SFits}
@@ -35,9 +33,8 @@ front-requires c κs = search needs
 
 put-text-requires : tie.Need-put-text-requires
 put-text-requires c κs =
-    let u = c .before .before .before .before .before .before .before .args .unit .now in
-    let h : length u ≤ 256 = search needs in
-    front-fits u _ _ (c .before .before .before .before .v2 .given .0 .0) (c .front .ensures) h (c .before .before .before .before .before .before .before .pre)
+    let h = c .before .before .before .before .before .before .before .before .before .pre in
+    front-fits (c .before .before .before .before .before .before .before .before .before .args .unit .now) _ _ (c .before .before .before .v2 .given .0 .0) (c .front .ensures) (omega (arith, h .1 .unit-few)) (h .0)
 
 enum-known-v-3 : tie.Need-enum-known-v-3
 enum-known-v-3 c = search needs
@@ -65,9 +62,8 @@ front-requires-2 c κs = search needs
 
 put-text-requires-2 : tie.Need-put-text-requires-2
 put-text-requires-2 c κs =
-    let u = c .before .before .before .before .before .before .before .args .reason .now in
-    let h : length u ≤ 256 = search needs in
-    front-fits u _ _ (c .before .before .before .before .v6 .given .0 .0) (c .front2 .ensures) h (c .before .before .before .before .before .before .before .pre)
+    let h = c .before .before .before .before .before .before .before .before .before .pre in
+    front-fits (c .before .before .before .before .before .before .before .before .before .args .reason .now) _ _ (c .before .before .before .v6 .given .0 .0) (c .front2 .ensures) (omega (arith, h .1 .reason-few)) (h .0)
 
 enum-known-v-7 : tie.Need-enum-known-v-7
 enum-known-v-7 c = search needs
@@ -77,9 +73,8 @@ front-requires-3 c κs = search needs
 
 put-text-requires-3 : tie.Need-put-text-requires-3
 put-text-requires-3 c κs =
-    let u = c .before .before .before .before .before .before .before .args .note .now in
-    let h : length u ≤ 256 = search needs in
-    front-fits u _ _ (c .before .before .before .before .v7 .given .0 .0) (c .front3 .ensures) h (c .before .before .before .before .before .before .before .pre)
+    let h = c .before .before .before .before .before .before .before .before .before .pre in
+    front-fits (c .before .before .before .before .before .before .before .before .before .args .note .now) _ _ (c .before .before .before .v7 .given .0 .0) (c .front3 .ensures) (omega (arith, h .1 .note-few)) (h .0)
 
 enum-known-v-8 : tie.Need-enum-known-v-8
 enum-known-v-8 c = search needs
@@ -133,7 +128,7 @@ same-length c = search needs
 returns-2 : tie.Need-returns-2
 unfolding valueText
 returns-2 c =
-    let t = c .before .before .before .before .before .before .before .before .args .t in
+    let t = c .before .before .before .before .before .before .before .before .before .before .before .args .t in
     let n = c .before .before .before .before .before .v .given .0 .0 in
     shown _ _ _ _ _ _ _ _ _ (c .before .before .before .before .before .v .given .1) refl (sized _ _ _ _ (identifierText t n) 13 (identifier-length t n) (c .before .before .put .ensures))
 
@@ -142,7 +137,7 @@ same-length-2 c = search needs
 
 returns-3 : tie.Need-returns-3
 unfolding valueText
-returns-3 c = shown _ _ _ _ _ _ _ _ _ (c .before .before .before .before .before .before .before .v2 .given .1) (c .before .before .before .front .ensures) (c .before .before .put-text .ensures)
+returns-3 c = shown _ _ _ _ _ _ _ _ _ (c .before .before .before .before .before .before .v2 .given .1) (c .before .before .before .front .ensures) (c .before .before .put-text .ensures)
 
 same-length-3 : tie.Need-same-length-3
 same-length-3 c = search needs
@@ -172,14 +167,14 @@ same-length-6 c = search needs
 
 returns-7 : tie.Need-returns-7
 unfolding valueText
-returns-7 c = shown _ _ _ _ _ _ _ _ _ (c .before .before .before .before .before .before .before .v6 .given .1) (c .before .before .before .front2 .ensures) (c .before .before .put-text2 .ensures)
+returns-7 c = shown _ _ _ _ _ _ _ _ _ (c .before .before .before .before .before .before .v6 .given .1) (c .before .before .before .front2 .ensures) (c .before .before .put-text2 .ensures)
 
 same-length-7 : tie.Need-same-length-7
 same-length-7 c = search needs
 
 returns-8 : tie.Need-returns-8
 unfolding valueText
-returns-8 c = shown _ _ _ _ _ _ _ _ _ (c .before .before .before .before .before .before .before .v7 .given .1) (c .before .before .before .front3 .ensures) (c .before .before .put-text3 .ensures)
+returns-8 c = shown _ _ _ _ _ _ _ _ _ (c .before .before .before .before .before .before .v7 .given .1) (c .before .before .before .front3 .ensures) (c .before .before .put-text3 .ensures)
 
 same-length-8 : tie.Need-same-length-8
 same-length-8 c = search needs

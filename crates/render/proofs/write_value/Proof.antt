@@ -51,7 +51,7 @@ same-length-3 : tie.Need-same-length-3
 same-length-3 c = search needs
 
 returns-3 : tie.Need-returns-3
-returns-3 c = done-write _ _ _ _ _ (c .before .before .before .before .before .before .before .before .put-value .ensures) _ _ (omega arith) (c .before .before .put-value2 .ensures)
+returns-3 c = done-write _ _ _ _ _ (c .before .before .before .before .before .before .before .before .before .before .before .put-value .ensures) _ _ (omega arith) (c .before .before .put-value2 .ensures)
 
 pub write-value-spec : {M : Type 1} → statement M
 write-value-spec =

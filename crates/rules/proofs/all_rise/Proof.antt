@@ -1,6 +1,6 @@
 -- Whether the first n rise is whether those that are left of them do.
 use Prim.Native.Nat.{_-_, _≤_, _<_}
-use Rattle.rules.proofs.Steps.{front-here, front-on, front-done, front-end}
+use Rattle.text.proofs.Cuts.{front-here, front-on, front-done, front-end}
 use Rattle.rules.proofs.all_rise.Statement.{statement}
 use Rattle.rules.proofs.all_rise.Tie as tie
 use Rattle.rules.specs.Rules.{rises}

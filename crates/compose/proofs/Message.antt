@@ -1,0 +1,50 @@
+-- A message is put as its banner, an empty line, its parameter lines, and its row between separators. Assumes nothing.
+use Prim.Native.Nat.{ℕ, _+_, _≤_}
+use Rattle.compose.proofs.Joins.{Was}
+use Rattle.compose.proofs.Lines.{linesOf}
+use Rattle.compose.proofs.Values.{columnOf}
+use Rattle.layout.specs.Banners.{bannerOf}
+use Rattle.layout.specs.Rows.{rowOf}
+use Rattle.layout.specs.declared.Layout.{Layout}
+use Rattle.layout.specs.declared.Layout.the-variants.{Market, Mfrr, Revocation, Generic, Exclusion, Limitation, Secondary, VoltVar, Rejection, Reserve}
+use Rattle.record.specs.declared.Cell.{Cell}
+use Rattle.text.proofs.Runs.{puts, puts-of, then, same-puts}
+use Rattle.value.specs.Texts.{Rooms}
+use Rattle.written.specs.Written.{linesText, plusLine, block, writtenOf, messageText}
+use borrow.Author.Tests.{leb-true}
+use lib.ListN.{length}
+use lib.Seq.{sets}
+use mathlib.Core.List.{List, [], _∷_, _++_}
+use mathlib.Core.Path.{_≡_, refl}
+
+-- SR's is the longest
+pub banner-short : (l : Layout) → length (bannerOf l) ≤ 88
+unfolding bannerOf
+banner-short Market = leb-true _ _ refl
+banner-short Mfrr = leb-true _ _ refl
+banner-short Revocation = leb-true _ _ refl
+banner-short Generic = leb-true _ _ refl
+banner-short Exclusion = leb-true _ _ refl
+banner-short Limitation = leb-true _ _ refl
+banner-short Secondary = leb-true _ _ refl
+banner-short VoltVar = leb-true _ _ refl
+banner-short Rejection = leb-true _ _ refl
+banner-short Reserve = leb-true _ _ refl
+
+-- a separator before the row, with its end, and one after the end of the row
+abbrev pub aboveRow : List ℕ
+aboveRow = plusLine ++ 10 ∷ []
+
+abbrev pub belowRow : List ℕ
+belowRow = 10 ∷ aboveRow
+
+module _ (l : Layout) (r : Rooms) (cells : List Cell) (out : List ℕ) (at a : ℕ) (l₁ : List ℕ) (b : ℕ) (l₂ : List ℕ) (c : ℕ) (l₃ : List ℕ) (d : ℕ) (l₄ : List ℕ) (e : ℕ) (l₅ : List ℕ)
+    (q : ℕ) (m : List ℕ) where
+  pub message-put : Was out at (bannerOf l) a l₁ → (b ≡ a + 1) × (l₂ ≡ sets l₁ a (10 ∷ [])) → Was l₂ b (linesText (linesOf l r cells)) c l₃ → Was l₃ c aboveRow d l₄
+      → Was l₄ d (rowOf l (columnOf l r cells)) e l₅ → Was l₅ e belowRow q m → Was out at (messageText l r cells) q m
+  unfolding messageText writtenOf linesText block
+  message-put banner empty lines above row below =
+      same-puts (messageText l r cells) refl
+      (then (puts {t = bannerOf l} banner)
+      (then (then (puts-of {t = 10 ∷ []} 1 refl empty) (puts {t = linesText (linesOf l r cells)} lines))
+      (then (puts {t = aboveRow} above) (then (puts {t = rowOf l (columnOf l r cells)} row) (puts {t = belowRow} below)))))

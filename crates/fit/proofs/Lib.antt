@@ -1,0 +1,7 @@
+pub mod Blanks
+pub mod ByNumber
+pub mod Decides
+pub mod Gradients
+pub mod Plain
+pub mod Ranges
+pub mod Unused

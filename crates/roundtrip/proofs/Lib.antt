@@ -1,0 +1,11 @@
+pub mod Lines
+pub mod Frame
+pub mod Entries
+pub mod Params
+pub mod Headings
+pub mod Row
+pub mod Back
+pub mod Records
+pub mod RoundTrip
+pub mod Normal
+pub mod Apart

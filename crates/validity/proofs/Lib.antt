@@ -1,0 +1,7 @@
+pub mod Cells
+pub mod Decides
+pub mod Gradients
+pub mod Held
+pub mod Kept
+pub mod Fields
+pub mod Unused
