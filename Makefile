@@ -1,10 +1,20 @@
 # make test: the whole gate. make check: prove what changed. make run: the example of document 01. make values: texts in, values out.
 # make read FILE=.. CA=.. IOA=..: a message file at an address of examples/plan.txt. make fmt: lay every file out.
-.PHONY: test check run read values fmt
+# make lib: the library for C hosts. make host: the host program target/host/halimpung-read. make test-host: both tried from C and the shell.
+# make install PREFIX=.. DESTDIR=..: header, library and pkg-config file.
+# make test-reference: the reference, a second implementation in Rust, tried alone. make compare COUNT=.. SEED=..: the library against it,
+# over many inputs. make bench: both timed, and the library's stack. (These three need cargo, and no network.)
+.PHONY: test check run read values fmt lib host install test-host test-host-valgrind test-reference compare bench
 
 FILE ?= examples/rc.txt
 CA ?= 7
 IOA ?= 300
+
+PREFIX ?= /usr/local
+VERSION = 0.1.0
+LIB = target/staticlib/libgateway.a
+CFLAGS ?= -O2
+STRICT = -std=c11 -pedantic -Wall -Wextra -Werror
 
 test:
 	.ci/run
@@ -24,3 +34,73 @@ values:
 
 fmt:
 	rt fmt
+
+lib: $(LIB)
+
+host: target/host/halimpung-read
+
+# rt takes most of a minute to find that nothing changed, so make asks first
+target/staticlib/libgateway.a: crates.txt $(shell find crates -name '*.rt' -o -name '*.antt')
+	rt staticlib gateway
+	@touch $@
+
+# by way of another name: where the words and the header differ, no table is left that a second make would take
+target/host/refusals.inc: host/refusal-words host/include/halimpung.h docs/REFUSALS.md
+	@mkdir -p target/host
+	host/refusal-words host/include/halimpung.h docs/REFUSALS.md > $@.new
+	@mv $@.new $@
+
+target/host/halimpung-read: $(wildcard host/c/*.c host/c/*.h) host/include/halimpung.h target/host/refusals.inc $(LIB)
+	$(CC) $(STRICT) $(CFLAGS) -Ihost/include -Itarget/host -o $@ $(filter %.c,$^) $(LIB) $(LDFLAGS)
+
+install: $(LIB)
+	install -d '$(DESTDIR)$(PREFIX)/include' '$(DESTDIR)$(PREFIX)/lib/pkgconfig'
+	install -m 644 host/include/halimpung.h '$(DESTDIR)$(PREFIX)/include/halimpung.h'
+	install -m 644 $(LIB) '$(DESTDIR)$(PREFIX)/lib/libhalimpung.a'
+	sed '/^#/d; s|@PREFIX@|$(PREFIX)|; s|@VERSION@|$(VERSION)|' host/halimpung.pc.in > '$(DESTDIR)$(PREFIX)/lib/pkgconfig/halimpung.pc'
+	chmod 644 '$(DESTDIR)$(PREFIX)/lib/pkgconfig/halimpung.pc'
+
+TESTS = $(wildcard host/test/*.c host/test/*.h) host/include/halimpung.h $(LIB)
+
+target/host/entries-test: $(TESTS)
+	@mkdir -p target/host
+	$(CC) $(STRICT) -g -O1 -fsanitize=address,undefined -fno-sanitize-recover=all -Ihost/include -o $@ $(filter %.c,$^) $(LIB)
+
+target/host/entries-plain: $(TESTS)
+	@mkdir -p target/host
+	$(CC) $(STRICT) -g -O1 -Ihost/include -o $@ $(filter %.c,$^) $(LIB)
+
+test-host: target/host/halimpung-read target/host/entries-test
+	$(CC) $(STRICT) -fsyntax-only host/include/halimpung.h
+	$(CXX) -pedantic -Wall -Wextra -Werror -x c++ -fsyntax-only host/include/halimpung.h
+	@target/host/entries-test examples
+	@host/test/program target/host/halimpung-read
+	@host/test/words
+	@CC='$(CC)' CXX='$(CXX)' host/test/install '$(LIB)'
+
+# the library is not instrumented, so valgrind sees in it what AddressSanitizer does not
+test-host-valgrind: target/host/entries-plain
+	valgrind -q --error-exitcode=1 target/host/entries-plain examples
+
+COUNT ?= 200000
+SEED ?= 1
+
+# nothing is built in the source folders
+CARGO = CARGO_TARGET_DIR='$(CURDIR)/target/cargo' HALIMPUNG_LIB='$(abspath $(LIB))' cargo
+
+test-reference:
+	cd host/reference && $(CARGO) test --release --offline -q
+
+# first that the comparison itself sees a wrong side
+compare: $(LIB)
+	cd host/compare && $(CARGO) test --release --offline -q --lib
+	cd host/compare && $(CARGO) run --release --offline -q --bin compare -- $(COUNT) $(SEED)
+
+# static: else the first call through the dynamic linker would be counted in the stack
+target/host/stack: tools/stack.c $(LIB)
+	@mkdir -p target/host
+	$(CC) $(CFLAGS) -static -o $@ tools/stack.c $(LIB)
+
+bench: target/host/stack
+	cd host/compare && $(CARGO) run --release --offline -q --bin bench
+	@host/compare/stack target/host/stack host/reference/samples target/host/stack-plan.txt

@@ -1,6 +1,6 @@
 -- What a question says of the values of every other shape: the arm `_` of a match on a value. Assumes nothing.
 use Prim.Native.Nat.{ℕ}
-use Rattle.asked.specs.Values.{isFilled, numberIn, sizeIn, instantIn, amountIn, wordNumber, triplesIn, notNegative}
+use Rattle.asked.specs.Values.{isFilled, numberIn, countIn, sizeIn, instantIn, amountIn, wordNumber, triplesIn, notNegative}
 use Rattle.value.proofs.Value.{the-type}
 use Rattle.value.specs.declared.Value.{Value}
 use Rattle.value.specs.declared.Value.the-variants.{Blank, Id, Unit, When, Amount, Count, Reason, Note, Word, List as Numbers, Triples, Voltage, Regulator, Change, Reactive}
@@ -26,6 +26,9 @@ notWhen = 0 ∷ 1 ∷ 2 ∷ 4 ∷ 5 ∷ 6 ∷ 7 ∷ 8 ∷ 9 ∷ 10 ∷ 11 ∷ 12
 
 abbrev notAmount : List ℕ
 notAmount = 0 ∷ 1 ∷ 2 ∷ 3 ∷ 5 ∷ 6 ∷ 7 ∷ 8 ∷ 9 ∷ 10 ∷ 11 ∷ 12 ∷ 13 ∷ 14 ∷ []
+
+abbrev notCount : List ℕ
+notCount = 0 ∷ 1 ∷ 2 ∷ 3 ∷ 4 ∷ 6 ∷ 7 ∷ 8 ∷ 9 ∷ 10 ∷ 11 ∷ 12 ∷ 13 ∷ 14 ∷ []
 
 abbrev notWord : List ℕ
 notWord = 0 ∷ 1 ∷ 2 ∷ 3 ∷ 4 ∷ 5 ∷ 6 ∷ 7 ∷ 9 ∷ 10 ∷ 11 ∷ 12 ∷ 13 ∷ 14 ∷ []
@@ -71,6 +74,24 @@ number-other (Voltage v) h = refl
 number-other (Regulator v) h = refl
 number-other (Change v) h = refl
 number-other (Reactive v) h = refl
+
+-- any value but a sequence has none
+pub count-other : (v : Value) → OneOf notCount (tagOf the-type v) → 0 ≡ countIn v
+count-other Blank h = refl
+count-other (Id n) h = refl
+count-other (Unit n) h = refl
+count-other (When d) h = refl
+count-other (Amount v) h = refl
+count-other (Count n) h = absurd (miss notCount 5 tt h)
+count-other (Reason n) h = refl
+count-other (Note n) h = refl
+count-other (Word w) h = refl
+count-other (Numbers x) h = refl
+count-other (Triples n) h = refl
+count-other (Voltage v) h = refl
+count-other (Regulator v) h = refl
+count-other (Change v) h = refl
+count-other (Reactive v) h = refl
 
 -- any value but a text has no size
 pub size-other : (v : Value) → OneOf notText (tagOf the-type v) → 0 ≡ sizeIn v

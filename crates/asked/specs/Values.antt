@@ -44,6 +44,24 @@ numberIn (Regulator v) = 0
 numberIn (Change v) = 0
 numberIn (Reactive v) = 0
 
+-- the number of a sequence; 0 of any other value
+abbrev pub countIn : Value → ℕ
+countIn Blank = 0
+countIn (Id n) = 0
+countIn (Unit n) = 0
+countIn (When d) = 0
+countIn (Amount v) = 0
+countIn (Count n) = n
+countIn (Reason n) = 0
+countIn (Note n) = 0
+countIn (Word w) = 0
+countIn (Numbers x) = 0
+countIn (Triples n) = 0
+countIn (Voltage v) = 0
+countIn (Regulator v) = 0
+countIn (Change v) = 0
+countIn (Reactive v) = 0
+
 -- how many bytes of its room a text has; 0 of any other value
 abbrev pub sizeIn : Value → ℕ
 sizeIn Blank = 0

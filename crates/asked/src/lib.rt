@@ -1,7 +1,7 @@
 // What a rule asks of a value: one question for each shape, with what is said where the value is of another.
 use list::Numbers;
 use value::Value;
-ghost use Rattle.asked.specs.Values.{isFilled, numberIn, sizeIn, instantIn, amountIn, wordNumber, triplesIn, noneBelow, notNegative};
+ghost use Rattle.asked.specs.Values.{isFilled, numberIn, countIn, sizeIn, instantIn, amountIn, wordNumber, triplesIn, noneBelow, notNegative};
 ghost use mathlib.Core.Path.{_≡_};
 
 pub fn is_filled(v: Value) -> bool
@@ -19,6 +19,16 @@ pub fn number_in(v: Value) -> u64
 {
     match v {
         Value::Id(n) => n,
+        _ => 0,
+    }
+}
+
+// The number of a sequence.
+pub fn count_in(v: Value) -> u64
+    ensures { λ r. ⌜ r ≡ countIn v ⌝ }
+{
+    match v {
+        Value::Count(n) => n,
         _ => 0,
     }
 }

@@ -6,7 +6,7 @@ use Rattle.name.specs.Types.{codeOf}
 use Rattle.name.specs.declared.MessageType.{MessageType}
 use Rattle.name.specs.declared.MessageType.the-variants.{Cb, Rc, Mg, Eb, Lb, Sr, Vq, Ri, Qr}
 use Rattle.record.specs.declared.Record.{Record}
-use Rattle.brief.specs.Brief.{instantText, lineText, briefOf, sixOf, sixLines}
+use Rattle.brief.specs.Brief.{instantText, lineText, toldOf, briefOf, sixOf, sixLines}
 use Rattle.asked.specs.Values.{isFilled, instantIn}
 use Rattle.text.proofs.Numerals.{whole-length}
 use Rattle.text.proofs.Tests.{by-test}
@@ -94,5 +94,5 @@ six-of b h =
     (instant-line (bytes "end=") (b .end))
 
 pub six-length : (r : Record) → length (r .unit) ≡ 16 → length (sixLines r) ≤ 89
-unfolding briefOf
+unfolding toldOf briefOf
 six-length r h = six-of (briefOf r) h

@@ -20,6 +20,10 @@ use mathlib.Core.List.{List, [], _∷_, _++_}
 unfoldable pub numberOf : Record → ℕ
 numberOf r = numberIn (fieldOf (r .cells) 1)
 
+-- the code of its unit
+unfoldable pub unitOf : Record → List ℕ
+unitOf r = take (sizeIn (fieldOf (r .cells) 2)) (r .unit)
+
 -- start and end: fields 3 and 4, mFRR's TINI1 and TFIN2
 abbrev pub startOf : Record → Value
 startOf r = fieldOf (r .cells) 3
@@ -48,17 +52,14 @@ instantText v = cond (isFilled v) (wholeText 9 (instantIn v)) []
 abbrev pub lineText : List ℕ → List ℕ → List ℕ
 lineText key v = (key ++ v) ++ (10 ∷ [])
 
+-- what is told of a message with these values of its fields 1, 2 and 3 and of its end, and its unit's room
+unfoldable pub toldOf : Layout → Value → Value → List ℕ → Value → Value → Brief
+toldOf l first second unit start end =
+    record { layout = l; number = numberIn first; size = sizeIn second; unit = unit; start = start; end = end }
+
 -- what is told of a record
 unfoldable pub briefOf : Record → Brief
-briefOf r =
-    record {
-      layout = r .layout;
-      number = numberOf r;
-      size = sizeIn (fieldOf (r .cells) 2);
-      unit = r .unit;
-      start = startOf r;
-      end = endOf r;
-    }
+briefOf r = toldOf (r .layout) (fieldOf (r .cells) 1) (fieldOf (r .cells) 2) (r .unit) (startOf r) (endOf r)
 
 unfoldable pub sixOf : Brief → List ℕ
 sixOf b =

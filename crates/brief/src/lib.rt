@@ -6,7 +6,7 @@ use text::put;
 use text::scan;
 use value::Value;
 ghost use Prim.Native.Nat.{_+_, _<_};
-ghost use Rattle.brief.specs.Brief.{endField, instantText, lineText, briefOf, sixOf};
+ghost use Rattle.brief.specs.Brief.{endField, instantText, lineText, toldOf, briefOf, sixOf};
 ghost use Rattle.name.specs.Types.{codeOf};
 ghost use Rattle.text.specs.Bytes.{bytes};
 ghost use Rattle.text.specs.Digits.{wholeText};
@@ -27,7 +27,7 @@ pub struct Brief {
 }
 
 // The field with the end: TFIN2 for mFRR.
-fn end_field(l: Layout) -> usize
+pub fn end_field(l: Layout) -> usize
     ensures { λ r. ⌜ r ≡ endField l ⌝ }
 {
     match l {
@@ -44,6 +44,27 @@ fn end_field(l: Layout) -> usize
     }
 }
 
+// What is told of a message with these values of its fields 1, 2 and 3 and of its end, and its unit's code in its room.
+pub fn of_values(
+    layout: Layout,
+    first: Value,
+    second: Value,
+    unit: [u8; 16],
+    start: Value,
+    end: Value,
+) -> Brief
+    ensures { λ b. ⌜ b ≡ toldOf layout first second unit start end ⌝ }
+{
+    Brief {
+        layout,
+        number: asked::number_in(first),
+        size: asked::size_in(second),
+        unit,
+        start,
+        end,
+    }
+}
+
 // What is told of a record.
 pub fn of_record(r: Record) -> Brief
     ensures { λ b. ⌜ b ≡ briefOf r ⌝ }
@@ -51,14 +72,14 @@ pub fn of_record(r: Record) -> Brief
     let layout = r.layout;
     let cells = r.cells;
     let unit = r.unit;
-    Brief {
+    of_values(
         layout,
-        number: asked::number_in(record::field(cells, 1)),
-        size: asked::size_in(record::field(cells, 2)),
+        record::field(cells, 1),
+        record::field(cells, 2),
         unit,
-        start: record::field(cells, 3),
-        end: record::field(cells, end_field(layout)),
-    }
+        record::field(cells, 3),
+        record::field(cells, end_field(layout)),
+    )
 }
 
 fn put_line(out: &mut [u8], at: usize, key: &[u8], v: &[u8]) -> usize

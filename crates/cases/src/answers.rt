@@ -1,4 +1,5 @@
 // One request answered.
+use crate::calls;
 use crate::said;
 use brief::Brief;
 use layout::Layout;
@@ -263,6 +264,7 @@ fn answer(line: &mut [u8]) {
     let is_cread = (f.count == 6) & scan::same(key, b"cread");
     let is_cnorm = (f.count == 6) & scan::same(key, b"cnorm");
     let is_prog = (f.count == 3) & scan::same(key, b"prog");
+    let is_book = (f.count == 3) & scan::same(key, b"book");
     if is_read {
         run_read(line, places);
         return;
@@ -281,6 +283,10 @@ fn answer(line: &mut [u8]) {
     }
     if is_prog {
         run_prog(line, places);
+        return;
+    }
+    if is_book {
+        calls::run(line, places[1], places[2]);
         return;
     }
     say_unknown();

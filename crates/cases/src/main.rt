@@ -1,6 +1,7 @@
 // The case runner: each line of standard input is a request, and one line answers it. So document 01's cases, and vectors from outside, are run
 // through the compiled code and compared. A request that is not of the form, or longer than the buffer, answers `?`.
 mod answers;
+mod calls;
 mod said;
 
 use libc::STDIN_FILENO;

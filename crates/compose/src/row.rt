@@ -34,30 +34,16 @@ fn put_pieces(
 {
     let t = layout::type_of(l);
     let n = layout::row::size(l);
-    let mut p = render::put_value(
-        out,
-        at,
-        t,
-        record::field(cells, 1),
-        unit,
-        reason,
-        note,
-        gradients,
-    );
+    let c = cells[0];
+    let v = c.value;
+    let mut p = render::put_value(out, at, t, v, unit, reason, note, gradients);
     let mut i = 1;
     while i < n {
         let from = put::put_byte(out, p, b';');
         let k = layout::row::field(l, i);
-        p = render::put_value(
-            out,
-            from,
-            t,
-            record::field(cells, k),
-            unit,
-            reason,
-            note,
-            gradients,
-        );
+        let c = cells[k - 1];
+        let v = c.value;
+        p = render::put_value(out, from, t, v, unit, reason, note, gradients);
         i += 1;
     }
     p
@@ -101,17 +87,10 @@ pub fn put_row(
         × (now (out .exit) ≡ sets (now (out .entry)) at (rowOf l (map (valueText (typeOf l) (rooms (now (unit .entry)) (now (reason .entry)) (now (note .entry)) gradients)) (valuesIn l cells)))) ⌝ }
 {
     let to = put_pieces(out, at, l, cells, unit, reason, note, gradients);
+    let c = cells[5];
+    let v = c.value;
     match l {
-        Layout::Secondary => put_halves(
-            out,
-            to,
-            MessageType::Sr,
-            record::field(cells, 6),
-            unit,
-            reason,
-            note,
-            gradients,
-        ),
+        Layout::Secondary => put_halves(out, to, MessageType::Sr, v, unit, reason, note, gradients),
         _ => to,
     }
 }

@@ -1,7 +1,7 @@
--- What a caller knows of what was filled: the record that is made of it, and that it names a bad field just where there is one.
+-- What a caller knows of what was filled: the record that is made of it, that a bad field has a number, and where none is bad all the values.
 -- Assumes nothing.
 use Prim.Native.Nat.{ℕ, suc, _≤_}
-use Rattle.fill.specs.Filled.{filledOf, triplesOf, recordWith}
+use Rattle.fill.specs.Filled.{ahead, goodFront, triplesOf, recordWith}
 use Rattle.layout.specs.Rows.{textAt}
 use Rattle.layout.specs.declared.Layout.{Layout}
 use Rattle.list.specs.Forms.{gradientsIn}
@@ -59,24 +59,24 @@ typed-bad-some k [] col j e = absurd (good-not e)
 typed-bad-some k (d ∷ ds) [] j e = omega (arith, bad-is e)
 typed-bad-some k (d ∷ ds) (t ∷ ts) j e = joined-bad k (valueOf d t) (typed (suc (suc k)) ds ts) j (λ i q. typed-bad-some (suc k) ds ts i q) e
 
--- ---- from what was filled to what was read
+-- ---- all that was read stands in front of the first bad field
 
--- a number that is not 0 is that of the first bad field
-pub filled-bad : (y : Typed) → (filledOf y .bad ≡ 0 → ⊥) → y ≡ bad (filledOf y .bad)
-unfolding filledOf
-filled-bad (bad k) h = refl
-filled-bad (good vs) h = absurd (h refl)
+pub not-good : {k : ℕ} {vs : List Value} → bad k ≡ good vs → ⊥
+not-good e = let z : _≡_ {A = ℕ} 0 1 = cc in omega arith
 
--- all was read, and the cells hold it
-pub record Good (y : Typed) : Type 0 where
-  pub values : List Value
-  pub read-as : y ≡ good values
-  pub kept : filledOf y .cells ≡ cellsOf values
+pub good-is : {vs ws : List Value} → good vs ≡ good ws → vs ≡ ws
+good-is e = cc
 
-good-of : (y : Typed) → ((j : ℕ) → y ≡ bad j → 1 ≤ j) → filledOf y .bad ≡ 0 → Good y
-unfolding filledOf
-good-of (bad k) f e = absurd (omega (arith, f k refl, e))
-good-of (good vs) f e = record { values = vs; read-as = refl; kept = refl }
+front-joined : (k : ℕ) (g : Got) (y : Typed) (front vs : List Value) → joined k g y ≡ good vs → ((ws : List Value) → y ≡ good ws → front ≡ ws)
+    → ahead g front ≡ vs
+unfolding joined
+front-joined k Bad y front vs e h = absurd (not-good e)
+front-joined k (Read v) (bad j) front vs e h = absurd (not-good e)
+front-joined k (Read v) (good ws) front vs e h = ap (λ (l : List Value). v ∷ l) (h ws refl) ∙ good-is e
 
-pub filled-good : (ks : List Kind) (col : List (List ℕ)) → filledOf (typed 1 ks col) .bad ≡ 0 → Good (typed 1 ks col)
-filled-good ks col e = good-of (typed 1 ks col) (λ j q. typed-bad-some 0 ks col j q) e
+pub front-good : (k : ℕ) (ds : List Kind) (col : List (List ℕ)) (vs : List Value) → typed k ds col ≡ good vs → goodFront ds col ≡ vs
+unfolding typed goodFront
+front-good k [] ts vs e = good-is e
+front-good k (d ∷ ds) [] vs e = absurd (not-good e)
+front-good k (d ∷ ds) (t ∷ ts) vs e =
+    front-joined k (valueOf d t) (typed (suc k) ds ts) (goodFront ds ts) vs e (λ ws q. front-good (suc k) ds ts ws q)

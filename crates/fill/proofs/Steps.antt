@@ -1,6 +1,6 @@
 -- The loop of `fill`: its state, and its laws. Assumes nothing.
 use Prim.Native.Nat.{ℕ, suc, _+_, _-_, _≤_, _<_}
-use Rattle.fill.specs.Filled.{filledOf}
+use Rattle.fill.specs.Filled.{ahead, goodFront, filledOf}
 use Rattle.layout.proofs.Labels.{few, kinds-length, kind-at}
 use Rattle.layout.specs.Layouts.{kindsOf, kindAt, noKind, sizeOf}
 use Rattle.layout.specs.declared.Layout.{Layout}
@@ -65,11 +65,12 @@ pub record Sofar (l : Layout) (col : List (List ℕ)) (k : ℕ) (cells : List Ce
   pub done : List Value
   pub count-is : length done ≡ k
   pub rest : typed 1 (kindsOf l) col ≡ prefixed done (typed (k + 1) (drop k (kindsOf l)) (drop k col))
+  pub front : goodFront (kindsOf l) col ≡ done ++ goodFront (drop k (kindsOf l)) (drop k col)
   pub kept : cells ≡ cellsOf done
 
 pub start : (l : Layout) (col : List (List ℕ)) → Sofar l col 0 (replicate 26 (cell Blank))
 unfolding cellsOf
-start l col = record { done = []; count-is = refl; rest = prefixed-none (typed 1 (kindsOf l) col); kept = refl }
+start l col = record { done = []; count-is = refl; rest = prefixed-none (typed 1 (kindsOf l) col); front = refl; kept = refl }
 
 typed-at : (l : Layout) (col : List (List ℕ)) (k : ℕ) (x : List ℕ) → k < sizeOf l → drop k col ≡ x ∷ drop (k + 1) col
     → typed (k + 1) (drop k (kindsOf l)) (drop k col) ≡ joined (k + 1) (valueOf (kindAt l (k + 1)) x) (typed (k + 1 + 1) (drop (k + 1) (kindsOf l)) (drop (k + 1) col))
@@ -77,6 +78,13 @@ unfolding typed
 typed-at l col k x h e =
     let j : k < length (kindsOf l) = omega (arith, kinds-length l) in
     rw (e, drop-cons (kindsOf l) k noKind j, add-one k, add-one (suc k), kind-at l k)
+
+front-at : (l : Layout) (col : List (List ℕ)) (k : ℕ) (x : List ℕ) → k < sizeOf l → drop k col ≡ x ∷ drop (k + 1) col
+    → goodFront (drop k (kindsOf l)) (drop k col) ≡ ahead (valueOf (kindAt l (k + 1)) x) (goodFront (drop (k + 1) (kindsOf l)) (drop (k + 1) col))
+unfolding goodFront
+front-at l col k x h e =
+    let j : k < length (kindsOf l) = omega (arith, kinds-length l) in
+    rw (e, drop-cons (kindsOf l) k noKind j, add-one k, kind-at l k)
 
 module _ (l : Layout) (file : List ℕ) (spans : List Span) (k : ℕ) (cells : List Cell) (s : Sofar l (columnIn (sizeOf l) file spans) k cells)
     (p : Placed (sizeOf l) file spans) (h : k < sizeOf l) where
@@ -91,24 +99,30 @@ module _ (l : Layout) (file : List ℕ) (spans : List Span) (k : ℕ) (cells : L
       let j : sizeOf l < length spans = omega (arith, few l, p .long) in
       s .rest ∙ ap (prefixed (s .done)) (typed-at l col k text h (column-step (sizeOf l) file spans k h j))
 
+  front-here : goodFront (kindsOf l) col ≡ s .done ++ ahead (valueOf (kindAt l (k + 1)) text) (goodFront (drop (k + 1) (kindsOf l)) (drop (k + 1) col))
+  front-here =
+      let j : sizeOf l < length spans = omega (arith, few l, p .long) in
+      s .front ∙ ap (λ (vs : List Value). s .done ++ vs) (front-at l col k text h (column-step (sizeOf l) file spans k h j))
+
   pub turn : (g : Got) (v : Value) → g ≡ valueOf (kindAt l (k + 1)) text → g ≡ Read v → Sofar l col (k + 1) (set cells k (cell v))
   turn g v e r =
       record {
         done = s .done ++ v ∷ [];
         count-is = omega (arith, length-append (s .done) (v ∷ []), s .count-is);
         rest = here ∙ rw (sym e ∙ r) (prefixed-step (k + 1) (s .done) v (typed (k + 1 + 1) (drop (k + 1) (kindsOf l)) (drop (k + 1) col)));
+        front = front-here ∙ rw (sym e ∙ r) (sym (append-assoc (s .done) (v ∷ []) (goodFront (drop (k + 1) (kindsOf l)) (drop (k + 1) col))));
         kept = ap (λ (c : List Cell). set c k (cell v)) (s .kept) ∙ cells-step (s .done) k v (s .count-is) (omega (arith, few l));
       }
 
-  pub stop : (g : Got) → g ≡ valueOf (kindAt l (k + 1)) text → g ≡ Bad → record { bad = k + 1; cells = replicate 26 (cell Blank) } ≡ filledOf (typed 1 (kindsOf l) col)
+  pub stop : (g : Got) → g ≡ valueOf (kindAt l (k + 1)) text → g ≡ Bad → record { bad = k + 1; cells = cells } ≡ filledOf (kindsOf l) col
   unfolding filledOf prefixed joined
-  stop g e r = rw (here, sym e ∙ r)
+  stop g e r = rw (s .kept, here, front-here, sym e ∙ r, append-nil (s .done))
 
-pub finish : (l : Layout) (col : List (List ℕ)) (k : ℕ) (cells : List Cell) → Sofar l col k cells → sizeOf l ≤ k → record { bad = 0; cells = cells } ≡ filledOf (typed 1 (kindsOf l) col)
-unfolding filledOf prefixed typed
+pub finish : (l : Layout) (col : List (List ℕ)) (k : ℕ) (cells : List Cell) → Sofar l col k cells → sizeOf l ≤ k → record { bad = 0; cells = cells } ≡ filledOf (kindsOf l) col
+unfolding filledOf prefixed typed goodFront
 finish l col k cells s h =
     let j : length (kindsOf l) ≤ k = omega (arith, kinds-length l) in
-    rw (s .kept, s .rest, drop-of-length-le (kindsOf l) j, append-nil (s .done))
+    rw (s .kept, s .rest, s .front, drop-of-length-le (kindsOf l) j, append-nil (s .done))
 
 -- what holds at the loop's head
 pub record Head (l : Layout) (file : List ℕ) (spans : List Span) (n k : ℕ) (cells : List Cell) : Type 0 where

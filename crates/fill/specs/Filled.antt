@@ -1,22 +1,34 @@
--- The values of a file's places, as the record keeps them, or the first bad field.
+-- The values of a file's places, as the record keeps them, and the first bad field.
 use Prim.Native.Nat.{ℕ}
 use Rattle.fill.specs.declared.Filled.{Filled}
 use Rattle.layout.specs.Rows.{textAt}
 use Rattle.layout.specs.declared.Layout.{Layout}
 use Rattle.list.specs.Forms.{gradientsIn}
 use Rattle.list.specs.declared.Triple.{Triple}
-use Rattle.record.specs.Records.{Typed, cell, cellsOf, reasonField, noteField, gradientsField}
-use Rattle.record.specs.Records.Typed.{bad, good}
+use Rattle.record.specs.Records.{typed, badOf, cellsOf, reasonField, noteField, gradientsField}
 use Rattle.record.specs.declared.Cell.{Cell}
 use Rattle.record.specs.declared.Record.{Record}
 use Rattle.room.specs.Rooms.{keptIn}
-use Rattle.value.specs.declared.Value.the-variants.{Blank}
-use lib.ListN.{replicate}
-use mathlib.Core.List.{List}
+use Rattle.value.specs.Kinds.{valueOf}
+use Rattle.value.specs.declared.Got.{Got}
+use Rattle.value.specs.declared.Got.the-variants.{Read, Bad}
+use Rattle.value.specs.declared.Kind.{Kind}
+use Rattle.value.specs.declared.Value.{Value}
+use mathlib.Core.List.{List, [], _∷_}
 
-unfoldable pub filledOf : Typed → Filled
-filledOf (bad k) = record { bad = k; cells = replicate 26 (cell Blank) }
-filledOf (good vs) = record { bad = 0; cells = cellsOf vs }
+-- the values of the fields before the first bad one
+abbrev pub ahead : Got → List Value → List Value
+ahead Bad vs = []
+ahead (Read v) vs = v ∷ vs
+
+unfoldable pub goodFront : List Kind → List (List ℕ) → List Value
+goodFront [] ts = []
+goodFront (d ∷ ds) [] = []
+goodFront (d ∷ ds) (t ∷ ts) = ahead (valueOf d t) (goodFront ds ts)
+
+-- the first bad field, and the cells as they were filled up to it
+unfoldable pub filledOf : List Kind → List (List ℕ) → Filled
+filledOf ds col = record { bad = badOf (typed 1 ds col); cells = cellsOf (goodFront ds col) }
 
 -- the triples of a column
 unfoldable pub triplesOf : Layout → List (List ℕ) → List Triple

@@ -12,12 +12,11 @@ ghost use Rattle.layout.specs.Layouts.{kindsOf, kindAt, sizeOf};
 ghost use Rattle.layout.specs.Rows.{textAt};
 ghost use Rattle.list.specs.Forms.{gradientsIn};
 ghost use Rattle.lines.specs.Places.{partOf, columnIn, Placed};
-ghost use Rattle.record.specs.Records.{typed};
 ghost use Rattle.value.specs.Kinds.{valueOf};
 ghost use lib.ListN.{length};
 ghost use mathlib.Core.Path.{_≡_};
 
-// The values, or the first bad field.
+// The values in their cells, and the first bad field, 0 where there is none: then the cells have the values up to it.
 pub struct Filled {
     pub bad: usize,
     pub cells: [Cell; 26],
@@ -36,17 +35,14 @@ fn value_at(l: Layout, k: usize, file: &[u8], p: Span) -> Got
 // Every field of the layout, read from its place in the file by its kind.
 pub fn fill(l: Layout, file: &[u8], spans: [Span; 27]) -> Filled
     requires { ⌜ Placed (sizeOf l) (now file) spans ⌝ }
-    ensures { λ r. ⌜ r ≡ filledOf (typed 1 (kindsOf l) (columnIn (sizeOf l) (now (file .entry)) spans)) ⌝ }
+    ensures { λ r. ⌜ r ≡ filledOf (kindsOf l) (columnIn (sizeOf l) (now (file .entry)) spans) ⌝ }
 {
     let n = layout::size(l);
     let mut cells = [record::EMPTY; 26];
     let mut k = 0;
     while k < n {
         let Got::Read(v) = value_at(l, k + 1, file, spans[k + 1]) else {
-            return Filled {
-                bad: k + 1,
-                cells: [record::EMPTY; 26],
-            };
+            return Filled { bad: k + 1, cells };
         };
         let c = Cell { value: v };
         cells[k] = c;
@@ -56,7 +52,7 @@ pub fn fill(l: Layout, file: &[u8], spans: [Span; 27]) -> Filled
 }
 
 // The text of the field k: nothing at 0.
-fn text_at<'a>(l: Layout, file: &'a [u8], spans: [Span; 27], k: usize) -> &'a [u8]
+pub fn text_at<'a>(l: Layout, file: &'a [u8], spans: [Span; 27], k: usize) -> &'a [u8]
     requires { ⌜ (k ≤ sizeOf l) × Placed (sizeOf l) (now file) spans ⌝ }
     ensures { λ r. ⌜ now r ≡ textAt (columnIn (sizeOf l) (now (file .entry)) spans) k ⌝ }
 {

@@ -1,3 +1,3 @@
 pub mod Entries
-pub mod Sizes
+pub mod Told
 pub mod Normal

@@ -15,13 +15,30 @@ pub extern "C" fn halimpung_read(ca: u32, ioa: u32, plan: &[u8], file: &[u8], ou
     ensures { λ r. ⌜ (r ≡ codeOf sixLines (readOf ca ioa (now (plan .entry)) (now (file .entry))) (length (now (out .entry))))
         × (now (out .exit) ≡ outOf sixLines (readOf ca ioa (now (plan .entry)) (now (file .entry))) (now (out .entry))) ⌝ }
 {
-    let answer = reader::read(ca, ioa, plan, file);
-    if answer.number != 0 {
-        return answer.number as u32 * 65536 + answer.detail as u32;
+    let x = reader::judged(ca, ioa, plan, file);
+    if x.number != 0 {
+        return x.number as u32 * 65536 + x.detail as u32;
     }
-    let body = answer.body;
+    let l = x.layout;
+    let first = x.cells[0];
+    let second = x.cells[1];
+    let third = x.cells[2];
+    let last = x.cells[brief::end_field(l) - 1];
+    let places = x.places;
+    let number = first.value;
+    let unit = second.value;
+    let start = third.value;
+    let end = last.value;
+    let told = brief::of_values(
+        l,
+        number,
+        unit,
+        room::keep_unit(fill::text_at(l, file, places, 2)),
+        start,
+        end,
+    );
     let mut lines = [0u8; 89];
-    let size = report::put_record(&mut lines, 0, body);
+    let size = brief::put_lines(&mut lines, 0, told);
     let length = size as u32;
     if out.len() < size {
         return 11 * 65536 + length;

@@ -1,23 +1,85 @@
--- The answer of a verdict, as the code meets it: a refusal, or the record. Assumes nothing.
+-- What was read leads to the answer: from the places to the reading, and from the reading to a refusal or the record. Assumes nothing.
 use Prim.Native.Nat.{ℕ}
 use Rattle.fill.specs.Filled.{recordWith}
+use Rattle.layout.specs.Layouts.{sizeOf}
 use Rattle.layout.specs.declared.Layout.{Layout}
-use Rattle.reader.specs.Refusals.{refused, accepted}
-use Rattle.reader.specs.State.{stopped, finished}
-use Rattle.reader.specs.declared.Verdict.{Verdict}
+use Rattle.lines.specs.Places.{partOf, Placed}
+use Rattle.lines.specs.declared.Span.{Span}
+use Rattle.list.specs.declared.Triple.{Triple}
+use Rattle.reader.proofs.Firsts.{NoneHolds, accepted-none}
+use Rattle.reader.proofs.Firsts.NoneHolds.{next}
+use Rattle.reader.specs.Messages.{valuesOf, isBad, bodyOf}
+use Rattle.reader.specs.Reader.{valued}
+use Rattle.reader.specs.Refusals.{Refusal, refused, accepted, answer}
+use Rattle.reader.specs.State.{columnAt, continued, Locates, finished, Judges, Values, concluded, Reads}
+use Rattle.reader.specs.declared.Answer.{Answer}
+use Rattle.reader.specs.declared.Located.{Located}
+use Rattle.reader.specs.declared.Reading.{Reading}
+use Rattle.record.specs.declared.Cell.{Cell}
+use Rattle.text.specs.Bytes.{all}
 use borrow.Author.Tests.{eq-eqb, ne-eqb}
-use mathlib.Core.List.{List}
-use mathlib.Core.Path.{_≡_, sym, ap, _∙_}
+use lib.ListN.{take}
+use mathlib.Core.Bool.{false}
+use mathlib.Core.List.{List, _∷_}
+use mathlib.Core.Path.{_≡_, refl, sym, ap, ap₂, _∙_, subst}
 
-module _ (l : Layout) (col : List (List ℕ)) (v : Verdict) where
-  pub concluded-no : (v .number ≡ 0 → ⊥) → refused (v .number) (v .detail) ≡ finished l col v
-  unfolding finished
-  concluded-no n = rw (ne-eqb (v .number) 0 n)
+-- ---- the answer of a reading
 
-  pub concluded-yes : v .number ≡ 0 → accepted (recordWith l col (v .cells) (v .gradients)) ≡ finished l col v
-  unfolding finished
-  concluded-yes e = rw (eq-eqb (v .number) 0 e)
+module _ (file : List ℕ) (x : Reading) where
+  pub concluded-no : (x .number ≡ 0 → ⊥) → refused (x .number) (x .detail) ≡ concluded file x
+  unfolding concluded finished
+  concluded-no n = rw (ne-eqb (x .number) 0 n)
 
--- a refusal has another number than 0, so that it asks for no places
-pub none-asked : {P : Type 0} (n d : ℕ) (v : Verdict) → v ≡ stopped n d → (n ≡ 0 → ⊥) → v .number ≡ 0 → P
-none-asked n d v e h z = absurd (h (sym (ap (λ (x : Verdict). x .number) e) ∙ z))
+  pub concluded-yes : x .number ≡ 0 → accepted (recordWith (x .layout) (columnAt (x .layout) file (x .places)) (x .cells) (x .gradients)) ≡ concluded file x
+  unfolding concluded finished
+  concluded-yes e = rw (eq-eqb (x .number) 0 e)
+
+-- ---- the reading of the places
+
+-- the answer of refusals 7 to 10 for a unit
+abbrev judgedFor : List ℕ → Located → List ℕ → Answer
+judgedFor file x unit =
+    answer (valued (x .layout) unit (partOf file (x .row)) (columnAt (x .layout) file (x .places))) (bodyOf (x .layout) (columnAt (x .layout) file (x .places)))
+
+module _ (file unit : List ℕ) (x : Located) where
+  continued-no : (x .number ≡ 0 → ⊥) → refused (x .number) (x .detail) ≡ continued file unit x
+  unfolding continued
+  continued-no n = rw (ne-eqb (x .number) 0 n)
+
+  continued-yes : x .number ≡ 0 → judgedFor file x unit ≡ continued file unit x
+  unfolding continued
+  continued-yes e = rw (eq-eqb (x .number) 0 e)
+
+-- where nothing is refused, no value is bad
+first-false : {x : Refusal} {xs : List Refusal} → NoneHolds (x ∷ xs) → x .holds ≡ false
+first-false (next e f) = e
+
+none-bad : (l : Layout) (unit row : List ℕ) (col : List (List ℕ)) (n d : ℕ) (cells : List Cell) (gs : List Triple)
+    → Judges l unit row col n d cells gs → n ≡ 0 → isBad (valuesOf l col) ≡ false
+unfolding finished valued all
+none-bad l unit row col n d cells gs j z =
+    let e : accepted (recordWith l col cells gs) ≡ answer (valued l unit row col) (bodyOf l col) = rw (eq-eqb n 0 z) at j in
+    first-false (accepted-none (valued l unit row col) (bodyOf l col) refl (sym (ap (λ (a : Answer). a .number) e)))
+
+module _ (c i : ℕ) (plan file : List ℕ) (x : Located) (h : Locates c i plan file x) where
+  pub refused-reads : (x .number ≡ 0 → ⊥) → (cells : List Cell) (gs : List Triple)
+      → Reads c i plan file (record { number = x .number; detail = x .detail; layout = x .layout; cells = cells; gradients = gs; places = x .places })
+  refused-reads n cells gs =
+      let y : Reading = record { number = x .number; detail = x .detail; layout = x .layout; cells = cells; gradients = gs; places = x .places } in
+      record { placed = λ z. absurd (n z); readable = λ z. absurd (n z); answers = sym (concluded-no file y n) ∙ continued-no file (take (x .size) (x .unit)) x n ∙ h .answers }
+
+  pub values-read : x .number ≡ 0 → (unit : List ℕ) → unit ≡ take (x .size) (x .unit) → (y : Reading) → Values (x .layout) unit file (x .row) (x .places) y
+      → Reads c i plan file y
+  unfolding concluded
+  values-read z unit u y v =
+      record {
+        placed = λ e.
+            subst (λ (l : Layout). Placed (sizeOf l) file (y .places)) (sym (v .layout-is))
+            (subst (Placed (sizeOf (x .layout)) file) (sym (v .places-are)) (h .stands z .placed));
+        readable = λ e.
+            ap₂ (λ (l : Layout) (ps : List Span). isBad (valuesOf l (columnAt l file ps))) (v .layout-is) (v .places-are)
+            ∙ none-bad (x .layout) unit (partOf file (x .row)) (columnAt (x .layout) file (x .places)) (y .number) (y .detail) (y .cells) (y .gradients) (v .judges) e;
+        answers =
+            ap₂ (λ (l : Layout) (ps : List Span). finished l (columnAt l file ps) (y .number) (y .detail) (y .cells) (y .gradients)) (v .layout-is) (v .places-are)
+            ∙ v .judges ∙ ap (judgedFor file x) u ∙ continued-yes file (take (x .size) (x .unit)) x z ∙ h .answers;
+      }

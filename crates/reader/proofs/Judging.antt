@@ -1,6 +1,6 @@
--- Refusals 7 to 10 as the code meets them: one law for each way out of `judge`.
+-- Refusals 7 to 10 as the code meets them: one law for each way out of `judge`. Assumes nothing.
 use Prim.Native.Nat.{ℕ, _≤_, _<_}
-use Rattle.fill.proofs.Records.{record-with, typed-bad-some}
+use Rattle.fill.proofs.Records.{record-with, typed-bad-some, front-good}
 use Rattle.fill.specs.Filled.{filledOf, triplesOf, recordWith}
 use Rattle.fill.specs.declared.Filled.{Filled}
 use Rattle.layout.proofs.Labels.{few, some-fields}
@@ -8,18 +8,18 @@ use Rattle.layout.specs.Layouts.{kindsOf, sizeOf}
 use Rattle.layout.specs.Rows.{textAt, rowOf}
 use Rattle.layout.specs.declared.Layout.{Layout}
 use Rattle.lines.proofs.Columns.{column-at}
-use Rattle.lines.specs.Places.{partOf, spanAt, Placed, columnIn}
+use Rattle.lines.specs.Places.{partOf, spanAt, Placed}
 use Rattle.lines.specs.declared.Span.{Span}
 use Rattle.list.specs.declared.Triple.{Triple}
 use Rattle.reader.proofs.Firsts.{answer-yes, answer-no, none-given}
 use Rattle.reader.proofs.Firsts.NoneHolds.{none}
-use Rattle.reader.specs.Messages.{valuesOf, isBad, badOf, goodOf, bodyOf}
+use Rattle.reader.specs.Messages.{valuesOf, isBad, goodOf, bodyOf}
 use Rattle.reader.specs.Reader.{valued}
-use Rattle.reader.specs.Refusals.{refused, accepted, answer}
-use Rattle.reader.specs.State.{stopped, finished}
-use Rattle.reader.specs.declared.Verdict.{Verdict}
-use Rattle.record.specs.Records.{Typed, typed, cellsOf}
+use Rattle.reader.specs.Refusals.{refused, accepted}
+use Rattle.reader.specs.State.{columnAt, Filling, finished, Judges}
+use Rattle.record.specs.Records.{Typed, typed, cellsOf, badOf}
 use Rattle.record.specs.Records.Typed.{bad, good}
+use Rattle.record.specs.declared.Cell.{Cell}
 use Rattle.rules.specs.Rules.{rulesOf, lowest, brokenIn}
 use Rattle.text.specs.Bytes.{same}
 use borrow.Author.Tests.{lt-ltb, le-ltb}
@@ -32,68 +32,77 @@ use native.Mathlib.Omega.{arith}
 
 -- ---- what `fill` gave
 
-module _ (l : Layout) (col : List (List ℕ)) (f : Filled) (e : f ≡ filledOf (valuesOf l col)) where
-  bad-field : (y : Typed) → y ≡ valuesOf l col → f ≡ filledOf y → (f .bad ≡ 0 → ⊥) → (isBad y ≡ true) × (f .bad ≡ badOf y)
+module _ (l : Layout) (col : List (List ℕ)) (f : Filled) (e : f ≡ filledOf (kindsOf l) col) where
+  bad-is : f .bad ≡ badOf (valuesOf l col)
+  unfolding filledOf valuesOf
+  bad-is = ap (λ (x : Filled). x .bad) e
+
+  bad-field : (y : Typed) → f .bad ≡ badOf y → (f .bad ≡ 0 → ⊥) → isBad y ≡ true
+  bad-field (bad k) g n = refl
+  bad-field (good vs) g n = absurd (n g)
+
+  is-bad : (f .bad ≡ 0 → ⊥) → (isBad (valuesOf l col) ≡ true) × (f .bad ≡ badOf (valuesOf l col))
+  is-bad n = (bad-field (valuesOf l col) bad-is n, bad-is)
+
+  good-fields : (y : Typed) → typed 1 (kindsOf l) col ≡ y → f .bad ≡ badOf y → f .bad ≡ 0 → (isBad y ≡ false) × (f .cells ≡ cellsOf (goodOf y))
   unfolding filledOf
-  bad-field (bad k) q g n = (refl, ap (λ (x : Filled). x .bad) g)
-  bad-field (good vs) q g n = absurd (n (ap (λ (x : Filled). x .bad) g))
+  good-fields (bad k) q g n = absurd (omega (arith, typed-bad-some 0 (kindsOf l) col k q, g, n))
+  good-fields (good vs) q g n = (refl, ap (λ (x : Filled). x .cells) e ∙ ap cellsOf (front-good 1 (kindsOf l) col vs q))
 
-  pub is-bad : (f .bad ≡ 0 → ⊥) → (isBad (valuesOf l col) ≡ true) × (f .bad ≡ badOf (valuesOf l col))
-  is-bad n = bad-field (valuesOf l col) refl e n
-
-  good-fields : (y : Typed) → typed 1 (kindsOf l) col ≡ y → f ≡ filledOf y → f .bad ≡ 0 → (isBad y ≡ false) × (f .cells ≡ cellsOf (goodOf y))
-  unfolding filledOf
-  good-fields (bad k) q g n = absurd (omega (arith, typed-bad-some 0 (kindsOf l) col k q, ap (λ (x : Filled). x .bad) g, n))
-  good-fields (good vs) q g n = (refl, ap (λ (x : Filled). x .cells) g)
-
-  pub is-good : f .bad ≡ 0 → (isBad (valuesOf l col) ≡ false) × (f .cells ≡ cellsOf (goodOf (valuesOf l col)))
+  is-good : f .bad ≡ 0 → (isBad (valuesOf l col) ≡ false) × (f .cells ≡ cellsOf (goodOf (valuesOf l col)))
   unfolding valuesOf
-  is-good n = good-fields (typed 1 (kindsOf l) col) refl e n
+  is-good n = good-fields (typed 1 (kindsOf l) col) refl bad-is n
 
-  pub is-body : f .bad ≡ 0 → (gs : List Triple) → gs ≡ triplesOf l col → recordWith l col (f .cells) gs ≡ bodyOf l col
+  is-body : f .bad ≡ 0 → (gs : List Triple) → gs ≡ triplesOf l col → recordWith l col (f .cells) gs ≡ bodyOf l col
   unfolding bodyOf
   is-body n gs g = ap₂ (recordWith l col) (is-good n .1) g ∙ record-with l col (goodOf (valuesOf l col))
 
   -- the rules on the cells and triples are those of the record
-  pub is-broken : f .bad ≡ 0 → (gs : List Triple) → gs ≡ triplesOf l col → lowest (rulesOf l (f .cells) gs) ≡ brokenIn (bodyOf l col)
+  is-broken : f .bad ≡ 0 → (gs : List Triple) → gs ≡ triplesOf l col → lowest (rulesOf l (f .cells) gs) ≡ brokenIn (bodyOf l col)
   unfolding brokenIn recordWith
   is-broken n gs g = ap brokenIn (is-body n gs g)
 
 -- ---- the place of the unit, field 2
 
-module _ (l : Layout) (file : List ℕ) (spans : List Span) (p : Placed (sizeOf l) file spans) where
+module _ (l : Layout) (file : List ℕ) (places : List Span) (p : Placed (sizeOf l) file places) where
   two-few : 2 ≤ sizeOf l
   two-few = omega (arith, some-fields l)
 
-  pub unit-ordered : spanAt spans 2 .from ≤ spanAt spans 2 .to
+  pub unit-ordered : spanAt places 2 .from ≤ spanAt places 2 .to
   unit-ordered = p .ordered 2 (omega arith) two-few
 
-  pub unit-inside : spanAt spans 2 .to ≤ length file
+  pub unit-inside : spanAt places 2 .to ≤ length file
   unit-inside = p .inside 2 (omega arith) two-few
 
-  pub unit-text : partOf file (spanAt spans 2) ≡ textAt (columnIn (sizeOf l) file spans) 2
-  unit-text = let h : sizeOf l < length spans = omega (arith, few l, p .long) in sym (column-at (sizeOf l) 2 file spans (omega arith) two-few h)
+  unit-text : partOf file (spanAt places 2) ≡ textAt (columnAt l file places) 2
+  unit-text = let h : sizeOf l < length places = omega (arith, few l, p .long) in sym (column-at (sizeOf l) 2 file places (omega arith) two-few h)
 
 -- ---- the ways out
 
-module _ (l : Layout) (unit row : List ℕ) (col : List (List ℕ)) (f : Filled) (e : f ≡ filledOf (valuesOf l col)) where
-  abbrev Judged : Verdict → Type 0
-  Judged v = finished l col v ≡ answer (valued l unit row col) (bodyOf l col)
+module _ (l : Layout) (unit file : List ℕ) (row : Span) (places : List Span) (b : ℕ) (cells : List Cell) (gs : List Triple) (f : Filling l file row places b cells gs) where
+  abbrev col : List (List ℕ)
+  col = columnAt l file places
 
-  pub bad-value : (f .bad ≡ 0 → ⊥) → Judged (stopped 7 (f .bad))
+  abbrev given : Filled
+  given = record { bad = b; cells = cells }
+
+  abbrev Judged : ℕ → ℕ → Type 0
+  Judged n d = Judges l unit (partOf file row) (columnAt l file places) n d cells gs
+
+  pub bad-value : (b ≡ 0 → ⊥) → Judged 7 b
   unfolding valued finished
   bad-value n =
-      let b = is-bad l col f e n in
-      ap (refused 7) (b .1) ∙ sym (answer-yes 7 _ _ _ _ (b .0))
+      let h = is-bad l col given (f .filled) n in
+      ap (refused 7) (h .1) ∙ sym (answer-yes 7 _ _ _ _ (h .0))
 
-  module _ (n : f .bad ≡ 0) (gs : List Triple) (g : gs ≡ triplesOf l col) (k : ℕ) (b : k ≡ lowest (rulesOf l (f .cells) gs)) where
+  module _ (n : b ≡ 0) (k : ℕ) (q : k ≡ lowest (rulesOf l cells gs)) where
     values : isBad (valuesOf l col) ≡ false
-    values = is-good l col f e n .0
+    values = is-good l col given (f .filled) n .0
 
     broken-is : k ≡ brokenIn (bodyOf l col)
-    broken-is = b ∙ is-broken l col f e n gs g
+    broken-is = q ∙ is-broken l col given (f .filled) n gs (f .triples)
 
-    pub broken-rule : (k ≡ 0 → ⊥) → Judged (stopped 8 k)
+    pub broken-rule : (k ≡ 0 → ⊥) → Judged 8 k
     unfolding valued finished
     broken-rule h =
         let q : 0 < brokenIn (bodyOf l col) = omega (arith, broken-is, h) in
@@ -103,18 +112,23 @@ module _ (l : Layout) (unit row : List ℕ) (col : List (List ℕ)) (f : Filled)
       unbroken : ltb 0 (brokenIn (bodyOf l col)) ≡ false
       unbroken = let h : brokenIn (bodyOf l col) ≤ 0 = omega (arith, broken-is, zero-k) in le-ltb 0 (brokenIn (bodyOf l col)) h
 
-      pub other-unit : same unit (textAt col 2) ≡ false → Judged (stopped 9 0)
+      pub other-unit : same unit (partOf file (spanAt places 2)) ≡ false → Judged 9 0
       unfolding valued finished
-      other-unit u = sym (answer-no 7 _ _ _ _ values ∙ answer-no 8 _ _ _ _ unbroken ∙ answer-yes 9 _ _ _ _ (ap not u))
+      other-unit u =
+          let w : same unit (textAt col 2) ≡ false = ap (same unit) (sym (unit-text l file places (f .placed))) ∙ u in
+          sym (answer-no 7 _ _ _ _ values ∙ answer-no 8 _ _ _ _ unbroken ∙ answer-yes 9 _ _ _ _ (ap not w))
 
-      module _ (units : same unit (textAt col 2) ≡ true) where
-        pub other-row : same row (rowOf l col) ≡ false → Judged (stopped 10 0)
+      module _ (units : same unit (partOf file (spanAt places 2)) ≡ true) where
+        its-unit : not (same unit (textAt col 2)) ≡ false
+        its-unit = ap not (ap (same unit) (sym (unit-text l file places (f .placed))) ∙ units)
+
+        pub other-row : same (partOf file row) (rowOf l col) ≡ false → Judged 10 0
         unfolding valued finished
         other-row w =
-            sym (answer-no 7 _ _ _ _ values ∙ answer-no 8 _ _ _ _ unbroken ∙ answer-no 9 _ _ _ _ (ap not units) ∙ answer-yes 10 _ _ _ _ (ap not w))
+            sym (answer-no 7 _ _ _ _ values ∙ answer-no 8 _ _ _ _ unbroken ∙ answer-no 9 _ _ _ _ its-unit ∙ answer-yes 10 _ _ _ _ (ap not w))
 
-        pub all-well : same row (rowOf l col) ≡ true → Judged (record { number = 0; detail = 0; cells = f .cells; gradients = gs })
+        pub all-well : same (partOf file row) (rowOf l col) ≡ true → Judged 0 0
         unfolding valued finished
         all-well w =
-            ap accepted (is-body l col f e n gs g)
-            ∙ sym (answer-no 7 _ _ _ _ values ∙ answer-no 8 _ _ _ _ unbroken ∙ answer-no 9 _ _ _ _ (ap not units) ∙ answer-no 10 _ _ _ _ (ap not w) ∙ none-given _ none)
+            ap accepted (is-body l col given (f .filled) n gs (f .triples))
+            ∙ sym (answer-no 7 _ _ _ _ values ∙ answer-no 8 _ _ _ _ unbroken ∙ answer-no 9 _ _ _ _ its-unit ∙ answer-no 10 _ _ _ _ (ap not w) ∙ none-given _ none)

@@ -1,5 +1,7 @@
 pub mod Firsts
 pub mod Judging
 pub mod Concluding
-pub mod Taking
-pub mod Reading
+pub mod Chosen
+pub mod Placing
+pub mod Walking
+pub mod Locating

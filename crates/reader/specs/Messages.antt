@@ -56,11 +56,6 @@ abbrev pub isBad : Typed → Bool
 isBad (bad k) = true
 isBad (good vs) = false
 
--- the first bad field
-abbrev pub badOf : Typed → ℕ
-badOf (bad k) = k
-badOf (good vs) = 0
-
 abbrev pub goodOf : Typed → List Value
 goodOf (bad k) = []
 goodOf (good vs) = vs

@@ -8,9 +8,10 @@ use Rattle.lines.specs.Lines.{texts, seps, framed, allowedUpto}
 use Rattle.name.specs.declared.MessageType.{MessageType}
 use Rattle.plan.specs.Rows.{planOf, soughtOf}
 use Rattle.plan.specs.declared.Sought.{Sought}
-use Rattle.reader.specs.Messages.{given, rowIn, layoutIn, entriesIn, valuesOf, isBad, badOf, bodyOf}
+use Rattle.reader.specs.Messages.{given, rowIn, layoutIn, entriesIn, valuesOf, isBad, bodyOf}
 use Rattle.reader.specs.Refusals.{Refusal, refusal, answer}
 use Rattle.reader.specs.declared.Answer.{Answer}
+use Rattle.record.specs.Records.{badOf}
 use Rattle.record.specs.declared.Record.{Record}
 use Rattle.rules.specs.Rules.{brokenIn}
 use Rattle.text.specs.Bytes.{same, within}

@@ -1,49 +1,106 @@
--- What the walk hands to the judging of a layout: the row's place, and the fields' state after some entries.
-use Prim.Native.Nat.{ℕ, _≤_}
-use Rattle.fill.specs.Filled.{recordWith}
-use Rattle.layout.specs.Layouts.{labelsOf, sizeOf}
+-- What the reader's parts hand on: where a message's values stand, and what is judged of them. No answer of the reader depends on how they do it.
+use Prim.Native.Nat.{ℕ, _-_, _≤_}
+use Rattle.fill.specs.Filled.{filledOf, triplesOf, recordWith}
+use Rattle.layout.specs.Layouts.{kindsOf, sizeOf}
 use Rattle.layout.specs.declared.Layout.{Layout}
-use Rattle.lines.specs.Entries.{Entry, column}
-use Rattle.lines.specs.Places.{partOf, Placed, columnIn}
+use Rattle.layout.specs.declared.Layout.the-variants.{Market}
+use Rattle.lines.specs.Places.{noSpan, partOf, Placed, columnIn}
 use Rattle.lines.specs.declared.Span.{Span}
-use Rattle.list.specs.Forms.{noTriple}
+use Rattle.list.specs.declared.Triple.{Triple}
 use Rattle.name.specs.declared.MessageType.{MessageType}
 use Rattle.name.specs.declared.MessageType.the-variants.{Cb, Rc, Mg, Eb, Lb, Sr, Vq, Ri, Qr}
-use Rattle.reader.specs.Messages.{bodyOf}
-use Rattle.reader.specs.Reader.{labelled}
+use Rattle.reader.specs.Messages.{valuesOf, isBad, bodyOf}
+use Rattle.reader.specs.Reader.{valued, messageOf, readOf}
 use Rattle.reader.specs.Refusals.{refused, accepted, answer}
 use Rattle.reader.specs.declared.Answer.{Answer}
-use Rattle.reader.specs.declared.Verdict.{Verdict}
-use Rattle.record.specs.Records.{cell}
-use Rattle.value.specs.declared.Value.the-variants.{Blank}
-use Rattle.walk.specs.State.{Fields, has}
+use Rattle.reader.specs.declared.Located.{Located}
+use Rattle.reader.specs.declared.Reading.{Reading}
+use Rattle.record.specs.declared.Cell.{Cell}
+use Rattle.walk.specs.State.{has}
 use Rattle.walk.specs.declared.Marks.{Marks}
+use lib.Count.{ones}
 use lib.Dec.{eqb}
-use lib.ListN.{length, replicate}
+use lib.ListN.{length, take, replicate}
 use mathlib.Core.Bool.{Bool, false, cond}
 use mathlib.Core.List.{List}
 use mathlib.Core.Path.{_≡_}
 
-pub record Ready (l : Layout) (file : List ℕ) (row : Span) (m : Marks) (spans : List Span) : Type 0 where
+-- ---- refusals 13 and 1 to 6: where the values stand
+
+-- a refusal: no place
+abbrev pub nowhere : ℕ → ℕ → Located
+nowhere n d =
+    record { number = n; detail = d; layout = Market; size = 0; unit = replicate 16 0; row = noSpan; places = replicate 27 noSpan }
+
+-- of a layout: 5 a label twice, 6 how many have no line; else the places
+unfoldable pub placedAs : Layout → Span → Marks → List Span → Located
+placedAs l row m places =
+    cond (eqb (m .again) 0)
+    (cond (eqb (sizeOf l - ones (m .seen)) 0)
+    (record { number = 0; detail = 0; layout = l; size = 0; unit = replicate 16 0; row = row; places = places })
+    (nowhere 6 (sizeOf l - ones (m .seen))))
+    (nowhere 5 (m .again))
+
+-- the row and every field of the layout have a place in the file
+pub record Stands (file : List ℕ) (x : Located) : Type 0 where
+  pub ordered : x .row .from ≤ x .row .to
+  pub inside : x .row .to ≤ length file
+  pub placed : Placed (sizeOf (x .layout)) file (x .places)
+
+-- the column of a layout's values at their places
+abbrev pub columnAt : Layout → List ℕ → List Span → List (List ℕ)
+columnAt l file places = columnIn (sizeOf l) file places
+
+-- the answer to which it leads for a unit: its refusal, or that of refusals 7 to 10
+unfoldable pub continued : List ℕ → List ℕ → Located → Answer
+continued file unit x =
+    cond (eqb (x .number) 0)
+    (answer (valued (x .layout) unit (partOf file (x .row)) (columnAt (x .layout) file (x .places))) (bodyOf (x .layout) (columnAt (x .layout) file (x .places))))
+    (refused (x .number) (x .detail))
+
+-- what a file leads to as a message of a type, and at an address of a plan
+pub record Walks (t : MessageType) (file : List ℕ) (x : Located) : Type 0 where
+  pub stands : x .number ≡ 0 → Stands file x
+  pub answers : (unit : List ℕ) → continued file unit x ≡ messageOf t unit file
+
+pub record Locates (ca ioa : ℕ) (plan file : List ℕ) (x : Located) : Type 0 where
+  pub stands : x .number ≡ 0 → Stands file x
+  pub answers : continued file (take (x .size) (x .unit)) x ≡ readOf ca ioa plan file
+
+-- ---- refusals 7 to 10: what is judged of the values
+
+-- what stands at a layout's places: its row, its fields, and what was read of them
+pub record Filling (l : Layout) (file : List ℕ) (row : Span) (places : List Span) (bad : ℕ) (cells : List Cell) (gradients : List Triple) : Type 0 where
   pub ordered : row .from ≤ row .to
   pub inside : row .to ≤ length file
-  pub es : List Entry
-  pub fields : Fields file (labelsOf l) m spans es
+  pub placed : Placed (sizeOf l) file places
+  pub filled : record { bad = bad; cells = cells } ≡ filledOf (kindsOf l) (columnAt l file places)
+  pub triples : gradients ≡ triplesOf l (columnAt l file places)
 
--- a refusal as a verdict
-abbrev pub stopped : ℕ → ℕ → Verdict
-stopped n d = record { number = n; detail = d; cells = replicate 26 (cell Blank); gradients = replicate 16 noTriple }
+-- the answer of what was judged on a column: its refusal, or the record with these cells and triples
+unfoldable pub finished : Layout → List (List ℕ) → ℕ → ℕ → List Cell → List Triple → Answer
+finished l col n d cells gradients = cond (eqb n 0) (accepted (recordWith l col cells gradients)) (refused n d)
 
--- the answer of a verdict on a column
-unfoldable pub finished : Layout → List (List ℕ) → Verdict → Answer
-finished l col v = cond (eqb (v .number) 0) (accepted (recordWith l col (v .cells) (v .gradients))) (refused (v .number) (v .detail))
+-- what is judged is refusals 7 to 10 of a unit and a row
+abbrev pub Judges : Layout → List ℕ → List ℕ → List (List ℕ) → ℕ → ℕ → List Cell → List Triple → Type 0
+Judges l unit row col n d cells gradients = finished l col n d cells gradients ≡ answer (valued l unit row col) (bodyOf l col)
 
--- what is taken of them: a verdict whose answer is that of refusals 5 to 10 on whatever entries the fields' state says; where it is no refusal, every
--- field has its place
-pub record Takes (l : Layout) (unit file : List ℕ) (row : Span) (m : Marks) (spans : List Span) (v : Verdict) : Type 0 where
-  pub placed : v .number ≡ 0 → Placed (sizeOf l) file spans
-  pub answers : (es : List Entry) → Fields file (labelsOf l) m spans es
-      → finished l (columnIn (sizeOf l) file spans) v ≡ answer (labelled l unit (partOf file row) es) (bodyOf l (column 1 (labelsOf l) es))
+pub record Values (l : Layout) (unit file : List ℕ) (row : Span) (places : List Span) (x : Reading) : Type 0 where
+  pub layout-is : x .layout ≡ l
+  pub places-are : x .places ≡ places
+  pub judges : Judges l unit (partOf file row) (columnAt l file places) (x .number) (x .detail) (x .cells) (x .gradients)
+
+-- ---- all of them
+
+unfoldable pub concluded : List ℕ → Reading → Answer
+concluded file x = finished (x .layout) (columnAt (x .layout) file (x .places)) (x .number) (x .detail) (x .cells) (x .gradients)
+
+-- what was read of a file at an address: it leads to the reader's answer, and where it is no refusal every field has its place, with a value that its
+-- kind may hold
+pub record Reads (ca ioa : ℕ) (plan file : List ℕ) (x : Reading) : Type 0 where
+  pub placed : x .number ≡ 0 → Placed (sizeOf (x .layout)) file (x .places)
+  pub readable : x .number ≡ 0 → isBad (valuesOf (x .layout) (columnAt (x .layout) file (x .places))) ≡ false
+  pub answers : concluded file x ≡ readOf ca ioa plan file
 
 -- the bit of `Tipo Comando`, the field 8 of mFRR, in a CB file
 abbrev pub isMfrr : MessageType → ℕ → Bool

@@ -9,12 +9,12 @@ use text::scan;
 use walk::Marks;
 ghost use Prim.Native.Nat.{_≤_};
 ghost use Rattle.layout.specs.Layouts.{sizeOf};
-ghost use Rattle.lines.specs.Places.{partOf, Placed, columnIn};
-ghost use Rattle.reader.specs.Messages.{bodyOf};
-ghost use Rattle.reader.specs.Reader.{valued, messageOf, readOf};
-ghost use Rattle.reader.specs.Refusals.{refused, accepted, answer};
-ghost use Rattle.reader.specs.State.{stopped, finished, Ready, Takes, isMfrr};
+ghost use Rattle.lines.specs.Places.{partOf, Placed};
+ghost use Rattle.reader.specs.Reader.{readOf};
+ghost use Rattle.reader.specs.Refusals.{refused, accepted};
+ghost use Rattle.reader.specs.State.{nowhere, placedAs, columnAt, Walks, Locates, Filling, Judges, Values, concluded, Reads, isMfrr};
 ghost use Rattle.text.specs.Bytes.{same};
+ghost use lib.Count.{ones};
 ghost use lib.ListN.{length};
 ghost use mathlib.Core.Path.{_≡_};
 
@@ -45,91 +45,71 @@ fn accept(body: Record) -> Answer
     }
 }
 
-// What is judged of a layout's values: a refusal's number and detail, or the number 0 with the cells and triples of the record. It is apart from the
-// answer so that the judging's stack is free again when the record is built of it.
-pub struct Verdict {
+// Where a message's values stand: its layout, the plan's unit, and the places of its row and of its fields; or a refusal's number and detail.
+pub struct Located {
     pub number: u8,
     pub detail: usize,
+    pub layout: Layout,
+    pub size: usize,
+    pub unit: [u8; 16],
+    pub row: Span,
+    pub places: [Span; 27],
+}
+
+// What is read of a message, with its texts left in the file: a refusal's number and detail, or the number 0 with the layout, the cells and triples of
+// its record, and the places of its fields.
+pub struct Reading {
+    pub number: u8,
+    pub detail: usize,
+    pub layout: Layout,
     pub cells: [Cell; 26],
     pub gradients: [Triple; 16],
+    pub places: [Span; 27],
 }
 
-fn stop(number: u8, detail: usize) -> Verdict
-    ensures { λ r. ⌜ r ≡ stopped number detail ⌝ }
+// A refusal's number and detail, or 0 and 0.
+struct Early {
+    number: u8,
+    detail: usize,
+}
+
+const NOWHERE: Span = Span { from: 0, to: 0 };
+
+fn unplaced(number: u8, detail: usize) -> Located
+    ensures { λ r. ⌜ r ≡ nowhere number detail ⌝ }
 {
-    Verdict {
+    Located {
         number,
         detail,
-        cells: [record::EMPTY; 26],
-        gradients: [record::NO_TRIPLE; 16],
-    }
-}
-
-// Whether a text is the one at a place of the file.
-fn is_at(text: &[u8], file: &[u8], p: Span) -> bool
-    requires { ⌜ (p .from ≤ p .to) × (p .to ≤ length (now file)) ⌝ }
-    ensures { λ r. ⌜ r ≡ same (now (text .entry)) (partOf (now (file .entry)) p) ⌝ }
-{
-    let from = p.from as usize;
-    let to = p.to as usize;
-    scan::same(text, &file[from..to])
-}
-
-// Refusals 7 to 10, on the places of the layout's values.
-fn judge(l: Layout, unit: &[u8], file: &[u8], row: Span, spans: [Span; 27]) -> Verdict
-    requires { ⌜ (row .from ≤ row .to) × (row .to ≤ length (now file)) × Placed (sizeOf l) (now file) spans ⌝ }
-    ensures { λ r. ⌜ finished l (columnIn (sizeOf l) (now (file .entry)) spans) r ≡ answer (valued l (now (unit .entry)) (partOf (now (file .entry)) row) (columnIn (sizeOf l) (now (file .entry)) spans)) (bodyOf l (columnIn (sizeOf l) (now (file .entry)) spans)) ⌝ }
-{
-    let filled = fill::fill(l, file, spans);
-    if filled.bad != 0 {
-        return stop(7, filled.bad);
-    }
-    let cells = filled.cells;
-    let gradients = fill::triples_of(l, file, spans);
-    let broken = rules::lowest_of(l, cells, gradients);
-    if broken != 0 {
-        return stop(8, broken as usize);
-    }
-    if !is_at(unit, file, spans[2]) {
-        return stop(9, 0);
-    }
-    if !row::agrees(l, file, row, spans) {
-        return stop(10, 0);
-    }
-    Verdict {
-        number: 0,
-        detail: 0,
-        cells,
-        gradients,
+        layout: Layout::Market,
+        size: 0,
+        unit: [0; 16],
+        row: NOWHERE,
+        places: [NOWHERE; 27],
     }
 }
 
 // Refusals 5 and 6: a label twice, and how many labels have no line, which is the layout's count of fields less the count of bits.
-fn take(l: Layout, unit: &[u8], file: &[u8], row: Span, m: Marks, spans: [Span; 27]) -> Verdict
-    requires { ⌜ Ready l (now file) row m spans ⌝ }
-    ensures { λ r. ⌜ Takes l (now (unit .entry)) (now (file .entry)) row m spans r ⌝ }
+fn place(l: Layout, row: Span, m: Marks, places: [Span; 27]) -> Located
+    requires { ⌜ ones (m .seen) ≤ sizeOf l ⌝ }
+    ensures { λ r. ⌜ r ≡ placedAs l row m places ⌝ }
 {
     if m.again != 0 {
-        return stop(5, m.again);
+        return unplaced(5, m.again);
     }
     let missing = layout::size(l) - u32::count_ones(m.seen) as usize;
     if missing != 0 {
-        return stop(6, missing);
+        return unplaced(6, missing);
     }
-    judge(l, unit, file, row, spans)
-}
-
-// The answer of a verdict: its refusal, or the record with the texts kept in their rooms.
-fn conclude(l: Layout, file: &[u8], spans: [Span; 27], v: Verdict) -> Answer
-    requires { ⌜ (v .number ≡ 0 → Placed (sizeOf l) (now file) spans) ⌝ }
-    ensures { λ r. ⌜ r ≡ finished l (columnIn (sizeOf l) (now (file .entry)) spans) v ⌝ }
-{
-    if v.number != 0 {
-        return refuse(v.number, v.detail);
+    Located {
+        number: 0,
+        detail: 0,
+        layout: l,
+        size: 0,
+        unit: [0; 16],
+        row,
+        places,
     }
-    let cells = v.cells;
-    let gradients = v.gradients;
-    accept(fill::record_of(l, file, spans, cells, gradients))
 }
 
 // A CB file is the mFRR layout when `Tipo Comando`, its field 8, has a line.
@@ -149,51 +129,168 @@ fn is_mfrr(t: MessageType, m: Marks) -> bool
     }
 }
 
-// A file read as a message of a type for a unit: a check of its size, and one walk.
-pub fn read_message(t: MessageType, unit: &[u8], file: &[u8]) -> Answer
-    ensures { λ r. ⌜ r ≡ messageOf t (now (unit .entry)) (now (file .entry)) ⌝ }
+// Refusals 2 to 6 of a file as a message of a type: a check of its size, and one walk.
+fn walk_file(t: MessageType, file: &[u8]) -> Located
+    ensures { λ r. ⌜ Walks t (now (file .entry)) r ⌝ }
 {
     if file.len() == 0 {
-        return refuse(2, 0);
+        return unplaced(2, 0);
     }
     if 8192 < file.len() {
-        return refuse(2, 0);
+        return unplaced(2, 0);
     }
     let found = walk::walk(t, file);
     if found.stop < file.len() {
-        return refuse(3, found.stop);
+        return unplaced(3, found.stop);
     }
     let frame = found.frame;
     if frame.seps != 2 {
-        return refuse(4, frame.seps);
+        return unplaced(4, frame.seps);
     }
     if frame.inside != 1 {
-        return refuse(4, frame.seps);
+        return unplaced(4, frame.seps);
     }
     let row = frame.row;
     let second = found.second;
     if is_mfrr(t, second) {
         let others = found.others;
-        let verdict = take(Layout::Mfrr, unit, file, row, second, others);
-        return conclude(Layout::Mfrr, file, others, verdict);
+        return place(Layout::Mfrr, row, second, others);
     }
     let first = found.first;
     let places = found.places;
-    let l = layout::of_type(t);
-    let verdict = take(l, unit, file, row, first, places);
-    conclude(l, file, places, verdict)
+    place(layout::of_type(t), row, first, places)
+}
+
+// Refusals 13 and 1 of the plan, and then those of the file.
+fn locate(ca: u32, ioa: u32, plan: &[u8], file: &[u8]) -> Located
+    ensures { λ r. ⌜ Locates ca ioa (now (plan .entry)) (now (file .entry)) r ⌝ }
+{
+    let sought = plan::seek(plan, ca, ioa);
+    if sought.number != 0 {
+        return unplaced(sought.number, sought.detail);
+    }
+    let t = sought.kind;
+    let mut x = walk_file(t, file);
+    let unit = sought.unit;
+    x.size = sought.size;
+    x.unit = unit;
+    x
+}
+
+// Whether a text is the one at a place of the file.
+fn is_at(text: &[u8], file: &[u8], p: Span) -> bool
+    requires { ⌜ (p .from ≤ p .to) × (p .to ≤ length (now file)) ⌝ }
+    ensures { λ r. ⌜ r ≡ same (now (text .entry)) (partOf (now (file .entry)) p) ⌝ }
+{
+    let from = p.from as usize;
+    let to = p.to as usize;
+    scan::same(text, &file[from..to])
+}
+
+// Refusals 7 to 10, on the values of a layout's fields.
+fn judge(
+    l: Layout,
+    unit: &[u8],
+    file: &[u8],
+    row: Span,
+    places: [Span; 27],
+    bad: usize,
+    cells: [Cell; 26],
+    gradients: [Triple; 16],
+) -> Early
+    requires { ⌜ Filling l (now file) row places bad cells gradients ⌝ }
+    ensures { λ r. ⌜ Judges l (now (unit .entry)) (partOf (now (file .entry)) row) (columnAt l (now (file .entry)) places) (r .number) (r .detail) cells gradients ⌝ }
+{
+    if bad != 0 {
+        return Early {
+            number: 7,
+            detail: bad,
+        };
+    }
+    let broken = rules::lowest_of(l, cells, gradients);
+    if broken != 0 {
+        return Early {
+            number: 8,
+            detail: broken as usize,
+        };
+    }
+    if !is_at(unit, file, places[2]) {
+        return Early {
+            number: 9,
+            detail: 0,
+        };
+    }
+    if !row::agrees(l, file, row, places) {
+        return Early {
+            number: 10,
+            detail: 0,
+        };
+    }
+    Early {
+        number: 0,
+        detail: 0,
+    }
+}
+
+// The values at their places, judged.
+fn values_at(unit: &[u8], file: &[u8], l: Layout, row: Span, places: [Span; 27]) -> Reading
+    requires { ⌜ (row .from ≤ row .to) × (row .to ≤ length (now file)) × Placed (sizeOf l) (now file) places ⌝ }
+    ensures { λ r. ⌜ Values l (now (unit .entry)) (now (file .entry)) row places r ⌝ }
+{
+    let filled = fill::fill(l, file, places);
+    let cells = filled.cells;
+    let gradients = fill::triples_of(l, file, places);
+    let early = judge(l, unit, file, row, places, filled.bad, cells, gradients);
+    Reading {
+        number: early.number,
+        detail: early.detail,
+        layout: l,
+        cells,
+        gradients,
+        places,
+    }
+}
+
+// A file judged at an address of a plan.
+pub fn judged(ca: u32, ioa: u32, plan: &[u8], file: &[u8]) -> Reading
+    ensures { λ r. ⌜ Reads ca ioa (now (plan .entry)) (now (file .entry)) r ⌝ }
+{
+    let x = locate(ca, ioa, plan, file);
+    let l = x.layout;
+    let row = x.row;
+    let places = x.places;
+    if x.number != 0 {
+        return Reading {
+            number: x.number,
+            detail: x.detail,
+            layout: l,
+            cells: [record::EMPTY; 26],
+            gradients: [record::NO_TRIPLE; 16],
+            places,
+        };
+    }
+    let unit = x.unit;
+    values_at(scan::front(&unit, x.size), file, l, row, places)
+}
+
+// The answer of what was read: its refusal, or the record with the texts kept in their rooms.
+fn conclude(file: &[u8], x: Reading) -> Answer
+    requires { ⌜ (x .number ≡ 0 → Placed (sizeOf (x .layout)) (now file) (x .places)) ⌝ }
+    ensures { λ r. ⌜ r ≡ concluded (now (file .entry)) x ⌝ }
+{
+    if x.number != 0 {
+        return refuse(x.number, x.detail);
+    }
+    let l = x.layout;
+    let places = x.places;
+    let cells = x.cells;
+    let gradients = x.gradients;
+    accept(fill::record_of(l, file, places, cells, gradients))
 }
 
 // A file read at an address of a plan.
 pub fn read(ca: u32, ioa: u32, plan: &[u8], file: &[u8]) -> Answer
     ensures { λ r. ⌜ r ≡ readOf ca ioa (now (plan .entry)) (now (file .entry)) ⌝ }
 {
-    let sought = plan::seek(plan, ca, ioa);
-    if sought.number != 0 {
-        return refuse(sought.number, sought.detail);
-    }
-    let t = sought.kind;
-    let n = sought.size;
-    let unit = sought.unit;
-    read_message(t, scan::front(&unit, n), file)
+    conclude(file, judged(ca, ioa, plan, file))
 }

@@ -1,6 +1,7 @@
 -- A column that was read by its kinds: each value is held by its kind, and the rooms of the record hold the texts of its values.
 -- Assumes nothing.
 use Prim.Native.Nat.{ℕ, zero, suc, _≤_, _<_}
+use Rattle.fill.proofs.Records.{not-good, good-is}
 use Rattle.fill.proofs.Stored.{kept-in-room, record-stored}
 use Rattle.layout.proofs.Labels.{kinds-length, kind-at}
 use Rattle.layout.specs.Layouts.{kindsOf, noKind, typeOf}
@@ -52,12 +53,6 @@ pub data ReadAll : List Kind → List (List ℕ) → List Value → Type 0 where
   end : {ts : List (List ℕ)} → ReadAll [] ts []
   next : {d : Kind} {ds : List Kind} {s : List ℕ} {ts : List (List ℕ)} {v : Value} {vs : List Value}
       → valueOf d s ≡ Read v → ReadAll ds ts vs → ReadAll (d ∷ ds) (s ∷ ts) (v ∷ vs)
-
-not-good : {k : ℕ} {vs : List Value} → bad k ≡ good vs → ⊥
-not-good e = let z : _≡_ {A = ℕ} 0 1 = cc in omega arith
-
-good-is : {vs ws : List Value} → good vs ≡ good ws → vs ≡ ws
-good-is e = cc
 
 joined-read : (k : ℕ) (d : Kind) (ds : List Kind) (s : List ℕ) (ts : List (List ℕ)) (vs : List Value) (g : Got) (t : Typed)
     → valueOf d s ≡ g → joined k g t ≡ good vs → ((ws : List Value) → t ≡ good ws → ReadAll ds ts ws) → ReadAll (d ∷ ds) (s ∷ ts) vs
@@ -216,21 +211,32 @@ module _ (l : Layout) (col : List (List ℕ)) (vs : List Value) (read : typed 1 
   pub unit-text : textAt (textsOf body vs) 2 ≡ textAt col 2
   unit-text = kept-at 16 IsUnit 2 (unit-at l) unit-is-kept .1
 
-  reason-room : keptIn 128 (textAt col (reasonField l)) ≡ roomOf 128 (textAt (textsOf body vs) (reasonField l))
+  reason-is-kept : KeptAt 128 IsReason (reasonField l)
   unfolding recordOf
-  reason-room =
-      let s = textAt col (reasonField l) in
-      ⊎-elim (no-room 128 (reasonField l))
-      (λ w. room-of 128 IsReason (reasonField l) w (λ d v q e. reason-kept (typeOf l) room s v d q e (kept-in-room 128 s)))
-      (reason-at l)
+  reason-is-kept d v q e = reason-kept (typeOf l) room (textAt col (reasonField l)) v d q e (kept-in-room 128 (textAt col (reasonField l)))
+
+  reason-room : keptIn 128 (textAt col (reasonField l)) ≡ roomOf 128 (textAt (textsOf body vs) (reasonField l))
+  reason-room = ⊎-elim (no-room 128 (reasonField l)) (λ w. room-of 128 IsReason (reasonField l) w reason-is-kept) (reason-at l)
+
+  note-is-kept : KeptAt 256 IsNote (noteField l)
+  unfolding recordOf
+  note-is-kept d v q e = note-kept (typeOf l) room (textAt col (noteField l)) v d q e (kept-in-room 256 (textAt col (noteField l)))
 
   note-room : keptIn 256 (textAt col (noteField l)) ≡ roomOf 256 (textAt (textsOf body vs) (noteField l))
-  unfolding recordOf
-  note-room =
-      let s = textAt col (noteField l) in
-      ⊎-elim (no-room 256 (noteField l))
-      (λ w. room-of 256 IsNote (noteField l) w (λ d v q e. note-kept (typeOf l) room s v d q e (kept-in-room 256 s)))
-      (note-at l)
+  note-room = ⊎-elim (no-room 256 (noteField l)) (λ w. room-of 256 IsNote (noteField l) w note-is-kept) (note-at l)
+
+  -- so none of these texts is too long for its room
+  none-short : (n k : ℕ) → k ≡ 0 → length (textAt col k) ≤ n
+  none-short n k e = rw e (omega arith)
+
+  pub unit-short : length (textAt col 2) ≤ 16
+  unit-short = kept-at 16 IsUnit 2 (unit-at l) unit-is-kept .0
+
+  pub reason-short : length (textAt col (reasonField l)) ≤ 128
+  reason-short = ⊎-elim (none-short 128 (reasonField l)) (λ w. kept-at 128 IsReason (reasonField l) w reason-is-kept .0) (reason-at l)
+
+  pub note-short : length (textAt col (noteField l)) ≤ 256
+  note-short = ⊎-elim (none-short 256 (noteField l)) (λ w. kept-at 256 IsNote (noteField l) w note-is-kept .0) (note-at l)
 
   -- THE LAW: the record of a column of tidy texts that were read, where it breaks no rule, is valid
   pub record-valid : all tidy col ≡ true → brokenIn (recordOf l col vs) ≡ 0 → ValidAs (recordOf l col vs) vs

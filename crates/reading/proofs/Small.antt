@@ -14,10 +14,10 @@ use Rattle.name.specs.declared.MessageType.{MessageType}
 use Rattle.plan.specs.Keyed.{below}
 use Rattle.plan.specs.Rows.{Row, caAt, ioaAt, unitAt, typeAt, isAt, RowRead, named, begun, rowOf as rowAt, Plan, rows, wrong, after, planFrom, planOf, lookUp, soughtOf}
 use Rattle.plan.specs.Rows.RowRead.{good as goodRow, bad as badRow}
-use Rattle.reader.specs.Messages.{given, rowIn, layoutIn, entriesIn, valuesOf, isBad, badOf, bodyOf}
+use Rattle.reader.specs.Messages.{given, rowIn, layoutIn, entriesIn, valuesOf, isBad, bodyOf}
 use Rattle.reader.specs.Reader.{isThere, numberOr, valued, labelled, reading, bodyIn, unitIn, planned, answerAt, readOf}
 use Rattle.reader.specs.Refusals.{Refusal, refusal, answer}
-use Rattle.record.specs.Records.{Typed, joined, typed}
+use Rattle.record.specs.Records.{Typed, joined, typed, badOf}
 use Rattle.record.specs.Records.Typed.{bad, good}
 use Rattle.record.specs.declared.Cell.{Cell}
 use Rattle.record.specs.declared.Record.{Record}

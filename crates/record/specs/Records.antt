@@ -35,6 +35,11 @@ typed k [] ts = good []
 typed k (d ∷ ds) [] = bad k
 typed k (d ∷ ds) (t ∷ ts) = joined k (valueOf d t) (typed (suc k) ds ts)
 
+-- the first bad field: 0 where none is
+abbrev pub badOf : Typed → ℕ
+badOf (bad k) = k
+badOf (good vs) = 0
+
 -- ---- the record
 
 abbrev pub cell : Value → Cell

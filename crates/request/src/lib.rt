@@ -44,3 +44,32 @@ pub fn text_of<'a>(line: &'a [u8], p: Part) -> &'a [u8] {
 pub fn number_of(line: &[u8], p: Part) -> Digits {
     digits::read_digits(text_of(line, p), 10)
 }
+
+// What stands of a part before the first b in it: all of it where there is none.
+pub fn piece(line: &[u8], p: Part, b: u8) -> Part {
+    let n = scan::first(text_of(line, p), b);
+    if p.to <= p.from {
+        return p;
+    }
+    if p.to - p.from <= n {
+        return p;
+    }
+    Part {
+        from: p.from,
+        to: p.from + n,
+    }
+}
+
+// What stands of a part past a piece at its front and the byte after it.
+pub fn past(p: Part, front: Part) -> Part {
+    if p.to <= front.to {
+        return Part {
+            from: p.to,
+            to: p.to,
+        };
+    }
+    Part {
+        from: front.to + 1,
+        to: p.to,
+    }
+}

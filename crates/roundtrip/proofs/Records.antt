@@ -1,6 +1,7 @@
 -- A valid record from the column of its texts: they are tidy, each reads as its value, and together they give the record. Assumes nothing.
 use Prim.Native.Nat.{ℕ, suc, _≤_}
 use Rattle.asked.specs.Values.{sizeIn}
+use Rattle.brief.specs.Brief.{unitOf}
 use Rattle.layout.specs.Rows.{textAt}
 use Rattle.list.proofs.RoundTrip.{gradients-back}
 use Rattle.list.specs.Forms.{gradientsIn}
@@ -9,15 +10,14 @@ use Rattle.list.specs.declared.Triple.{Triple}
 use Rattle.name.specs.declared.MessageType.{MessageType}
 use Rattle.reading.proofs.Held.{no-gradients}
 use Rattle.record.proofs.Places.{gradients-at}
-use Rattle.record.specs.Records.{joined, typed, fieldOf, reasonField, noteField, gradientsField, recordOf, roomsOf}
 use Rattle.record.specs.Records.Typed.{good}
+use Rattle.record.specs.Records.{joined, typed, fieldOf, reasonField, noteField, gradientsField, recordOf, roomsOf}
 use Rattle.record.specs.declared.Record.{Record}
-use Rattle.roundtrip.specs.Own.{unitOf}
 use Rattle.room.specs.Rooms.{keptIn}
 use Rattle.text.specs.Bytes.{all, tidy}
 use Rattle.text.specs.Puts.{roomOf}
-use Rattle.valid.specs.Valid.{HoldAll, textsOf, ValidAs}
 use Rattle.valid.specs.Valid.HoldAll.{end, next}
+use Rattle.valid.specs.Valid.{HoldAll, textsOf, ValidAs}
 use Rattle.value.proofs.Back.{value-back}
 use Rattle.value.proofs.Shown.{value-tidy}
 use Rattle.value.specs.Texts.{Rooms, valueText}

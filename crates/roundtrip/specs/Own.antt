@@ -1,19 +1,13 @@
 -- A record's own address. Document 01, "Written form": its own address is any to which the plan gives its type and unit.
 use Prim.Native.Nat.{ℕ}
-use Rattle.asked.specs.Values.{sizeIn}
+use Rattle.brief.specs.Brief.{unitOf}
 use Rattle.layout.specs.Layouts.{typeOf}
 use Rattle.plan.specs.Rows.{planOf, soughtOf}
 use Rattle.plan.specs.declared.Sought.{Sought}
 use Rattle.reader.specs.Reader.{unitIn}
-use Rattle.record.specs.Records.{fieldOf}
 use Rattle.record.specs.declared.Record.{Record}
-use lib.ListN.{take}
 use mathlib.Core.List.{List}
 use mathlib.Core.Path.{_≡_}
-
--- the code of its unit
-unfoldable pub unitOf : Record → List ℕ
-unitOf r = take (sizeIn (fieldOf (r .cells) 2)) (r .unit)
 
 -- what a plan gives is found, with the record's type and unit
 pub record Fitting (r : Record) (s : Sought) : Type 0 where

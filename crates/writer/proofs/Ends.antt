@@ -1,26 +1,25 @@
 -- The ends of a write: written, no room, refused. Assumes nothing.
 use Prim.Native.Nat.{ℕ, _+_, _-_, _≤_, _<_}
-use Rattle.reader.specs.declared.Answer.{Answer}
 use Rattle.record.specs.declared.Record.{Record}
 use Rattle.text.proofs.Runs.{none-put}
 use Rattle.text.specs.Puts.{bufferOf}
 use Rattle.validity.specs.Validity.{isValid}
-use Rattle.writer.specs.Writer.{fitted, writeOf, leftBy, normaliseOf, normalLeft}
+use Rattle.writer.specs.Writer.{fitted, writeOf, leftBy}
 use Rattle.writer.specs.declared.Written.{Written}
 use Rattle.writer.specs.declared.Written.the-variants.{Length, Refused}
 use Rattle.written.specs.Written.{fileOf}
-use borrow.Author.Tests.{eq-eqb, ne-eqb, le-leb, lt-leb}
+use borrow.Author.Tests.{le-leb, lt-leb}
 use lib.ListN.{length, drop, take, drop-of-length-le}
 use lib.Seq.{sets, sets-eq, length-take-le}
 use mathlib.Core.Bool.{true, false}
 use mathlib.Core.List.{List, [], _++_, append-nil}
-use mathlib.Core.Path.{_≡_, refl, ap, _∙_, subst}
+use mathlib.Core.Path.{_≡_, refl, ap, _∙_}
 use native.Mathlib.Omega.{arith}
 
 -- ---- a text, put at the front of the output
 
 module _ (t out : List ℕ) where
-  abbrev Put : Written → List ℕ → Type 0
+  abbrev pub Put : Written → List ℕ → Type 0
   Put w m = (w ≡ fitted t (length out)) × (m ≡ bufferOf out 0 t)
 
   pub put-end : (n : ℕ) (m : List ℕ) → (n ≡ 0 + length t) × (m ≡ sets out 0 t) → length t ≤ length out → Put (Length n) m
@@ -74,21 +73,3 @@ module _ (r : Record) (out : List ℕ) where
   pub valid-end : isValid r ≡ true → (w : Written) (m : List ℕ) → Put (fileOf r) out w m → Wrote w m
   unfolding writeOf leftBy
   valid-end e w m p = rw e p
-
--- ---- the normaliser
-
-module _ (out : List ℕ) where
-  abbrev Normal : Answer → Written → List ℕ → Type 0
-  Normal a w m = (w ≡ normaliseOf a (length out)) × (m ≡ normalLeft a out)
-
-  -- what holds of the answer holds of what the reader's definition gives
-  pub as-read : (a b : Answer) (w : Written) (m : List ℕ) → a ≡ b → Normal a w m → Normal b w m
-  as-read a b w m e h = subst (λ (x : Answer). Normal x w m) e h
-
-  pub refused-end : (a : Answer) → (a .number ≡ 0 → ⊥) → Normal a (Refused (a .number) (a .detail)) out
-  unfolding normaliseOf normalLeft
-  refused-end a n = rw (ne-eqb (a .number) 0 n) (refl, refl)
-
-  pub accepted-end : (a : Answer) → a .number ≡ 0 → (w : Written) (m : List ℕ) → Put (fileOf (a .body)) out w m → Normal a w m
-  unfolding normaliseOf normalLeft
-  accepted-end a e w m p = rw (eq-eqb (a .number) 0 e) p

@@ -1,2 +1,4 @@
 pub mod Ends
 pub mod Held
+pub mod Own
+pub mod Normal

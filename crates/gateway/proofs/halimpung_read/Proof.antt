@@ -1,18 +1,24 @@
 -- Each end of the entry cites its law; every detail and every length fits.
 use Prim.Native.Nat.{_≤_}
-use Rattle.gateway.proofs.Entries.{as-read, refused-end, no-room-end, written-end}
-use Rattle.gateway.proofs.Sizes.{small-detail, small-size}
+use Rattle.brief.proofs.Fields.{end-within}
+use Rattle.brief.specs.Brief.{briefOf}
+use Rattle.fill.proofs.Rooms.{unit-in}
+use Rattle.gateway.proofs.Told.{small-refusal, refused-told, body, told-as, short, no-room-told, written-told}
 use Rattle.gateway.proofs.halimpung_read.Statement.{statement}
 use Rattle.gateway.proofs.halimpung_read.Tie as tie
 use borrow.Author.Needs.{needs}
+use mathlib.Core.Path.{_≡_}
 use native.Mathlib.Omega.{arith}
 
--- the six lines fit their room
-short : (c : tie.After-lines2) → c .before .put-record .result ≤ 89
-short c = small-size _ _ (c .before .put-record .ensures .0) (search needs)
+-- what is told is what is told of the record
+told : (c : tie.After-of-values) → c .of-values .result ≡ briefOf (body _ _ _ _ (c .before .before .before .before .before .before .before .before .before .before .judged .result) (c .before .before .before .before .before .before .before .before .before .before .judged .ensures))
+told c = told-as _ _ _ _ (c .before .before .before .before .before .before .before .before .before .before .judged .result) (c .before .before .before .before .before .before .before .before .before .before .judged .ensures) _ _ _ _ (c .before .before .text-at .ensures) (c .before .keep-unit .ensures) (c .before .before .before .before .before .end-field .ensures) (c .of-values .ensures)
 
-read-requires : tie.Need-read-requires
-read-requires c κs = search needs
+fits : (c : tie.After-put-lines) → c .put-lines .result ≤ 89
+fits c = short _ _ _ _ (c .before .before .before .before .before .before .before .before .before .before .before .before .judged .result) (c .before .before .before .before .before .before .before .before .before .before .before .before .judged .ensures) _ (told (c .before .before)) _ (c .put-lines .ensures .0)
+
+judged-requires : tie.Need-judged-requires
+judged-requires c κs = search needs
 
 cast-result : tie.Need-cast-result
 cast-result c = search needs
@@ -21,31 +27,61 @@ mul-result : tie.Need-mul-result
 mul-result c = search needs
 
 cast-result-2 : tie.Need-cast-result-2
-cast-result-2 c = let q = small-detail _ _ _ _ _ (c .before .before .before .before .read .ensures) in record { fits = omega (arith, q .0) }
+cast-result-2 c = let q = small-refusal _ _ _ _ (c .before .judged .result) (c .before .judged .ensures) (c .if1 .taken) in record { fits = omega (arith, q .0) }
 
 add-result : tie.Need-add-result
-add-result c = let q = small-detail _ _ _ _ _ (c .before .before .before .before .read .ensures) in omega (arith, q .0, q .1)
+add-result c = let q = small-refusal _ _ _ _ (c .before .judged .result) (c .before .judged .ensures) (c .if1 .taken) in omega (arith, q .0, q .1)
 
 returns : tie.Need-returns
-returns c = as-read _ _ _ _ _ (c .before .before .before .before .read .ensures) (refused-end _ _ (c .before .before .if1 .taken))
+returns c = refused-told _ _ _ _ (c .before .judged .result) (c .before .judged .ensures) (c .if1 .taken) _
 
-slice-aggregate-put-record : tie.Need-slice-aggregate-put-record
-slice-aggregate-put-record c = search needs
+element-copy-out-first : tie.Need-element-copy-out-first
+element-copy-out-first c = search needs
 
-put-record-requires : tie.Need-put-record-requires
-put-record-requires c κs = search needs
+element-copy-out-second : tie.Need-element-copy-out-second
+element-copy-out-second c = search needs
+
+element-copy-out-third : tie.Need-element-copy-out-third
+element-copy-out-third c = search needs
+
+end-field-requires : tie.Need-end-field-requires
+end-field-requires c κs = search needs
+
+sub-last : tie.Need-sub-last
+sub-last c = let q = end-within (c .before .before .before .before .before .judged .result .layout) _ (c .end-field .ensures) in q .0
+
+mul-last : tie.Need-mul-last
+mul-last c = let q = end-within (c .before .before .before .before .before .judged .result .layout) _ (c .end-field .ensures) in search needs
+
+element-copy-out-last : tie.Need-element-copy-out-last
+element-copy-out-last c = let q = end-within (c .before .before .before .before .before .judged .result .layout) _ (c .end-field .ensures) in omega (arith, q .0, q .1)
+
+text-at-requires : tie.Need-text-at-requires
+text-at-requires c κs = (unit-in (c .before .before .before .before .before .before .before .judged .result .layout), c .before .before .before .before .before .before .before .judged .ensures .placed (c .before .before .before .before .before .before .if1 .left))
+
+keep-unit-requires : tie.Need-keep-unit-requires
+keep-unit-requires c κs = search needs
+
+of-values-requires : tie.Need-of-values-requires
+of-values-requires c κs = search needs
+
+slice-aggregate-put-lines : tie.Need-slice-aggregate-put-lines
+slice-aggregate-put-lines c = search needs
+
+put-lines-requires : tie.Need-put-lines-requires
+put-lines-requires c κs = search needs
 
 cast-length : tie.Need-cast-length
-cast-length c = let q = short c in record { fits = omega (arith, q) }
+cast-length c = let q = fits (c .before) in record { fits = omega (arith, q) }
 
 mul-result-2 : tie.Need-mul-result-2
 mul-result-2 c = search needs
 
 add-result-2 : tie.Need-add-result-2
-add-result-2 c = let q = short (c .before) in omega (arith, q)
+add-result-2 c = let q = fits (c .before .before) in omega (arith, q)
 
 returns-2 : tie.Need-returns-2
-returns-2 c = as-read _ _ _ _ _ (c .before .before .before .before .before .before .before .read .ensures) (no-room-end _ _ (c .before .before .before .before .before .if1 .left) _ (c .before .before .put-record .ensures .0) (c .if2 .taken))
+returns-2 c = no-room-told _ _ _ _ (c .before .before .before .before .before .before .before .before .before .before .before .before .before .before .judged .result) (c .before .before .before .before .before .before .before .before .before .before .before .before .before .before .judged .ensures) _ (told (c .before .before .before .before)) _ (c .before .before .put-lines .ensures .0) (c .before .before .before .before .before .before .before .before .before .before .before .before .before .if1 .left) _ (c .if2 .taken)
 
 slice-aggregate-front : tie.Need-slice-aggregate-front
 slice-aggregate-front c = search needs
@@ -60,20 +96,30 @@ same-length : tie.Need-same-length
 same-length c = search needs
 
 returns-3 : tie.Need-returns-3
-returns-3 c = as-read _ _ _ _ _ (c .before .before .before .before .before .before .before .before .before .before .before .before .before .read .ensures) (written-end _ _ (c .before .before .before .before .before .before .before .before .before .before .before .if1 .left) _ (c .before .before .before .before .before .before .before .before .put-record .ensures .0) _ _ _ (c .before .before .before .before .before .before .if2 .left) (short (c .before .before .before .before .before .before .before)) (c .before .before .before .before .before .before .before .before .put-record .ensures .1) (c .before .before .before .front .ensures) (c .before .before .put-text .ensures .1))
+returns-3 c = written-told _ _ _ _ (c .before .before .before .before .before .before .before .before .before .before .before .before .before .before .before .before .before .before .before .before .judged .result) (c .before .before .before .before .before .before .before .before .before .before .before .before .before .before .before .before .before .before .before .before .judged .ensures) _ (told (c .before .before .before .before .before .before .before .before .before .before)) _ (c .before .before .before .before .before .before .before .before .put-lines .ensures .0) (c .before .before .before .before .before .before .before .before .before .before .before .before .before .before .before .before .before .before .before .if1 .left) _ _ _ _ (c .before .before .before .before .before .before .if2 .left) (c .before .before .before .before .before .before .before .before .put-lines .ensures .1) (c .before .before .before .front .ensures) (c .before .before .put-text .ensures .1)
 
 pub halimpung-read-spec : {M : Type 1} → statement M
 halimpung-read-spec =
     tie.close
     (tie.spec
-    read-requires
+    judged-requires
     cast-result
     mul-result
     cast-result-2
     add-result
     returns
-    slice-aggregate-put-record
-    put-record-requires
+    element-copy-out-first
+    element-copy-out-second
+    element-copy-out-third
+    end-field-requires
+    sub-last
+    mul-last
+    element-copy-out-last
+    text-at-requires
+    keep-unit-requires
+    of-values-requires
+    slice-aggregate-put-lines
+    put-lines-requires
     cast-length
     mul-result-2
     add-result-2

@@ -1,4 +1,4 @@
--- A refusal as it is, or the record of the verdict's cells and triples.
+-- A refusal as it is, or the record of its cells and triples.
 use Rattle.reader.proofs.Concluding.{concluded-no, concluded-yes}
 use Rattle.reader.proofs.conclude.Statement.{statement}
 use Rattle.reader.proofs.conclude.Tie as tie
@@ -10,18 +10,17 @@ refuse-requires : tie.Need-refuse-requires
 refuse-requires c κs = search needs
 
 returns : tie.Need-returns
-returns c = c .refuse .ensures ∙ concluded-no _ _ (c .before .before .before .before .args .v) (c .before .if1 .taken)
+returns c = c .refuse .ensures ∙ concluded-no _ (c .before .before .before .before .args .x) (c .before .if1 .taken)
 
 record-of-requires : tie.Need-record-of-requires
-record-of-requires c κs = c .before .before .before .before .before .pre (c .before .before .if1 .left)
+record-of-requires c κs = c .before .before .before .before .before .before .pre (c .before .before .before .if1 .left)
 
 accept-requires : tie.Need-accept-requires
 accept-requires c κs = search needs
 
 returns-2 : tie.Need-returns-2
-returns-2 c =
-    let s = c .before .before .before .before .before .before .before in
-    c .accept .ensures ∙ ap accepted (c .before .record-of .ensures) ∙ concluded-yes _ _ (s .args .v) (c .before .before .before .before .if1 .left)
+returns-2 c = c .accept .ensures ∙ ap accepted (c .before .record-of .ensures) ∙ concluded-yes _ (c .before .before .before .before .before .before .before .before .args .x) (c .before .before .before .before .before .if1 .left)
 
 pub conclude-spec : {M : Type 1} → statement M
-conclude-spec = tie.close (tie.spec refuse-requires returns record-of-requires accept-requires returns-2)
+conclude-spec =
+    tie.close (tie.spec refuse-requires returns record-of-requires accept-requires returns-2)

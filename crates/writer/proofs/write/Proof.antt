@@ -1,11 +1,11 @@
--- An invalid record is refused, and a valid one is put.
-use borrow.Author.Tests.{not-true, not-false}
-use Prim.Native.Nat.{_-_}
+-- An invalid record is refused, and the message of a valid one is put: that is its file.
 use Rattle.writer.proofs.Ends.{invalid-end, valid-end}
 use Rattle.writer.proofs.Held.{told-held}
 use Rattle.writer.proofs.write.Statement.{statement}
 use Rattle.writer.proofs.write.Tie as tie
+use Rattle.written.specs.Written.{fileOf}
 use borrow.Author.Needs.{needs}
+use borrow.Author.Tests.{not-true, not-false}
 use mathlib.Core.Path.{sym, _∙_}
 
 is-valid-requires : tie.Need-is-valid-requires
@@ -14,14 +14,34 @@ is-valid-requires c κs = search needs
 returns : tie.Need-returns
 returns c = invalid-end _ _ (sym (c .before .is-valid .ensures) ∙ not-true _ (c .if1 .taken))
 
+slice-aggregate-put-file : tie.Need-slice-aggregate-put-file
+slice-aggregate-put-file c = search needs
+
+slice-aggregate-put-file-2 : tie.Need-slice-aggregate-put-file-2
+slice-aggregate-put-file-2 c = search needs
+
+slice-aggregate-put-file-3 : tie.Need-slice-aggregate-put-file-3
+slice-aggregate-put-file-3 c = search needs
+
 put-file-requires : tie.Need-put-file-requires
-put-file-requires c κs = told-held _ (sym (c .before .before .is-valid .ensures) ∙ not-false _ (c .before .if1 .left))
+put-file-requires c κs = told-held (c .before .before .before .before .before .before .before .before .before .before .before .before .args .r) (sym (c .before .before .before .before .before .before .before .before .before .before .is-valid .ensures) ∙ not-false _ (c .before .before .before .before .before .before .before .before .before .if1 .left))
 
 same-length : tie.Need-same-length
 same-length c = search needs
 
 returns-2 : tie.Need-returns-2
-returns-2 c = valid-end _ _ (sym (c .before .before .before .before .before .is-valid .ensures) ∙ not-false _ (c .before .before .before .before .if1 .left)) _ _ (c .before .before .put-file .ensures)
+unfolding fileOf
+returns-2 c = valid-end (c .before .before .before .before .before .before .before .before .before .before .before .before .before .before .before .args .r) _ (sym (c .before .before .before .before .before .before .before .before .before .before .before .before .before .is-valid .ensures) ∙ not-false _ (c .before .before .before .before .before .before .before .before .before .before .before .before .if1 .left)) _ _ (c .before .before .put-file .ensures)
 
 pub write-spec : {M : Type 1} → statement M
-write-spec = tie.close (tie.spec is-valid-requires returns put-file-requires same-length returns-2)
+write-spec =
+    tie.close
+    (tie.spec
+    is-valid-requires
+    returns
+    slice-aggregate-put-file
+    slice-aggregate-put-file-2
+    slice-aggregate-put-file-3
+    put-file-requires
+    same-length
+    returns-2)

@@ -1,0 +1,79 @@
+-- What the parts of a book's fitness answer, test by test as the definitions say, and a fresh book. Assumes nothing.
+use Prim.Native.Nat.{ℕ, _≤_, _<_}
+use Rattle.book.specs.Answers.{outcome, freshOf}
+use Rattle.book.specs.Places.{bookOf, zeroBook, fitsAfter, formedUnit}
+use Rattle.book.specs.Steps.{unfitOf}
+use Rattle.brief.specs.Brief.{unitOf, briefOf, toldOf}
+use Rattle.brief.specs.declared.Brief.{Brief}
+use Rattle.name.proofs.RoundTrip.{unit-size}
+use Rattle.name.specs.Names.{isUnit}
+use Rattle.order.proofs.Joined.{three}
+use Rattle.order.specs.Orders.{emptyOrder, couldCome}
+use Rattle.order.specs.declared.Order.{Order}
+use Rattle.record.specs.declared.Record.{Record}
+use Rattle.room.specs.Rooms.{keptIn}
+use Rattle.text.specs.Bytes.{all, is, same}
+use Rattle.validity.specs.Validity.{isValid}
+use borrow.Author.Tests.{le-leb, lt-leb}
+use lib.Dec.{leb, ltb}
+use lib.ListN.{length, take, drop, replicate}
+use mathlib.Core.Bool.{Bool, true, false, _&&_}
+use mathlib.Core.List.{List}
+use mathlib.Core.Path.{_≡_, ap}
+
+-- ---- an order that fits: `m` says whether it could come
+
+pub fits-is : (f lo : ℕ) (o : Order) (m : Bool) → m ≡ couldCome o → (leb lo (o .number) && ltb f (o .end)) && m ≡ fitsAfter f lo o
+unfolding fitsAfter
+fits-is f lo o m e = rw e (three (leb lo (o .number)) (ltb f (o .end)) (couldCome o))
+
+-- ---- a unit's room
+
+module _ (size : ℕ) (unit : List ℕ) where
+  pub unit-long : 16 < size → false ≡ formedUnit size unit
+  unfolding formedUnit
+  unit-long h = rw (lt-leb size 16 h)
+
+  -- `u` says whether the code is good, `z` whether the rest is zero
+  pub unit-is : size ≤ 16 → (u z : Bool) → u ≡ isUnit (take size unit) → z ≡ all (is 0) (drop size unit) → u && z ≡ formedUnit size unit
+  unfolding formedUnit
+  unit-is h u z e g = rw (le-leb size 16 h, e, g)
+
+-- ---- a message that is refused for itself, or is not
+
+module _ (right : Bool) (unit : List ℕ) (r : Record) where
+  pub unfit-invalid : isValid r ≡ false → 12 ≡ unfitOf right unit r
+  unfolding unfitOf
+  unfit-invalid e = rw e
+
+  module _ (v : isValid r ≡ true) where
+    pub unfit-layout : right ≡ false → 29 ≡ unfitOf right unit r
+    unfolding unfitOf
+    unfit-layout e = rw (v, e)
+
+    module _ (w : right ≡ true) where
+      pub unfit-unit : same (unitOf r) unit ≡ false → 21 ≡ unfitOf right unit r
+      unfolding unfitOf
+      unfit-unit e = rw (v, w, e)
+
+      pub unfit-none : same (unitOf r) unit ≡ true → 0 ≡ unfitOf right unit r
+      unfolding unfitOf
+      unfit-none e = rw (v, w, e)
+
+-- its unit, as it is told in brief
+pub unit-told : (r : Record) (t : Brief) → t ≡ briefOf r → take (t .size) (t .unit) ≡ unitOf r
+unfolding briefOf toldOf unitOf
+unit-told r t e = ap (λ (k : Brief). take (k .size) (k .unit)) e
+
+-- ---- a fresh book
+
+module _ (unit : List ℕ) where
+  pub fresh-bad : isUnit unit ≡ false → outcome 21 zeroBook ≡ freshOf unit
+  unfolding freshOf
+  fresh-bad e = rw e
+
+  -- a good code is kept in its room whole
+  pub fresh-good : isUnit unit ≡ true → (k : List ℕ) → k ≡ keptIn 16 unit
+      → outcome 0 (record { size = length unit; unit = k; floor = 0; orders = replicate 96 emptyOrder }) ≡ freshOf unit
+  unfolding freshOf bookOf keptIn
+  fresh-good e k h = rw (e, h, le-leb (length unit) 16 (unit-size unit e .1))

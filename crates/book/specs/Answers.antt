@@ -1,0 +1,55 @@
+-- What a call on a book answers, and the book that it hands back: 20 first, and then as the ledger's call.
+use Prim.Native.Nat.{ℕ, zero, suc}
+use Rattle.book.specs.Places.{bookOf, shelf, zeroBook, formedBook}
+use Rattle.book.specs.declared.Asked.{Asked}
+use Rattle.book.specs.declared.Book.{Book}
+use Rattle.book.specs.declared.InForce.{InForce}
+use Rattle.book.specs.declared.InForce.the-variants.{Refused, Nothing, Number}
+use Rattle.book.specs.declared.Outcome.{Outcome}
+use Rattle.ledger.specs.Calls.{Call, ask}
+use Rattle.ledger.specs.Ledger.{fresh, answer, step, inForce}
+use Rattle.name.specs.Names.{isUnit}
+use mathlib.Core.Bool.{cond}
+use mathlib.Core.List.{List}
+
+-- a call's answer is its number and detail, and all details are 0
+abbrev pub outcome : ℕ → Book → Outcome
+outcome n b = record { number = n; detail = 0; book = b }
+
+-- 20, the book is malformed; then the call's own
+unfoldable pub codeOf : Call → Book → ℕ
+codeOf k b = cond (formedBook b) (answer k (shelf b)) 20
+
+-- a refused call hands the same book back
+unfoldable pub nextOf : Call → Book → Book
+nextOf k b = cond (formedBook b) (bookOf (step k (shelf b))) b
+
+-- THE DEFINITION: command, revocation and close
+abbrev pub outcomeOf : Call → Book → Outcome
+outcomeOf k b = outcome (codeOf k b) (nextOf k b)
+
+-- THE DEFINITION: a fresh book for a unit. 21, the code is bad, with the all-zero book
+unfoldable pub freshOf : List ℕ → Outcome
+freshOf unit = cond (isUnit unit) (outcome 0 (bookOf (fresh unit))) (outcome 21 zeroBook)
+
+-- ---- the question which order is in force
+
+-- one more than its number, or 0 for none
+abbrev pub found : ℕ → InForce
+found zero = Nothing
+found (suc n) = Number n
+
+-- the number of a refusal: 0 where it is none
+abbrev pub askedAs : ℕ → ℕ → InForce
+askedAs zero n = found n
+askedAs (suc c) n = Refused (suc c) 0
+
+-- what each case of the answer says: a refusal's number and detail, 0 and 0 where it is none
+abbrev pub refusalIn : InForce → ℕ × ℕ
+refusalIn (Refused n d) = (n, d)
+refusalIn Nothing = (0, 0)
+refusalIn (Number k) = (0, 0)
+
+-- THE DEFINITION: in force at t; the question hands the same book back
+unfoldable pub askedOf : ℕ → Book → Asked
+askedOf t b = record { answer = askedAs (codeOf (ask t) b) (inForce t (shelf b)); book = b }

@@ -1,0 +1,113 @@
+// The places of a book: finding an order, putting one in, striking, closing, and which is in force.
+use crate::Book;
+use crate::InForce;
+use order::Order;
+ghost use Prim.Native.Nat.{_≤_, _<_};
+ghost use Rattle.book.specs.Answers.{found};
+ghost use Rattle.book.specs.Places.{packed};
+ghost use Rattle.book.specs.Steps.{rankOf, orderAt, putIn, struckIn, withOrders};
+ghost use Rattle.keyed.specs.Keyed.{keep, greatest, Ascending};
+ghost use Rattle.order.specs.Orders.{number, live, pastEnd};
+ghost use lib.Dec.{eqb, ltb};
+ghost use lib.ListN.{take};
+ghost use mathlib.Core.Bool.{_&&_};
+ghost use mathlib.Core.Path.{_≡_};
+
+// Of the first `count` orders, how many stand before the first whose number is n or more.
+pub fn rank(b: Book, count: usize, n: u64) -> usize
+    requires { ⌜ count ≤ 96 ⌝ }
+    ensures { λ r. ⌜ r ≡ rankOf n (take count (b .orders)) ⌝ }
+{
+    let mut i = 0;
+    while i < count {
+        if n <= b.orders[i].number {
+            return i;
+        }
+        i += 1;
+    }
+    i
+}
+
+// Whether the place `at` is one of the first `count` and its order has the number n.
+pub fn is_at(b: Book, count: usize, at: usize, n: u64) -> bool
+    requires { ⌜ count ≤ 96 ⌝ }
+    ensures { λ r. ⌜ r ≡ (ltb at count && eqb (orderAt at (b .orders) .number) n) ⌝ }
+{
+    if count <= at {
+        return false;
+    }
+    b.orders[at].number == n
+}
+
+// The book with one order more, put in at a place: those from there on move up by one.
+pub fn put_in(b: Book, at: usize, count: usize, o: Order) -> Book
+    requires { ⌜ (at ≤ count) × (count < 96) ⌝ }
+    ensures { λ r. ⌜ r ≡ withOrders b (b .floor) (putIn at count o (b .orders)) ⌝ }
+{
+    let mut next = b;
+    let mut i = count;
+    while at < i {
+        next.orders[i] = next.orders[i - 1];
+        i -= 1;
+    }
+    next.orders[at] = o;
+    next
+}
+
+pub fn is_struck(b: Book, at: usize) -> bool
+    requires { ⌜ at < 96 ⌝ }
+    ensures { λ r. ⌜ r ≡ orderAt at (b .orders) .struck ⌝ }
+{
+    b.orders[at].struck
+}
+
+// The book with the order at a place struck.
+pub fn strike(b: Book, at: usize) -> Book
+    requires { ⌜ at < 96 ⌝ }
+    ensures { λ r. ⌜ r ≡ withOrders b (b .floor) (struckIn at (b .orders)) ⌝ }
+{
+    let mut next = b;
+    next.orders[at].struck = true;
+    next
+}
+
+// The book closed at t: of the first `count` orders those that end past t, in the first places, and the floor t.
+pub fn close(b: Book, count: usize, t: u32) -> Book
+    requires { ⌜ count ≤ 96 ⌝ }
+    ensures { λ r. ⌜ r ≡ withOrders b t (packed (keep (pastEnd t) (take count (b .orders)))) ⌝ }
+{
+    let unit = b.unit;
+    let mut next = Book {
+        size: b.size,
+        unit,
+        floor: t,
+        orders: [order::EMPTY; 96],
+    };
+    let mut kept = 0;
+    let mut i = 0;
+    while i < count {
+        let o = b.orders[i];
+        if t < o.end {
+            next.orders[kept] = o;
+            kept += 1;
+        }
+        i += 1;
+    }
+    next
+}
+
+// Of the first `count` orders, which stand by ascending number, the last one that is in force at t.
+pub fn last_live(b: Book, count: usize, t: u32) -> InForce
+    requires { ⌜ (count ≤ 96) × Ascending number (take count (b .orders)) ⌝ }
+    ensures { λ r. ⌜ r ≡ found (greatest number (live t) (take count (b .orders))) ⌝ }
+{
+    let mut i = count;
+    while 0 < i {
+        i -= 1;
+        let o = b.orders[i];
+        if order::is_live(o, t) {
+            return InForce::Number(o.number);
+        }
+    }
+    InForce::Nothing
+}

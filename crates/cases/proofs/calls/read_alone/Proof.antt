@@ -1,0 +1,84 @@
+-- The row has few bytes.
+use Rattle.cases.proofs.calls.read_alone.Statement.{statement}
+use Rattle.cases.proofs.calls.read_alone.Tie as tie
+use borrow.Author.Needs.{needs}
+use lib.ListN.{length, length-take}
+use mathlib.Core.Path.{ap}
+use native.Mathlib.Omega.{arith}
+
+slice-aggregate-put-text : tie.Need-slice-aggregate-put-text
+slice-aggregate-put-text c = search needs
+
+slice-aggregate-put-text-2 : tie.Need-slice-aggregate-put-text-2
+slice-aggregate-put-text-2 c = search needs
+
+put-text-requires : tie.Need-put-text-requires
+put-text-requires c κs = search needs
+
+slice-aggregate-put-text-3 : tie.Need-slice-aggregate-put-text-3
+slice-aggregate-put-text-3 c = search needs
+
+front-requires : tie.Need-front-requires
+front-requires c κs = search needs
+
+put-text-requires-2 : tie.Need-put-text-requires-2
+put-text-requires-2 c κs = search needs
+
+slice-aggregate-put-text-4 : tie.Need-slice-aggregate-put-text-4
+slice-aggregate-put-text-4 c = search needs
+
+slice-aggregate-put-text-5 : tie.Need-slice-aggregate-put-text-5
+slice-aggregate-put-text-5 c = search needs
+
+put-text-requires-3 : tie.Need-put-text-requires-3
+put-text-requires-3 c κs = search needs
+
+slice-aggregate-put-text-6 : tie.Need-slice-aggregate-put-text-6
+slice-aggregate-put-text-6 c = search needs
+
+front-requires-2 : tie.Need-front-requires-2
+front-requires-2 c κs = search needs
+
+put-text-requires-4 : tie.Need-put-text-requires-4
+put-text-requires-4 c κs = omega (arith, c .before .before .before .put-text3 .ensures .0, c .before .before .before .before .before .before .before .put-text2 .ensures .0, c .before .before .before .before .before .before .before .before .before .before .before .put-text .ensures .0, ap length (c .before .before .before .before .before .before .before .before .front .ensures), length-take 17 (c .before .before .before .before .before .before .before .before .before .before .before .before .before .before .before .before .before .args .unit .now), ap length (c .front2 .ensures), length-take 3 (c .before .before .before .before .before .before .before .before .before .before .before .before .before .before .before .before .before .args .kind .now))
+
+slice-aggregate-put-byte : tie.Need-slice-aggregate-put-byte
+slice-aggregate-put-byte c = search needs
+
+put-byte-requires : tie.Need-put-byte-requires
+put-byte-requires c κs = omega (arith, c .before .before .before .before .before .before .put-text3 .ensures .0, c .before .before .before .before .before .before .before .before .before .before .put-text2 .ensures .0, c .before .before .before .before .before .before .before .before .before .before .before .before .before .before .put-text .ensures .0, ap length (c .before .before .before .before .before .before .before .before .before .before .before .front .ensures), length-take 17 (c .before .before .before .before .before .before .before .before .before .before .before .before .before .before .before .before .before .before .before .before .args .unit .now), c .before .before .put-text4 .ensures .0, ap length (c .before .before .before .front2 .ensures), length-take 3 (c .before .before .before .before .before .before .before .before .before .before .before .before .before .before .before .before .before .before .before .before .args .kind .now))
+
+slice-aggregate-front : tie.Need-slice-aggregate-front
+slice-aggregate-front c = search needs
+
+front-requires-3 : tie.Need-front-requires-3
+front-requires-3 c κs = search needs
+
+read-requires : tie.Need-read-requires
+read-requires c κs = search needs
+
+returns : tie.Need-returns
+returns c = search needs
+
+pub read-alone-spec : {M : Type 1} → statement M
+read-alone-spec =
+    tie.close
+    (tie.spec
+    slice-aggregate-put-text
+    slice-aggregate-put-text-2
+    put-text-requires
+    slice-aggregate-put-text-3
+    front-requires
+    put-text-requires-2
+    slice-aggregate-put-text-4
+    slice-aggregate-put-text-5
+    put-text-requires-3
+    slice-aggregate-put-text-6
+    front-requires-2
+    put-text-requires-4
+    slice-aggregate-put-byte
+    put-byte-requires
+    slice-aggregate-front
+    front-requires-3
+    read-requires
+    returns)

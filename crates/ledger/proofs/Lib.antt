@@ -1,0 +1,4 @@
+pub mod Strikes
+pub mod Agreement
+pub mod Without
+pub mod Removal

@@ -1,0 +1,6 @@
+pub mod Brought
+pub mod Joined
+pub mod Others
+pub mod Tested
+pub mod Untimely
+pub mod Zeros

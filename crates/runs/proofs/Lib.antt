@@ -1,0 +1,4 @@
+pub mod Fitting
+pub mod Lift
+pub mod Carried
+pub mod Theorems

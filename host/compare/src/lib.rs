@@ -1,0 +1,28 @@
+//! The proved library beside the reference.
+//!
+//! [`input`] makes an address, a plan, a file and a room from a number; [`check`] gives
+//! them to both sides and compares answers and output buffers; [`tally`] counts what was
+//! answered. The files come from [`samples`], by way of [`layout_noise`] (which leaves the
+//! record as it is), [`values`] and [`together`] (other values, the summary row mended),
+//! [`damage`] and [`random`]; the plans from [`plans`]. Each choice is a throw of [`dice`].
+#![deny(unsafe_code)]
+
+pub mod body;
+pub mod check;
+pub mod damage;
+pub mod dice;
+pub mod input;
+pub mod kinds;
+pub mod layout_noise;
+pub mod lines;
+pub mod ours;
+pub mod plans;
+pub mod random;
+pub mod samples;
+pub mod tally;
+pub mod together;
+pub mod values;
+pub mod words;
+
+/// One of the two entries, on either side.
+pub type Entry = fn(u32, u32, &[u8], &[u8], &mut [u8]) -> u32;

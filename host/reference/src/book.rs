@@ -1,0 +1,226 @@
+//! The book of commands of one unit ("The book of commands").
+//!
+//! Held orders fill the first places by ascending number. An empty place is
+//! known by its end, 0, which no order has; number 0 is a number like others.
+//! Each call judges the whole book first (20): fields are public, and the book
+//! comes from outside.
+
+use crate::record::{Body, Record};
+use crate::valid;
+use crate::values::{self, Unit, MOST_SEQUENCE};
+use crate::Refusal;
+
+pub const PLACES: usize = 96;
+
+/// The earliest and the latest instant of a valid date.
+const FIRST_INSTANT: u32 = 31_615_200;
+const LAST_INSTANT: u32 = 3_155_756_399;
+
+#[derive(Clone, Copy, Debug, PartialEq, Eq)]
+pub enum CommandLayout {
+    Market,
+    Mfrr,
+}
+
+/// A held order, or an empty place.
+#[derive(Clone, Copy, Debug, PartialEq, Eq)]
+pub struct Order {
+    pub number: u64,
+    pub layout: CommandLayout,
+    /// mFRR: TINI1 and TFIN2.
+    pub start: u32,
+    pub end: u32,
+    /// mFRR: its one, then 0.
+    pub variations: [i32; 2],
+    pub struck: bool,
+}
+
+impl Order {
+    pub const EMPTY: Order =
+        Order { number: 0, layout: CommandLayout::Market, start: 0, end: 0, variations: [0; 2], struck: false };
+
+    /// Number, layout, instants and variations are what some valid CB record
+    /// gives. Every instant of the range is some valid date's; mFRR has two ramps
+    /// of at least a second each.
+    fn is_possible(&self) -> bool {
+        let least = match self.layout {
+            CommandLayout::Market => 1,
+            CommandLayout::Mfrr => 2,
+        };
+        self.number <= MOST_SEQUENCE
+            && self.start >= FIRST_INSTANT
+            && self.end <= LAST_INSTANT
+            && self.start < self.end
+            && self.end - self.start >= least
+            && self.variations.into_iter().all(valid::number)
+            && (self.layout == CommandLayout::Market || self.variations[1] == 0)
+    }
+}
+
+#[derive(Clone, Copy, Debug, PartialEq, Eq)]
+pub struct Book {
+    pub unit: Unit,
+    pub floor: u32,
+    pub orders: [Order; PLACES],
+}
+
+impl Book {
+    /// The all-zero book, which every call refuses: its unit is bad.
+    pub const ZERO: Book = Book { unit: Unit::EMPTY, floor: 0, orders: [Order::EMPTY; PLACES] };
+
+    /// A fresh book for a unit; a bad unit code is refused 21 and gives the zero book.
+    pub fn fresh(unit: &[u8]) -> (Book, Result<(), Refusal>) {
+        match values::unit(unit) {
+            Some(unit) => (Book { unit, ..Book::ZERO }, Ok(())),
+            None => (Book::ZERO, Err(Refusal::plain(21))),
+        }
+    }
+
+    /// Holds the order of a CB record.
+    pub fn command(mut self, record: &Record) -> (Book, Result<(), Refusal>) {
+        let answer = self.hold(record);
+        (self, answer)
+    }
+
+    /// Strikes the order that an RC record names.
+    pub fn revoke(mut self, record: &Record) -> (Book, Result<(), Refusal>) {
+        let answer = self.strike(record);
+        (self, answer)
+    }
+
+    /// Moves the floor to `t`; orders that end by then go.
+    pub fn close(mut self, t: u32) -> (Book, Result<(), Refusal>) {
+        let answer = self.close_at(t);
+        (self, answer)
+    }
+
+    /// The greatest number in force at `t`, if any.
+    pub fn in_force(self, t: u32) -> (Book, Result<Option<u64>, Refusal>) {
+        let answer = self.in_force_at(t);
+        (self, answer)
+    }
+
+    /// [`Book::command`] in place; a refusal leaves the book as it was.
+    pub fn hold(&mut self, record: &Record) -> Result<(), Refusal> {
+        let held = self.judge(record)?;
+        let order = order_of(record).ok_or(Refusal::plain(29))?;
+        self.same_unit(record)?;
+        if order.end <= self.floor {
+            return Err(Refusal::plain(23));
+        }
+        let place = match self.orders[..held].binary_search_by_key(&order.number, |order| order.number) {
+            Ok(_) => return Err(Refusal::plain(22)),
+            Err(_) if held == PLACES => return Err(Refusal::plain(24)),
+            Err(place) => place,
+        };
+        self.orders.copy_within(place..held, place + 1);
+        self.orders[place] = order;
+        Ok(())
+    }
+
+    /// [`Book::revoke`] in place. Only the sequence counts: the revocation's own
+    /// number and dates say nothing about the order (it is struck whole).
+    pub fn strike(&mut self, record: &Record) -> Result<(), Refusal> {
+        let held = self.judge(record)?;
+        let Body::Revocation { sequence, .. } = record.body else {
+            return Err(Refusal::plain(29));
+        };
+        self.same_unit(record)?;
+        let place = self.orders[..held]
+            .binary_search_by_key(&sequence, |order| order.number)
+            .map_err(|_| Refusal::plain(25))?;
+        let order = &mut self.orders[place];
+        if order.struck {
+            return Err(Refusal::plain(26));
+        }
+        order.struck = true;
+        Ok(())
+    }
+
+    /// [`Book::close`] in place.
+    pub fn close_at(&mut self, t: u32) -> Result<(), Refusal> {
+        let held = self.held()?;
+        if t < self.floor {
+            return Err(Refusal::plain(27));
+        }
+        self.floor = t;
+        let mut kept = 0;
+        for place in 0..held {
+            let order = self.orders[place];
+            if order.end > t {
+                self.orders[kept] = order;
+                kept += 1;
+            }
+        }
+        self.orders[kept..held].fill(Order::EMPTY);
+        Ok(())
+    }
+
+    /// [`Book::in_force`] on a lent book.
+    pub fn in_force_at(&self, t: u32) -> Result<Option<u64>, Refusal> {
+        let held = self.held()?;
+        if t < self.floor {
+            return Err(Refusal::plain(28));
+        }
+        // Numbers ascend, so the last that fits is the greatest.
+        let fits = |order: &&Order| !order.struck && order.start <= t && t < order.end;
+        Ok(self.orders[..held].iter().rev().find(fits).map(|order| order.number))
+    }
+
+    /// The first two refusals of a command or revocation; gives the count of held orders.
+    fn judge(&self, record: &Record) -> Result<usize, Refusal> {
+        let held = self.held()?;
+        if valid::is_valid(record) {
+            Ok(held)
+        } else {
+            Err(Refusal::plain(12))
+        }
+    }
+
+    fn same_unit(&self, record: &Record) -> Result<(), Refusal> {
+        if self.unit == record.unit {
+            Ok(())
+        } else {
+            Err(Refusal::plain(21))
+        }
+    }
+
+    /// How many orders are held, or 20 if the book is malformed.
+    fn held(&self) -> Result<usize, Refusal> {
+        let mut held = 0;
+        let mut least = 0; // the next number may not be below this
+        let mut well = valid::unit(&self.unit);
+        for order in &self.orders {
+            if order.end == 0 {
+                break;
+            }
+            well &= order.is_possible() & (order.end > self.floor) & (order.number >= least);
+            least = order.number.saturating_add(1);
+            held += 1;
+        }
+        well &= self.orders[held..].iter().all(|place| *place == Order::EMPTY);
+        if well {
+            Ok(held)
+        } else {
+            Err(Refusal::plain(20))
+        }
+    }
+}
+
+/// The order that a valid CB record gives.
+fn order_of(record: &Record) -> Option<Order> {
+    let (layout, variations) = match &record.body {
+        Body::Market(order) => (CommandLayout::Market, [order.variation.initial, order.variation.last]),
+        Body::Mfrr(order) => (CommandLayout::Mfrr, [order.variation, 0]),
+        _ => return None,
+    };
+    let (start, end) = record.dates();
+    Some(Order {
+        number: record.number,
+        layout,
+        start: start.instant(),
+        end: end?.instant(),
+        variations,
+        struck: false,
+    })
+}

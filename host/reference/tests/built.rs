@@ -1,0 +1,187 @@
+//! Records and books that a caller built: what no file could give is refused.
+
+mod common;
+
+use common::*;
+use halimpung_reference::book::{CommandLayout, Order};
+use halimpung_reference::record::*;
+use halimpung_reference::*;
+
+fn is_refused(record: Record) {
+    let mut out = [0xaa; 8192];
+    assert_eq!(write(&record, &mut out), Err(Refusal::plain(12)), "{record:?}");
+    assert!(out.iter().all(|&byte| byte == 0xaa));
+    assert_eq!(Book::fresh(b"UP_PROVA_1").0.command(&record).1, Err(Refusal::plain(12)));
+}
+
+fn sample(place: usize) -> Record {
+    read_as(place, SAMPLES[place].1).unwrap()
+}
+
+/// The sample with one thing spoilt.
+fn spoilt(place: usize, spoil: impl FnOnce(&mut Record)) {
+    let mut record = sample(place);
+    spoil(&mut record);
+    is_refused(record);
+}
+
+fn market(spoil: impl FnOnce(&mut Market)) {
+    spoilt(MARKET, |record| match &mut record.body {
+        Body::Market(order) => spoil(order),
+        _ => unreachable!(),
+    });
+}
+
+fn generic(spoil: impl FnOnce(&mut halimpung_reference::values::Reason)) {
+    spoilt(MG, |record| match &mut record.body {
+        Body::Generic { reason, .. } => spoil(reason),
+        _ => unreachable!(),
+    });
+}
+
+#[test]
+fn invalid_records() {
+    spoilt(RC, |record| record.number = 10_000_000_000);
+    spoilt(RC, |record| record.unit.length = 0);
+    spoilt(RC, |record| record.unit.length = 17);
+    spoilt(RC, |record| record.unit.bytes[15] = b'A');
+    spoilt(RC, |record| record.unit.bytes[0] = b'-');
+    spoilt(RC, |record| match &mut record.body {
+        Body::Revocation { sequence, .. } => *sequence = 10_000_000_000,
+        _ => unreachable!(),
+    });
+    market(|order| order.span.start.month = 0);
+    market(|order| order.span.start.month = 13);
+    market(|order| order.span.end.day = 32);
+    market(|order| order.reference.year = 2000);
+    market(|order| order.span.end = order.span.start);
+    market(|order| order.updated = None);
+    market(|order| order.variation.last = 1_000_000_000);
+    market(|order| order.ramp_time = Some(i32::MIN));
+    market(|order| order.profiles[0] = Some([0; 4]));
+    market(|order| order.profiles[5] = Some([1_000_000_000, 0, 0, 0]));
+    market(|order| order.gradients.count = 0);
+    market(|order| order.gradients.count = 17);
+    market(|order| order.gradients.count = 2);
+    market(|order| order.gradients.count = 4);
+    market(|order| order.gradients.bands[1].gradient = 0);
+    generic(|reason| reason.length = 129);
+    generic(|reason| reason.length -= 1);
+    generic(|reason| reason.bytes[0] = b' ');
+    generic(|reason| reason.bytes[3] = b'\n');
+    generic(|reason| reason.bytes[127] = b'x');
+    spoilt(VQ, |record| match &mut record.body {
+        Body::Voltage(voltage) => voltage.rat = Some(Setting::At(RatPercent(1_000_000_000))),
+        _ => unreachable!(),
+    });
+    spoilt(VQ, |record| match &mut record.body {
+        Body::Voltage(voltage) => voltage.sart = Some(Setting::At(Kilovolts(1_000))),
+        _ => unreachable!(),
+    });
+}
+
+#[test]
+fn the_longest_written_form() {
+    let mut record = sample(MARKET);
+    let Body::Market(order) = &mut record.body else { unreachable!() };
+    let least = -999_999_999;
+    order.variation = Ends { initial: least, last: least };
+    order.program = order.variation;
+    order.start_up_time = Some(least);
+    order.ramp_time = Some(least);
+    order.profiles = [Some([least; 4]); 6];
+    order.gradients.count = 16;
+    order.gradients.bands.fill(lists::Band { low: least, high: least, gradient: 999_999_999 });
+    record.unit = values::unit(b"ABCDEFGHIJKLMNOP").unwrap();
+    let mut out = [0; 8192];
+    let length = write(&record, &mut out).unwrap();
+    assert!(length <= writer::MOST_WRITTEN, "{length}");
+    let plan = plan("CB").replace("UP_PROVA_1", "ABCDEFGHIJKLMNOP");
+    assert_eq!(read(7, 300, plan.as_bytes(), &out[..length]), Ok(record));
+}
+
+fn held() -> Book {
+    let mut record = sample(MARKET);
+    let (mut book, _) = Book::fresh(b"UP_PROVA_1");
+    for number in [7, 3, 9_999_999_999] {
+        record.number = number;
+        book.hold(&record).unwrap();
+    }
+    record = sample(MFRR);
+    book.hold(&record).unwrap();
+    book
+}
+
+#[test]
+fn malformed_books() {
+    let spoilt = |spoil: fn(&mut Book)| {
+        let mut book = held();
+        assert!(book.in_force(0).1.is_ok());
+        spoil(&mut book);
+        let bad = Refusal::plain(20);
+        assert_eq!(book.command(&sample(MARKET)), (book, Err(bad)));
+        assert_eq!(book.revoke(&sample(RC)), (book, Err(bad)));
+        assert_eq!(book.close(5), (book, Err(bad)));
+        assert_eq!(book.in_force(5), (book, Err(bad)));
+    };
+    spoilt(|book| *book = Book::ZERO);
+    spoilt(|book| *book = Book::fresh(b"A-B").0);
+    spoilt(|book| book.unit.bytes[15] = 1);
+    spoilt(|book| book.unit.length = 200);
+    spoilt(|book| book.orders.swap(0, 1));
+    spoilt(|book| book.orders[1].number = 3);
+    spoilt(|book| book.orders[3].number += 1);
+    spoilt(|book| book.orders.swap(3, 4));
+    spoilt(|book| book.orders[1] = Order::EMPTY);
+    spoilt(|book| book.orders[50].number = 1);
+    spoilt(|book| book.orders[50].struck = true);
+    spoilt(|book| book.orders[50].layout = CommandLayout::Mfrr);
+    spoilt(|book| book.floor = book.orders[0].end);
+    spoilt(|book| book.orders[0].start = book.orders[0].end);
+    spoilt(|book| book.orders[0].start = 31_615_199);
+    spoilt(|book| book.orders[0].end = 3_155_756_400);
+    spoilt(|book| book.orders[0].variations[0] = 1_000_000_000);
+    spoilt(|book| book.orders[2].variations[1] = 1); // the mFRR order
+    spoilt(|book| book.orders[2].end = book.orders[2].start + 1);
+    let mut book = held();
+    assert_eq!(book.orders[2].layout, CommandLayout::Mfrr);
+    book.orders[2].end = book.orders[2].start + 2;
+    book.orders[0].start = 31_615_200;
+    book.orders[0].end = 3_155_756_399;
+    assert!(book.in_force(0).1.is_ok());
+}
+
+#[test]
+fn order_of_the_book_s_refusals() {
+    let book = held();
+    let answer = |book: Book, record: &Record| book.command(record).1.unwrap_err().number;
+    let mut record = sample(MARKET);
+    let (closed, _) = book.close(790_248_600);
+    assert_eq!(answer(book, &sample(RC)), 29);
+    record.unit = values::unit(b"up_prova_1").unwrap();
+    assert_eq!(answer(closed, &record), 21);
+    record.unit = book.unit;
+    record.number = 7;
+    assert_eq!(answer(book, &record), 22);
+    assert_eq!(answer(closed, &record), 23);
+    assert_eq!(book.revoke(&record).1, Err(Refusal::plain(29)));
+    assert_eq!(book.revoke(&sample(RC)).1, Err(Refusal::plain(25)));
+}
+
+#[test]
+fn times() {
+    let sheet = b"unit=UP_PROVA_1\navviamento=60\nrampa=-007.5\n";
+    let plan = plan("CB");
+    let file = SAMPLES[MARKET].1.as_bytes();
+    let start_up = start_up_time(7, 300, plan.as_bytes(), file, sheet).unwrap();
+    assert_eq!((start_up.source, start_up.bytes), (times::Source::File, &b"45"[..]));
+    assert_eq!(&file[start_up.start..][..2], b"45");
+    let ramp = ramp_time(7, 300, plan.as_bytes(), file, sheet).unwrap();
+    assert_eq!((ramp.source, ramp.start, ramp.bytes), (times::Source::Sheet, 36, &b"-007.5"[..]));
+    for bad in ["", "unit=OTHER\navviamento=60\nrampa=7\n", "unit=UP_PROVA_1\navviamento=60\nrampa=\n"] {
+        assert_eq!(start_up_time(7, 300, plan.as_bytes(), file, bad.as_bytes()), Err(Refusal::plain(14)));
+    }
+    let mfrr = SAMPLES[MFRR].1.as_bytes();
+    assert_eq!(ramp_time(7, 300, plan.as_bytes(), mfrr, b""), Err(Refusal::plain(16)));
+    assert_eq!(ramp_time(7, 301, plan.as_bytes(), mfrr, b""), Err(Refusal::plain(1)));
+}

@@ -1,0 +1,49 @@
+//! Samples and small helpers for the tests.
+#![allow(dead_code)]
+
+use halimpung_reference::{read, Record, Refusal};
+
+pub const SAMPLES: [(&str, &str); 10] = [
+    ("CB", include_str!("../../samples/market.txt")),
+    ("CB", include_str!("../../samples/mfrr.txt")),
+    ("RC", include_str!("../../samples/rc.txt")),
+    ("MG", include_str!("../../samples/mg.txt")),
+    ("EB", include_str!("../../samples/eb.txt")),
+    ("LB", include_str!("../../samples/lb.txt")),
+    ("SR", include_str!("../../samples/sr.txt")),
+    ("VQ", include_str!("../../samples/vq.txt")),
+    ("RI", include_str!("../../samples/ri.txt")),
+    ("QR", include_str!("../../samples/qr.txt")),
+];
+
+pub const MARKET: usize = 0;
+pub const MFRR: usize = 1;
+pub const RC: usize = 2;
+pub const MG: usize = 3;
+pub const SR: usize = 6;
+pub const VQ: usize = 7;
+pub const QR: usize = 9;
+
+pub fn plan(code: &str) -> String {
+    format!("ca=7\nioa=300\nunit=UP_PROVA_1\ntype={code}\n")
+}
+
+/// Reads a file as the type of a sample.
+pub fn read_as(sample: usize, file: &str) -> Result<Record, (u32, u32)> {
+    let result = read(7, 300, plan(SAMPLES[sample].0).as_bytes(), file.as_bytes());
+    result.map_err(|Refusal { number, detail }| (number, detail))
+}
+
+/// The answer to a sample in which each `from` has become `to`.
+pub fn with(sample: usize, changes: &[(&str, &str)]) -> Result<Record, (u32, u32)> {
+    let mut file = SAMPLES[sample].1.to_string();
+    for (from, to) in changes {
+        assert!(file.contains(from), "{from}");
+        file = file.replace(from, to);
+    }
+    read_as(sample, &file)
+}
+
+pub fn refused(number: u32, detail: u32) -> Result<Record, (u32, u32)> {
+    Err((number, detail))
+}

@@ -1,0 +1,13 @@
+/* entries-test [EXAMPLES]: the two entries called from C, as a host would; EXAMPLES is the directory of the example files. */
+#include "check.h"
+#include "tests.h"
+#include "text.h"
+
+int main(int argc, char **argv) {
+    if (argc > 1) examples = argv[1];
+    test_example();
+    test_refused();
+    test_rooms();
+    test_sizes();
+    return checked();
+}

@@ -1,0 +1,10 @@
+/* The tests of the entries, one idea a file. */
+#ifndef TESTS_H
+#define TESTS_H
+
+void test_example(void); /* document 01's example, to the byte */
+void test_refused(void); /* each refusal of the reader */
+void test_rooms(void);   /* outputs of every length */
+void test_sizes(void);   /* the smallest and largest inputs */
+
+#endif
