@@ -3,8 +3,9 @@
 # make lib: the library for C hosts. make host: the host program target/host/halimpung-read. make test-host: both tried from C and the shell.
 # make install PREFIX=.. DESTDIR=..: header, library and pkg-config file.
 # make test-reference: the reference, a second implementation in Rust, tried alone. make compare COUNT=.. SEED=..: the library against it,
-# over many inputs. make bench: both timed, and the library's stack. (These three need cargo, and no network.)
-.PHONY: test check run read values fmt lib host install test-host test-host-valgrind test-reference compare bench
+# over many inputs. make bench: both timed, the book's calls too, and the library's stack. (These three need cargo, and no network.)
+# make fuzz SECONDS=..: the library against the reference under libFuzzer, from the corpus of target/fuzz (needs clang with its runtime besides).
+.PHONY: test check run read values fmt lib host install test-host test-host-valgrind test-reference compare bench fuzz
 
 FILE ?= examples/rc.txt
 CA ?= 7
@@ -13,6 +14,8 @@ IOA ?= 300
 PREFIX ?= /usr/local
 VERSION = 0.1.0
 LIB = target/staticlib/libgateway.a
+# for make bench alone
+PACE = target/staticlib/libpace.a
 CFLAGS ?= -O2
 STRICT = -std=c11 -pedantic -Wall -Wextra -Werror
 
@@ -40,9 +43,12 @@ lib: $(LIB)
 host: target/host/halimpung-read
 
 # rt takes most of a minute to find that nothing changed, so make asks first
-target/staticlib/libgateway.a: crates.txt $(shell find crates -name '*.rt' -o -name '*.antt')
-	rt staticlib gateway
+$(LIB) $(PACE): target/staticlib/lib%.a: crates.txt $(shell find crates -name '*.rt' -o -name '*.antt')
+	rt staticlib $*
 	@touch $@
+
+# one rt at a time
+$(PACE): | $(LIB)
 
 # by way of another name: where the words and the header differ, no table is left that a second make would take
 target/host/refusals.inc: host/refusal-words host/include/halimpung.h docs/REFUSALS.md
@@ -101,6 +107,19 @@ target/host/stack: tools/stack.c $(LIB)
 	@mkdir -p target/host
 	$(CC) $(CFLAGS) -static -o $@ tools/stack.c $(LIB)
 
-bench: target/host/stack
-	cd host/compare && $(CARGO) run --release --offline -q --bin bench
+bench: $(PACE) target/host/stack
+	cd host/compare && HALIMPUNG_PACE_LIB='$(abspath $(PACE))' $(CARGO) run --release --offline -q --features pace --bin bench
 	@host/compare/stack target/host/stack host/reference/samples target/host/stack-plan.txt
+
+SECONDS ?= 60
+FUZZ = target/fuzz
+RUST_HOST = $(shell rustc -vV | sed -n 's/^host: //p')
+# the branches and comparisons of the reference guide the search; a target is named so that cargo's build scripts go without these flags
+GUIDED = -Cpasses=sancov-module -Ccodegen-units=1 $(addprefix -Cllvm-args=-sanitizer-coverage-,level=3 inline-8bit-counters pc-table trace-compares)
+
+fuzz: $(LIB)
+	@command -v clang > /dev/null || { echo "make fuzz needs clang and libFuzzer: Debian's clang and libclang-rt-14-dev"; exit 1; }
+	cd host/fuzz && $(CARGO) run --release --offline -q --bin seeds -- '$(CURDIR)/$(FUZZ)/corpus' '$(CURDIR)/$(FUZZ)/words'
+	cd host/fuzz && RUSTFLAGS='$(GUIDED)' $(CARGO) build --release --offline -q --lib --target $(RUST_HOST) --target-dir '$(CURDIR)/$(FUZZ)/cargo'
+	clang -fsanitize=fuzzer -o $(FUZZ)/entries $(FUZZ)/cargo/$(RUST_HOST)/release/libhalimpung_fuzz.a -lm -lpthread -ldl
+	cd $(FUZZ) && ./entries -max_total_time=$(SECONDS) -max_len=9000 -dict=words -print_final_stats=1 corpus

@@ -1,21 +1,26 @@
-//! Links the proved library: the archive that HALIMPUNG_LIB names, else the one that `make lib` leaves.
+//! Links the proved library, and for the feature `pace` the book's loops: for each the archive that its variable names,
+//! else the one that make leaves.
 
 use std::path::PathBuf;
 
-const USUAL: &str = "../../target/staticlib/libgateway.a";
-
-fn archive() -> PathBuf {
-    let named = std::env::var_os("HALIMPUNG_LIB").unwrap_or_else(|| USUAL.into());
-    let path = PathBuf::from(named);
-    path.canonicalize().unwrap_or_else(|error| panic!("{}: {error} (make lib builds it)", path.display()))
+fn main() {
+    link("HALIMPUNG_LIB", "../../target/staticlib/libgateway.a");
+    if std::env::var_os("CARGO_FEATURE_PACE").is_some() {
+        link("HALIMPUNG_PACE_LIB", "../../target/staticlib/libpace.a");
+    }
 }
 
-fn main() {
-    let path = archive();
+fn link(variable: &str, usual: &str) {
+    let path = archive(variable, usual);
     let stem = path.file_stem().and_then(|stem| stem.to_str()).expect("a file name");
     let name = stem.strip_prefix("lib").expect("an archive is named lib*.a");
-    println!("cargo:rerun-if-env-changed=HALIMPUNG_LIB");
+    println!("cargo:rerun-if-env-changed={variable}");
     println!("cargo:rerun-if-changed={}", path.display());
     println!("cargo:rustc-link-search=native={}", path.parent().expect("a folder").display());
     println!("cargo:rustc-link-lib=static={name}");
+}
+
+fn archive(variable: &str, usual: &str) -> PathBuf {
+    let path = PathBuf::from(std::env::var_os(variable).unwrap_or_else(|| usual.into()));
+    path.canonicalize().unwrap_or_else(|error| panic!("{}: {error} (make lib, make bench)", path.display()))
 }

@@ -1,5 +1,7 @@
 // One request answered.
 use crate::calls;
+use crate::lookups;
+use crate::lookups::Sought;
 use crate::said;
 use brief::Brief;
 use layout::Layout;
@@ -11,11 +13,13 @@ use request::hex::Decoded;
 use said::say;
 use said::say_hex;
 use said::say_number;
+use said::say_refusal;
 use said::say_unknown;
 use text::digits::Digits;
 use text::scan;
 use value::Value;
 use writer::Written;
+ghost use Prim.Native.Nat.{_≤_};
 ghost use lib.ListN.{length};
 ghost use mathlib.Core.Path.{_≡_};
 
@@ -56,13 +60,6 @@ fn say_brief(b: Brief) {
     say_instant(start);
     say(b" ");
     say_instant(end);
-}
-
-fn say_refusal(number: u8, detail: usize) {
-    say(b"R ");
-    say_number(number as u64);
-    say(b" ");
-    say_number(detail as u64);
 }
 
 // The written form of a record: none has more than 8,192 bytes.
@@ -106,12 +103,14 @@ fn not_asked() -> Asked {
     }
 }
 
-// The fields 1 to 4 of a request: PLAN CA IOA FILE.
-fn asked_of(line: &mut [u8], places: [Part; 8]) -> Asked {
-    let Digits::Are(ca) = request::number_of(line, places[2]) else {
+// Four fields of a request from the field k on: PLAN CA IOA FILE.
+fn asked_of(line: &mut [u8], places: [Part; 8], k: usize) -> Asked
+    requires { ⌜ k ≤ 4 ⌝ }
+{
+    let Digits::Are(ca) = request::number_of(line, places[k + 1]) else {
         return not_asked();
     };
-    let Digits::Are(ioa) = request::number_of(line, places[3]) else {
+    let Digits::Are(ioa) = request::number_of(line, places[k + 2]) else {
         return not_asked();
     };
     if 4294967295 < ca {
@@ -120,10 +119,10 @@ fn asked_of(line: &mut [u8], places: [Part; 8]) -> Asked {
     if 4294967295 < ioa {
         return not_asked();
     }
-    let Decoded::At(plan) = hex::decode(line, places[1]) else {
+    let Decoded::At(plan) = hex::decode(line, places[k]) else {
         return not_asked();
     };
-    let Decoded::At(file) = hex::decode(line, places[4]) else {
+    let Decoded::At(file) = hex::decode(line, places[k + 3]) else {
         return not_asked();
     };
     Asked {
@@ -137,7 +136,7 @@ fn asked_of(line: &mut [u8], places: [Part; 8]) -> Asked {
 
 // `read PLAN CA IOA FILE`
 fn run_read(line: &mut [u8], places: [Part; 8]) {
-    let a = asked_of(line, places);
+    let a = asked_of(line, places, 1);
     let plan = a.plan;
     let file = a.file;
     if !a.good {
@@ -200,7 +199,7 @@ fn say_roomed(key: Roomed, a: Asked, plan: &[u8], file: &[u8], out: &mut [u8]) {
 
 // `norm PLAN CA IOA FILE ROOM`, `cread ..` and `cnorm ..`
 fn run_roomed(key: Roomed, line: &mut [u8], places: [Part; 8]) {
-    let a = asked_of(line, places);
+    let a = asked_of(line, places, 1);
     let plan = a.plan;
     let file = a.file;
     if !a.good {
@@ -223,6 +222,33 @@ fn run_roomed(key: Roomed, line: &mut [u8], places: [Part; 8]) {
         request::text_of(line, plan),
         request::text_of(line, file),
         &mut space[..size],
+    );
+}
+
+// `time a PLAN CA IOA FILE SHEET`, `time r ..`
+fn run_time(line: &mut [u8], places: [Part; 8]) {
+    let Sought::One(w) = lookups::which(request::text_of(line, places[1])) else {
+        say_unknown();
+        return;
+    };
+    let a = asked_of(line, places, 2);
+    let plan = a.plan;
+    let file = a.file;
+    if !a.good {
+        say_unknown();
+        return;
+    }
+    let Decoded::At(sheet) = hex::decode(line, places[6]) else {
+        say_unknown();
+        return;
+    };
+    lookups::answer(
+        w,
+        a.ca,
+        a.ioa,
+        request::text_of(line, plan),
+        request::text_of(line, file),
+        request::text_of(line, sheet),
     );
 }
 
@@ -265,6 +291,7 @@ fn answer(line: &mut [u8]) {
     let is_cnorm = (f.count == 6) & scan::same(key, b"cnorm");
     let is_prog = (f.count == 3) & scan::same(key, b"prog");
     let is_book = (f.count == 3) & scan::same(key, b"book");
+    let is_time = (f.count == 7) & scan::same(key, b"time");
     if is_read {
         run_read(line, places);
         return;
@@ -287,6 +314,10 @@ fn answer(line: &mut [u8]) {
     }
     if is_book {
         calls::run(line, places[1], places[2]);
+        return;
+    }
+    if is_time {
+        run_time(line, places);
         return;
     }
     say_unknown();

@@ -2,6 +2,7 @@
 // through the compiled code and compared. A request that is not of the form, or longer than the buffer, answers `?`.
 mod answers;
 mod calls;
+mod lookups;
 mod said;
 
 use libc::STDIN_FILENO;

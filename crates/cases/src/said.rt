@@ -10,6 +10,13 @@ pub fn say_number(n: u64) {
     io::print_decimal(STDOUT_FILENO, n);
 }
 
+pub fn say_refusal(number: u8, detail: usize) {
+    say(b"R ");
+    say_number(number as u64);
+    say(b" ");
+    say_number(detail as u64);
+}
+
 // A request that is not of the form.
 pub fn say_unknown() {
     say(b"?");

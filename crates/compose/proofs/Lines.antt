@@ -4,8 +4,7 @@ use Rattle.asked.specs.Values.{isFilled}
 use Rattle.compose.proofs.Joins.{Was, one-line-more, lines-short, first-lines}
 use Rattle.compose.proofs.Values.{columnOf, blank-text, column-length, text-at, field-short}
 use Rattle.compose.specs.Held.{Spoken, Held}
-use Rattle.label.specs.Labels.{labelOf}
-use Rattle.label.specs.declared.Label.{Label}
+use Rattle.label.specs.Labels.{padded}
 use Rattle.layout.proofs.Labels.{few, labels-length, label-at, good-label}
 use Rattle.layout.specs.Layouts.{labelsOf, labelAt, sizeOf, typeOf}
 use Rattle.layout.specs.Rows.{textAt}
@@ -51,37 +50,33 @@ module _ (t : MessageType) (r : Rooms) (v : Value) (l : List ℕ) (at : ℕ) whe
 
 -- ---- a line
 
+padded-length : (name : List ℕ) → length name ≤ 36 → length (padded name) ≡ 36
+unfolding padded
+padded-length name h = omega (arith, length-append name (replicate (36 - length name) 32), length-replicate {A = ℕ} (36 - length name) 32)
+
 -- the label with its blanks, `=` (61), what stands after it, and LF (10)
-module _ (label : Label) (name s w : List ℕ) (e : label ≡ labelOf name) (same : s ≡ w) (l : List ℕ) (at a : ℕ) (l₁ : List ℕ) (b : ℕ) (l₂ : List ℕ) (c : ℕ) (l₃ : List ℕ) (r : ℕ) (m : List ℕ) where
-  pub line-put : Was l at (label .text) a l₁ → (b ≡ a + 1) × (l₂ ≡ sets l₁ a (61 ∷ [])) → Was l₂ b (after s) c l₃ → (r ≡ c + 1) × (m ≡ sets l₃ c (10 ∷ []))
+module _ (name s w : List ℕ) (short : length name ≤ 36) (same : s ≡ w) (l : List ℕ) (at : ℕ) (l₁ : List ℕ) (b : ℕ) (l₂ : List ℕ) (c : ℕ) (l₃ : List ℕ) (r : ℕ) (m : List ℕ) where
+  pub line-put : l₁ ≡ sets l at (padded name) → (b ≡ at + 36 + 1) × (l₂ ≡ sets l₁ (at + 36) (61 ∷ [])) → Was l₂ b (after s) c l₃ → (r ≡ c + 1) × (m ≡ sets l₃ c (10 ∷ []))
       → Was l at (linesText (paramLine name w ∷ [])) r m
   unfolding linesText paramLine
   line-put p q u z =
-      let text = label .text in
-      let eq : text ++ (61 ∷ []) ++ after s ++ (10 ∷ []) ≡ labelOf name .text ++ (61 ∷ after w) ++ (10 ∷ []) =
-      ap (λ (x : List ℕ). x ++ (10 ∷ []))
-      (append-assoc text (61 ∷ []) (after s)
-      ∙ ap (λ (x : Label). x .text ++ (61 ∷ after s)) e
-      ∙ ap (λ (x : List ℕ). labelOf name .text ++ (61 ∷ after x)) same) in
-      same-puts (labelOf name .text ++ (61 ∷ after w) ++ (10 ∷ [])) eq
-      (then (then (then (puts {t = text} p) (puts-of {t = 61 ∷ []} 1 refl q)) (puts {t = after s} u)) (puts-of {t = 10 ∷ []} 1 refl z))
+      let text = padded name in
+      let eq : text ++ (61 ∷ []) ++ after s ++ (10 ∷ []) ≡ text ++ (61 ∷ after w) ++ (10 ∷ []) =
+      ap (λ (x : List ℕ). x ++ (10 ∷ [])) (append-assoc text (61 ∷ []) (after s) ∙ ap (λ (x : List ℕ). text ++ (61 ∷ after x)) same) in
+      same-puts (text ++ (61 ∷ after w) ++ (10 ∷ [])) eq
+      (then (then (then (puts-of {t = text} 36 (padded-length name short) (refl, p)) (puts-of {t = 61 ∷ []} 1 refl q)) (puts {t = after s} u)) (puts-of {t = 10 ∷ []} 1 refl z))
 
-label-length : (name : List ℕ) → length name ≤ 36 → length (labelOf name .text) ≡ 36
-unfolding labelOf
-label-length name h = omega (arith, length-append name (replicate (36 - length name) 32), length-replicate {A = ℕ} (36 - length name) 32)
-
-pub label-room : (label : Label) (l : Layout) (k : ℕ) → label ≡ labelOf (labelAt l k) → 1 ≤ k → k ≤ sizeOf l → length (label .text) ≡ 36
-label-room label l k e h j =
-    ap (λ (x : Label). length (x .text)) e ∙ label-length (labelAt l k) (omega (arith, good-label l k h j .short))
+pub label-short : (l : Layout) (k : ℕ) → 1 ≤ k → k ≤ sizeOf l → length (labelAt l k) ≤ 36
+label-short l k h j = omega (arith, good-label l k h j .short)
 
 line-short : (name s : List ℕ) → length name ≤ 36 → length s ≤ 623 → length (linesText (paramLine name s ∷ [])) ≤ 700
 unfolding linesText paramLine
 line-short name s h k =
     omega (
       arith,
-      length-append (labelOf name .text ++ (61 ∷ after s)) (10 ∷ []),
-      length-append (labelOf name .text) (61 ∷ after s),
-      label-length name h,
+      length-append (padded name ++ (61 ∷ after s)) (10 ∷ []),
+      length-append (padded name) (61 ∷ after s),
+      padded-length name h,
       after-short s,
     )
 
@@ -121,7 +116,7 @@ module _ (l : Layout) (r : Rooms) (cells : List Cell) (held : Held l r cells) wh
       λ i h.
       let j : i < sizeOf l = omega (arith, lines-count) in
       rw (line-at i j)
-      (line-short (labelAt l (suc i)) (textAt (columnOf l r cells) (suc i)) (omega (arith, good-label l (suc i) (omega arith) j .short))
+      (line-short (labelAt l (suc i)) (textAt (columnOf l r cells) (suc i)) (label-short l (suc i) (omega arith) j)
       (field-short l r cells held g (suc i) (omega arith) j)) in
       omega (arith, lines-short (linesOf l r cells) one, lines-count, few l)
 

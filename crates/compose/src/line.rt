@@ -54,10 +54,8 @@ fn put_line(
     ensures { λ r. ⌜ (r ≡ at + length (linesText (paramLine (labelAt l k) (valueText (typeOf l) (rooms (now (unit .entry)) (now (reason .entry)) (now (note .entry)) gradients) v) ∷ [])))
         × (now (out .exit) ≡ sets (now (out .entry)) at (linesText (paramLine (labelAt l k) (valueText (typeOf l) (rooms (now (unit .entry)) (now (reason .entry)) (now (note .entry)) gradients) v) ∷ []))) ⌝ }
 {
-    let label = label::of_field(l, k);
-    let text = label.text;
-    let named = put::put_text(out, at, &text);
-    let equals = put::put_byte(out, named, b'=');
+    label::of_field(l, k, b"", out, at);
+    let equals = put::put_byte(out, at + 36, b'=');
     let said = put_after(
         out,
         equals,

@@ -17,55 +17,58 @@ use mathlib.Core.Option.{some}
 use mathlib.Core.Path.{_≡_, refl, sym, ap, _∙_}
 use native.Mathlib.Omega.{arith}
 
--- ---- what the code finds: the label, then blanks, as many as a
+-- ---- what the code finds: the label, of n bytes, then blanks, as many as a
 
-pub no-head : (label s : List ℕ) → length label ≡ 0 → 0 ≡ headOf label s
+pub no-head : (label s : List ℕ) (n : ℕ) → n ≡ length label → n ≡ 0 → 0 ≡ headOf label s
 unfolding headOf
-no-head label s e = rw (lt-leb 1 (length label) (omega (arith, e)))
+no-head label s n size e = rw (lt-leb 1 (length label) (omega (arith, size, e)))
 
 pub other-head : (label s : List ℕ) → starts label s ≡ false → 0 ≡ headOf label s
 unfolding headOf
 other-head label s e = rw (e, and-false (leb 1 (length label)))
 
-module _ (label s : List ℕ) (a : ℕ) (st : starts label s ≡ true)
-    (ha : a ≡ length (part (length label) (length s) s) - length (skip isBlank (part (length label) (length s) s))) where
+module _ (label s : List ℕ) (n a : ℕ) (size : n ≡ length label) (st : starts label s ≡ true)
+    (ha : a ≡ length (part n (length s) s) - length (skip isBlank (part n (length s) s))) where
   lead-is : a ≡ length (drop (length label) s) - length (skip isBlank (drop (length label) s))
-  lead-is = ha ∙ ap (λ (l : List ℕ). length l - length (skip isBlank l)) (tail s (length label))
+  lead-is = ha ∙ ap (λ (l : List ℕ). length l - length (skip isBlank l)) (tail s n ∙ ap (λ (m : ℕ). drop m s) size)
 
-  pub head-fits : length label + a ≤ length s
-  head-fits = omega (arith, lead-is, starts-length label s st, length-drop (length label) s)
+  pub head-fits : n + a ≤ length s
+  head-fits = omega (arith, lead-is, size, starts-length label s st, length-drop (length label) s)
 
-  after-is : afterLabel label s ≡ drop (length label + a) s
+  after-is : afterLabel label s ≡ drop (n + a) s
   after-is =
-      skip-drop isBlank (drop (length label) s) ∙ ap (λ (m : ℕ). drop m (drop (length label) s)) (sym lead-is) ∙ drop-drop a (length label) s
+      skip-drop isBlank (drop (length label) s)
+      ∙ ap (λ (m : ℕ). drop m (drop (length label) s)) (sym lead-is)
+      ∙ drop-drop a (length label) s
+      ∙ ap (λ (m : ℕ). drop (m + a) s) (sym size)
 
-  byte-is : getD (afterLabel label s) 0 0 ≡ getD (drop (length label + a) s) 0 0
+  byte-is : getD (afterLabel label s) 0 0 ≡ getD (drop (n + a) s) 0 0
   byte-is = ap (λ (l : List ℕ). getD l 0 0) after-is
 
-  byte-in : length label + a < length s → getD (afterLabel label s) 0 0 ≡ getD s (length label + a) 0
-  byte-in h = byte-is ∙ ap (λ (l : List ℕ). getD l 0 0) (drop-step s (length label + a) h)
+  byte-in : n + a < length s → getD (afterLabel label s) 0 0 ≡ getD s (n + a) 0
+  byte-in h = byte-is ∙ ap (λ (l : List ℕ). getD l 0 0) (drop-step s (n + a) h)
 
   no-equals : is 61 (getD (afterLabel label s) 0 0) ≡ false → 0 ≡ headOf label s
   unfolding headOf
   no-equals e = rw (e, and-false (leb 1 (length label) && starts label s))
 
-  pub head-end : length label + a ≡ length s → 0 ≡ headOf label s
+  pub head-end : n + a ≡ length s → 0 ≡ headOf label s
   head-end e =
-      let h : length s ≤ length label + a = omega (arith, e) in
+      let h : length s ≤ n + a = omega (arith, e) in
       no-equals (ap (λ (x : ℕ). is 61 x) (byte-is ∙ ap (λ (l : List ℕ). getD l 0 0) (drop-of-length-le s h)))
 
-  pub head-byte : (length label + a ≡ length s → ⊥) → (getD s (length label + a) 0 ≡ 61 → ⊥) → 0 ≡ headOf label s
+  pub head-byte : (n + a ≡ length s → ⊥) → (getD s (n + a) 0 ≡ 61 → ⊥) → 0 ≡ headOf label s
   head-byte m ne =
-      let h : length label + a < length s = omega (arith, head-fits) in
-      no-equals (ap (λ (x : ℕ). is 61 x) (byte-in h) ∙ ne-eqb (getD s (length label + a) 0) 61 ne)
+      let h : n + a < length s = omega (arith, head-fits) in
+      no-equals (ap (λ (x : ℕ). is 61 x) (byte-in h) ∙ ne-eqb (getD s (n + a) 0) 61 ne)
 
-  pub head-here : (length label ≡ 0 → ⊥) → (length label + a ≡ length s → ⊥) → getD s (length label + a) 0 ≡ 61 → length label + a + 1 ≡ headOf label s
+  pub head-here : (n ≡ 0 → ⊥) → (n + a ≡ length s → ⊥) → getD s (n + a) 0 ≡ 61 → n + a + 1 ≡ headOf label s
   unfolding headOf
   head-here z m e =
-      let h : length label + a < length s = omega (arith, head-fits) in
+      let h : n + a < length s = omega (arith, head-fits) in
       let b : is 61 (getD (afterLabel label s) 0 0) ≡ true = ap (λ (x : ℕ). is 61 x) (byte-in h ∙ e) in
-      let k : 1 ≤ length label = omega arith in
-      rw (le-leb 1 (length label) k, st, b) (omega (arith, h, ap length after-is, length-drop (length label + a) s))
+      let k : 1 ≤ length label = omega (arith, size) in
+      rw (le-leb 1 (length label) k, st, b) (omega (arith, h, ap length after-is, length-drop (n + a) s))
 
 -- ---- what is told by it
 

@@ -105,14 +105,14 @@ module _ (t : MessageType) (file x : List ℕ) (n : ℕ) (p : Span) (no-sep : is
 
 -- ---- a text divided at its first '='
 
-none-there : (p : ℕ → Bool) (t : List ℕ) → length (upto p t) ≡ length t → any p t ≡ false
+pub none-there : (p : ℕ → Bool) (t : List ℕ) → length (upto p t) ≡ length t → any p t ≡ false
 unfolding any upto
 none-there p [] h = refl
 none-there p (x ∷ t) h =
     by-test (p x) (λ e. let z : _≡_ {A = ℕ} 0 (suc (length t)) = rw e at h in absurd (omega (arith, z)))
     (λ e. let z : suc (length (upto p t)) ≡ suc (length t) = rw e at h in rw e (none-there p t (omega (arith, z))))
 
-one-there : (p : ℕ → Bool) (t : List ℕ) → (length (upto p t) ≡ length t → ⊥) → any p t ≡ true
+pub one-there : (p : ℕ → Bool) (t : List ℕ) → (length (upto p t) ≡ length t → ⊥) → any p t ≡ true
 unfolding any upto
 one-there p [] h = absurd (h refl)
 one-there p (x ∷ t) h = by-test (p x) (λ e. rw e) (λ e. rw e (one-there p t (λ q. h (rw e (ap suc q)))))

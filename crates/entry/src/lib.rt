@@ -32,13 +32,11 @@ pub struct Expected {
 }
 
 // Whether the text is the label of the field k.
-fn is_label(l: Layout, k: usize, s: &[u8]) -> bool
+pub fn is_label(l: Layout, k: usize, s: &[u8]) -> bool
     ensures { λ r. ⌜ r ≡ same (labelAt l k) (now (s .entry)) ⌝ }
 {
-    let label = label::of_field(l, k);
-    let n = label.size;
-    let text = label.text;
-    scan::same(&text[0..n], s)
+    let m = label::of_field(l, k, s, &mut [], 0);
+    m.begins & (m.size == s.len())
 }
 
 // The field whose label this is: 0 where it is foreign.
@@ -66,15 +64,16 @@ fn second_of(t: MessageType, s: &[u8]) -> usize
     }
 }
 
-// Where the value may begin, if the line begins with the label, blanks and '=': else 0.
-fn head_with(label: &[u8], s: &[u8]) -> usize
-    ensures { λ r. ⌜ r ≡ headOf (now (label .entry)) (now (s .entry)) ⌝ }
+// Where the value may begin, if the line begins with the label of the field k, blanks and '=': else 0.
+fn head(l: Layout, k: usize, s: &[u8]) -> usize
+    ensures { λ r. ⌜ r ≡ headOf (labelAt l k) (now (s .entry)) ⌝ }
 {
-    let n = label.len();
+    let m = label::of_field(l, k, s, &mut [], 0);
+    let n = m.size;
     if n == 0 {
         return 0;
     }
-    if !scan::starts(label, s) {
+    if !m.begins {
         return 0;
     }
     let at = n + scan::lead(&s[n..]);
@@ -85,16 +84,6 @@ fn head_with(label: &[u8], s: &[u8]) -> usize
         return 0;
     }
     at + 1
-}
-
-// The same with the label of the field k.
-fn head(l: Layout, k: usize, s: &[u8]) -> usize
-    ensures { λ r. ⌜ r ≡ headOf (labelAt l k) (now (s .entry)) ⌝ }
-{
-    let label = label::of_field(l, k);
-    let n = label.size;
-    let text = label.text;
-    head_with(&text[0..n], s)
 }
 
 // The field k of the market layout: the first two labels are also mFRR's.

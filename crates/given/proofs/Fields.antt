@@ -1,5 +1,5 @@
 -- What the fields of a valid record hold that may not be blank: a number, an instant, an amount. Assumes nothing.
-use Prim.Native.Nat.{ℕ, suc, _-_, _≤_, _<_}
+use Prim.Native.Nat.{ℕ, _≤_, _<_}
 use Rattle.asked.specs.Values.{isFilled, numberIn, instantIn, amountIn}
 use Rattle.fit.proofs.Ranges.{range-tells}
 use Rattle.fit.specs.Fits.{inRange}
@@ -7,9 +7,9 @@ use Rattle.instants.proofs.Reach.{bounded}
 use Rattle.layout.specs.Layouts.{kindsOf, noKind, typeOf}
 use Rattle.name.specs.declared.MessageType.{MessageType}
 use Rattle.order.specs.Orders.{isAmount}
+use Rattle.record.proofs.Fields.{value-at}
 use Rattle.record.proofs.Places.{Owed}
-use Rattle.record.specs.Records.{cell, cellsOf, fieldOf, roomsOf}
-use Rattle.record.specs.declared.Cell.{Cell}
+use Rattle.record.specs.Records.{fieldOf, roomsOf}
 use Rattle.record.specs.declared.Record.{Record}
 use Rattle.valid.proofs.Hold.{hold-length, hold-at}
 use Rattle.valid.specs.Valid.{Valid}
@@ -21,11 +21,9 @@ use Rattle.value.specs.declared.Kind.{Kind}
 use Rattle.value.specs.declared.Shape.{Shape}
 use Rattle.value.specs.declared.Shape.the-variants.{IsId, IsWhen, IsAmount}
 use Rattle.value.specs.declared.Value.{Value}
-use Rattle.value.specs.declared.Value.the-variants.{Blank}
-use lib.ListN.{length, getD, replicate, length-map, List·getD-append, List·getD-map}
+use lib.ListN.{length, getD}
 use mathlib.Core.Bool.{true, false, false≢true}
-use mathlib.Core.List.{List, map}
-use mathlib.Core.Path.{_≡_, refl, sym, ap, _∙_, subst}
+use mathlib.Core.Path.{_≡_, refl, sym, _∙_, subst}
 use native.Mathlib.Omega.{arith}
 
 -- a value that is a date
@@ -53,13 +51,6 @@ module _ {t : MessageType} {r : Rooms} where
   owed k {v = v} s b (filled h) = subst (λ (a : Shape). Fits t r a v) s h
 
 -- ---- the field of a layout
-
--- the value at the place j is that of the field after it
-value-at : (vs : List Value) (j : ℕ) → j < length vs → fieldOf (cellsOf vs) (suc j) ≡ getD vs j Blank
-unfolding fieldOf cellsOf
-value-at vs j h =
-    ap (λ (c : Cell). c .value)
-    (List·getD-append (map cell vs) (replicate (26 - length vs) (cell Blank)) (cell Blank) j (omega (arith, h, length-map vs cell)) ∙ List·getD-map cell vs j Blank)
 
 module _ (r : Record) (w : Valid r) where
   field-held : {a : Shape} {k : ℕ} → Owed (r .layout) a k → Fits (typeOf (r .layout)) (roomsOf r) a (fieldOf (r .cells) k)

@@ -1,301 +1,332 @@
-// The labels of the layouts. One table serves the reader, which compares them, and the writer, which puts them.
+// The labels of the layouts. One table serves the reader, which asks whether a text begins with a label, and the writer, which puts it padded.
 use layout::Layout;
+use text::put;
+use text::scan;
+ghost use Prim.Native.Nat.{_+_, _≤_, _<_};
 ghost use Rattle.layout.specs.Fields.{command, technical, Field};
-ghost use Rattle.label.specs.Labels.{labelOf};
+ghost use Rattle.label.specs.Labels.{metOf, Meets};
 ghost use Rattle.layout.specs.Layouts.{labelAt};
 ghost use Rattle.text.specs.Bytes.{bytes};
-ghost use lib.ListN.{getD};
-ghost use mathlib.Core.List.{[], _∷_, map};
+ghost use Rattle.text.specs.Puts.{limit};
+ghost use lib.ListN.{getD, take};
+ghost use lib.Seq.{sets};
+ghost use mathlib.Core.List.{[], map};
 ghost use mathlib.Core.Path.{_≡_};
 
-// A label's length, and its bytes filled up with blanks.
-pub struct Label {
+// A label against a text: how long the label is, and whether the text begins with it.
+pub struct Met {
     pub size: usize,
-    pub text: [u8; 36],
+    pub begins: bool,
 }
 
-fn labelled(size: usize, text: [u8; 36]) -> Label
-    ensures { λ r. ⌜ r ≡ record { size = size; text = text } ⌝ }
+// A label, the first `size` bytes of the padded one, against a text that may begin with it, and into a buffer that may want it. The reader lends
+// an empty buffer and the writer an empty text: so each label stands once in the code, and no copy of it is handed on.
+fn labelled(size: usize, text: [u8; 36], s: &[u8], out: &mut [u8], at: usize) -> Met
+    requires { ⌜ (size ≤ 36) × (at + 36 < limit) ⌝ }
+    ensures { λ r. ⌜ (r ≡ metOf (take size text) (now (s .entry))) × (now (out .exit) ≡ sets (now (out .entry)) at text) ⌝ }
 {
-    Label { size, text }
+    let begins = scan::starts(&text[0..size], s);
+    put::put_text(out, at, &text);
+    Met { size, begins }
 }
 
-fn no_label() -> Label
-    ensures { λ r. ⌜ r ≡ labelOf [] ⌝ }
+fn no_label(s: &[u8], out: &mut [u8], at: usize) -> Met
+    requires { ⌜ at + 36 < limit ⌝ }
+    ensures { λ r. ⌜ Meets [] (now (s .entry)) (now (out .entry)) at (now (out .exit)) r ⌝ }
 {
-    labelled(0, *b"                                    ")
+    labelled(0, *b"                                    ", s, out, at)
 }
 
-fn identifier() -> Label
-    ensures { λ r. ⌜ r ≡ labelOf (bytes "Identificatore messaggio") ⌝ }
+fn identifier(s: &[u8], out: &mut [u8], at: usize) -> Met
+    requires { ⌜ at + 36 < limit ⌝ }
+    ensures { λ r. ⌜ Meets (bytes "Identificatore messaggio") (now (s .entry)) (now (out .entry)) at (now (out .exit)) r ⌝ }
 {
-    labelled(24, *b"Identificatore messaggio            ")
+    labelled(24, *b"Identificatore messaggio            ", s, out, at)
 }
 
-fn unit() -> Label
-    ensures { λ r. ⌜ r ≡ labelOf (bytes "Nome UPA/UCA") ⌝ }
+fn unit(s: &[u8], out: &mut [u8], at: usize) -> Met
+    requires { ⌜ at + 36 < limit ⌝ }
+    ensures { λ r. ⌜ Meets (bytes "Nome UPA/UCA") (now (s .entry)) (now (out .entry)) at (now (out .exit)) r ⌝ }
 {
-    labelled(12, *b"Nome UPA/UCA                        ")
+    labelled(12, *b"Nome UPA/UCA                        ", s, out, at)
 }
 
-fn start() -> Label
-    ensures { λ r. ⌜ r ≡ labelOf (bytes "Data Ora Inizio") ⌝ }
+fn start(s: &[u8], out: &mut [u8], at: usize) -> Met
+    requires { ⌜ at + 36 < limit ⌝ }
+    ensures { λ r. ⌜ Meets (bytes "Data Ora Inizio") (now (s .entry)) (now (out .entry)) at (now (out .exit)) r ⌝ }
 {
-    labelled(15, *b"Data Ora Inizio                     ")
+    labelled(15, *b"Data Ora Inizio                     ", s, out, at)
 }
 
-fn end() -> Label
-    ensures { λ r. ⌜ r ≡ labelOf (bytes "Data Ora Fine") ⌝ }
+fn end(s: &[u8], out: &mut [u8], at: usize) -> Met
+    requires { ⌜ at + 36 < limit ⌝ }
+    ensures { λ r. ⌜ Meets (bytes "Data Ora Fine") (now (s .entry)) (now (out .entry)) at (now (out .exit)) r ⌝ }
 {
-    labelled(13, *b"Data Ora Fine                       ")
+    labelled(13, *b"Data Ora Fine                       ", s, out, at)
 }
 
-fn reason() -> Label
-    ensures { λ r. ⌜ r ≡ labelOf (bytes "Motivazione") ⌝ }
+fn reason(s: &[u8], out: &mut [u8], at: usize) -> Met
+    requires { ⌜ at + 36 < limit ⌝ }
+    ensures { λ r. ⌜ Meets (bytes "Motivazione") (now (s .entry)) (now (out .entry)) at (now (out .exit)) r ⌝ }
 {
-    labelled(11, *b"Motivazione                         ")
+    labelled(11, *b"Motivazione                         ", s, out, at)
 }
 
-fn note() -> Label
-    ensures { λ r. ⌜ r ≡ labelOf (bytes "Note") ⌝ }
+fn note(s: &[u8], out: &mut [u8], at: usize) -> Met
+    requires { ⌜ at + 36 < limit ⌝ }
+    ensures { λ r. ⌜ Meets (bytes "Note") (now (s .entry)) (now (out .entry)) at (now (out .exit)) r ⌝ }
 {
-    labelled(4, *b"Note                                ")
+    labelled(4, *b"Note                                ", s, out, at)
 }
 
-fn created() -> Label
-    ensures { λ r. ⌜ r ≡ labelOf (bytes "Data Creazione Msg") ⌝ }
+fn created(s: &[u8], out: &mut [u8], at: usize) -> Met
+    requires { ⌜ at + 36 < limit ⌝ }
+    ensures { λ r. ⌜ Meets (bytes "Data Creazione Msg") (now (s .entry)) (now (out .entry)) at (now (out .exit)) r ⌝ }
 {
-    labelled(18, *b"Data Creazione Msg                  ")
+    labelled(18, *b"Data Creazione Msg                  ", s, out, at)
 }
 
 // 2.3.1, fields 1 to 12 of the market layout, from 0.
-fn command_label(k: usize) -> Label
-    ensures { λ r. ⌜ r ≡ labelOf (getD (map (λ (f : Field). f .label) command) k []) ⌝ }
+fn command_label(k: usize, s: &[u8], out: &mut [u8], at: usize) -> Met
+    requires { ⌜ at + 36 < limit ⌝ }
+    ensures { λ r. ⌜ Meets (getD (map (λ (f : Field). f .label) command) k []) (now (s .entry)) (now (out .entry)) at (now (out .exit)) r ⌝ }
 {
     match k {
-        0 => identifier(),
-        1 => unit(),
-        2 => labelled(23, *b"Data Ora Inizio Comando             "),
-        3 => labelled(21, *b"Data Ora Fine Comando               "),
-        4 => labelled(35, *b"Variazione potenza Prog Vinc (TINI) "),
-        5 => labelled(35, *b"Variazione potenza Prog Vinc (TFIN) "),
-        6 => labelled(23, *b"Stato Gradiente Comando             "),
-        7 => labelled(27, *b"Stato Continuazione Comando         "),
-        8 => labelled(22, *b"Richiesta SuperMassimo              "),
-        9 => labelled(27, *b"PV(Data ora Inizio Comando)         "),
-        10 => labelled(25, *b"PV(Data ora Fine Comando)           "),
-        11 => labelled(18, *b"Ordine di Raccordo                  "),
-        _ => no_label(),
+        0 => identifier(s, out, at),
+        1 => unit(s, out, at),
+        2 => labelled(23, *b"Data Ora Inizio Comando             ", s, out, at),
+        3 => labelled(21, *b"Data Ora Fine Comando               ", s, out, at),
+        4 => labelled(35, *b"Variazione potenza Prog Vinc (TINI) ", s, out, at),
+        5 => labelled(35, *b"Variazione potenza Prog Vinc (TFIN) ", s, out, at),
+        6 => labelled(23, *b"Stato Gradiente Comando             ", s, out, at),
+        7 => labelled(27, *b"Stato Continuazione Comando         ", s, out, at),
+        8 => labelled(22, *b"Richiesta SuperMassimo              ", s, out, at),
+        9 => labelled(27, *b"PV(Data ora Inizio Comando)         ", s, out, at),
+        10 => labelled(25, *b"PV(Data ora Fine Comando)           ", s, out, at),
+        11 => labelled(18, *b"Ordine di Raccordo                  ", s, out, at),
+        _ => no_label(s, out, at),
     }
 }
 
 // 2.3.1, fields 13 to 26, from 0.
-fn technical_label(k: usize) -> Label
-    ensures { λ r. ⌜ r ≡ labelOf (getD (map (λ (f : Field). f .label) technical) k []) ⌝ }
+fn technical_label(k: usize, s: &[u8], out: &mut [u8], at: usize) -> Met
+    requires { ⌜ at + 36 < limit ⌝ }
+    ensures { λ r. ⌜ Meets (getD (map (λ (f : Field). f .label) technical) k []) (now (s .entry)) (now (out .entry)) at (now (out .exit)) r ⌝ }
 {
     match k {
-        0 => labelled(19, *b"Tempo di avviamento                 "),
-        1 => labelled(14, *b"Tempo di rampa                      "),
-        2 => labelled(15, *b"PV finale(TINI)                     "),
-        3 => labelled(15, *b"PV finale(TFIN)                     "),
-        4 => labelled(32, *b"Data Ora Riferimento Dati (Trif)    "),
-        5 => labelled(27, *b"Origine Dati Tecnici a Trif         "),
-        6 => labelled(34, *b"Data Ora Aggiornamento Dati a Trif  "),
-        7 => labelled(32, *b"Profilo normalizzato di rampa h1    "),
-        8 => labelled(32, *b"Profilo normalizzato di rampa h2    "),
-        9 => labelled(32, *b"Profilo normalizzato di rampa h3    "),
-        10 => labelled(32, *b"Profilo normalizzato di rampa h4    "),
-        11 => labelled(32, *b"Profilo normalizzato di rampa h5    "),
-        12 => labelled(32, *b"Profilo normalizzato di rampa h6    "),
-        13 => labelled(26, *b"Gradienti (Pmin,Pmax,Grad)          "),
-        _ => no_label(),
+        0 => labelled(19, *b"Tempo di avviamento                 ", s, out, at),
+        1 => labelled(14, *b"Tempo di rampa                      ", s, out, at),
+        2 => labelled(15, *b"PV finale(TINI)                     ", s, out, at),
+        3 => labelled(15, *b"PV finale(TFIN)                     ", s, out, at),
+        4 => labelled(32, *b"Data Ora Riferimento Dati (Trif)    ", s, out, at),
+        5 => labelled(27, *b"Origine Dati Tecnici a Trif         ", s, out, at),
+        6 => labelled(34, *b"Data Ora Aggiornamento Dati a Trif  ", s, out, at),
+        7 => labelled(32, *b"Profilo normalizzato di rampa h1    ", s, out, at),
+        8 => labelled(32, *b"Profilo normalizzato di rampa h2    ", s, out, at),
+        9 => labelled(32, *b"Profilo normalizzato di rampa h3    ", s, out, at),
+        10 => labelled(32, *b"Profilo normalizzato di rampa h4    ", s, out, at),
+        11 => labelled(32, *b"Profilo normalizzato di rampa h5    ", s, out, at),
+        12 => labelled(32, *b"Profilo normalizzato di rampa h6    ", s, out, at),
+        13 => labelled(26, *b"Gradienti (Pmin,Pmax,Grad)          ", s, out, at),
+        _ => no_label(s, out, at),
     }
 }
 
-fn market_label(k: usize) -> Label
-    ensures { λ r. ⌜ r ≡ labelOf (labelAt Layout.Market k) ⌝ }
+fn market_label(k: usize, s: &[u8], out: &mut [u8], at: usize) -> Met
+    requires { ⌜ at + 36 < limit ⌝ }
+    ensures { λ r. ⌜ Meets (labelAt Layout.Market k) (now (s .entry)) (now (out .entry)) at (now (out .exit)) r ⌝ }
 {
     match k {
-        0 => no_label(),
-        1..=12 => command_label(k - 1),
-        _ => technical_label(k - 13),
+        0 => no_label(s, out, at),
+        1..=12 => command_label(k - 1, s, out, at),
+        _ => technical_label(k - 13, s, out, at),
     }
 }
 
 // 2.3.2, the mFRR layout.
-fn mfrr_label(k: usize) -> Label
-    ensures { λ r. ⌜ r ≡ labelOf (labelAt Layout.Mfrr k) ⌝ }
+fn mfrr_label(k: usize, s: &[u8], out: &mut [u8], at: usize) -> Met
+    requires { ⌜ at + 36 < limit ⌝ }
+    ensures { λ r. ⌜ Meets (labelAt Layout.Mfrr k) (now (s .entry)) (now (out .entry)) at (now (out .exit)) r ⌝ }
 {
     match k {
-        1 => identifier(),
-        2 => unit(),
-        3 => labelled(28, *b"Data Ora Inizio Rampa1 TINI1        "),
-        4 => labelled(26, *b"Data Ora Fine Rampa1 TFIN1          "),
-        5 => labelled(28, *b"Data Ora Inizio Rampa2 TINI2        "),
-        6 => labelled(26, *b"Data Ora Fine Rampa2 TFIN2          "),
-        7 => labelled(27, *b"Variazione potenza al TFIN1         "),
-        8 => labelled(12, *b"Tipo Comando                        "),
-        9 => labelled(15, *b"Prifbil (TINI1)                     "),
-        10 => labelled(15, *b"Prifbil (TFIN1)                     "),
-        11 => labelled(15, *b"Prifbil (TINI2)                     "),
-        12 => labelled(15, *b"Prifbil (TFIN2)                     "),
-        _ => no_label(),
+        1 => identifier(s, out, at),
+        2 => unit(s, out, at),
+        3 => labelled(28, *b"Data Ora Inizio Rampa1 TINI1        ", s, out, at),
+        4 => labelled(26, *b"Data Ora Fine Rampa1 TFIN1          ", s, out, at),
+        5 => labelled(28, *b"Data Ora Inizio Rampa2 TINI2        ", s, out, at),
+        6 => labelled(26, *b"Data Ora Fine Rampa2 TFIN2          ", s, out, at),
+        7 => labelled(27, *b"Variazione potenza al TFIN1         ", s, out, at),
+        8 => labelled(12, *b"Tipo Comando                        ", s, out, at),
+        9 => labelled(15, *b"Prifbil (TINI1)                     ", s, out, at),
+        10 => labelled(15, *b"Prifbil (TFIN1)                     ", s, out, at),
+        11 => labelled(15, *b"Prifbil (TINI2)                     ", s, out, at),
+        12 => labelled(15, *b"Prifbil (TFIN2)                     ", s, out, at),
+        _ => no_label(s, out, at),
     }
 }
 
 // 2.4, RC.
-fn rc_label(k: usize) -> Label
-    ensures { λ r. ⌜ r ≡ labelOf (labelAt Layout.Revocation k) ⌝ }
+fn rc_label(k: usize, s: &[u8], out: &mut [u8], at: usize) -> Met
+    requires { ⌜ at + 36 < limit ⌝ }
+    ensures { λ r. ⌜ Meets (labelAt Layout.Revocation k) (now (s .entry)) (now (out .entry)) at (now (out .exit)) r ⌝ }
 {
     match k {
-        1 => identifier(),
-        2 => unit(),
-        3 => labelled(30, *b"Data Ora Inizio Revoca Comando      "),
-        4 => labelled(28, *b"Data Ora Fine Revoca Comando        "),
-        5 => labelled(16, *b"Sequenza Comando                    "),
-        _ => no_label(),
+        1 => identifier(s, out, at),
+        2 => unit(s, out, at),
+        3 => labelled(30, *b"Data Ora Inizio Revoca Comando      ", s, out, at),
+        4 => labelled(28, *b"Data Ora Fine Revoca Comando        ", s, out, at),
+        5 => labelled(16, *b"Sequenza Comando                    ", s, out, at),
+        _ => no_label(s, out, at),
     }
 }
 
 // 2.5, MG.
-fn mg_label(k: usize) -> Label
-    ensures { λ r. ⌜ r ≡ labelOf (labelAt Layout.Generic k) ⌝ }
+fn mg_label(k: usize, s: &[u8], out: &mut [u8], at: usize) -> Met
+    requires { ⌜ at + 36 < limit ⌝ }
+    ensures { λ r. ⌜ Meets (labelAt Layout.Generic k) (now (s .entry)) (now (out .entry)) at (now (out .exit)) r ⌝ }
 {
     match k {
-        1 => identifier(),
-        2 => unit(),
-        3 => start(),
-        4 => end(),
-        5 => reason(),
-        6 => note(),
-        7 => created(),
-        _ => no_label(),
+        1 => identifier(s, out, at),
+        2 => unit(s, out, at),
+        3 => start(s, out, at),
+        4 => end(s, out, at),
+        5 => reason(s, out, at),
+        6 => note(s, out, at),
+        7 => created(s, out, at),
+        _ => no_label(s, out, at),
     }
 }
 
 // 2.6, EB.
-fn eb_label(k: usize) -> Label
-    ensures { λ r. ⌜ r ≡ labelOf (labelAt Layout.Exclusion k) ⌝ }
+fn eb_label(k: usize, s: &[u8], out: &mut [u8], at: usize) -> Met
+    requires { ⌜ at + 36 < limit ⌝ }
+    ensures { λ r. ⌜ Meets (labelAt Layout.Exclusion k) (now (s .entry)) (now (out .entry)) at (now (out .exit)) r ⌝ }
 {
     match k {
-        1 => identifier(),
-        2 => unit(),
-        3 => start(),
-        4 => end(),
-        5 => reason(),
-        6 => note(),
-        7 => labelled(12, *b"Riammissione                        "),
-        8 => created(),
-        _ => no_label(),
+        1 => identifier(s, out, at),
+        2 => unit(s, out, at),
+        3 => start(s, out, at),
+        4 => end(s, out, at),
+        5 => reason(s, out, at),
+        6 => note(s, out, at),
+        7 => labelled(12, *b"Riammissione                        ", s, out, at),
+        8 => created(s, out, at),
+        _ => no_label(s, out, at),
     }
 }
 
 // 2.7, LB.
-fn lb_label(k: usize) -> Label
-    ensures { λ r. ⌜ r ≡ labelOf (labelAt Layout.Limitation k) ⌝ }
+fn lb_label(k: usize, s: &[u8], out: &mut [u8], at: usize) -> Met
+    requires { ⌜ at + 36 < limit ⌝ }
+    ensures { λ r. ⌜ Meets (labelAt Layout.Limitation k) (now (s .entry)) (now (out .entry)) at (now (out .exit)) r ⌝ }
 {
     match k {
-        1 => identifier(),
-        2 => unit(),
-        3 => start(),
-        4 => end(),
-        5 => labelled(22, *b"Limite Potenza massima              "),
-        6 => labelled(21, *b"Limite Potenza Minima               "),
-        7 => reason(),
-        8 => note(),
-        9 => labelled(9, *b"Reintegro                           "),
-        10 => created(),
-        _ => no_label(),
+        1 => identifier(s, out, at),
+        2 => unit(s, out, at),
+        3 => start(s, out, at),
+        4 => end(s, out, at),
+        5 => labelled(22, *b"Limite Potenza massima              ", s, out, at),
+        6 => labelled(21, *b"Limite Potenza Minima               ", s, out, at),
+        7 => reason(s, out, at),
+        8 => note(s, out, at),
+        9 => labelled(9, *b"Reintegro                           ", s, out, at),
+        10 => created(s, out, at),
+        _ => no_label(s, out, at),
     }
 }
 
 // 2.8, SR.
-fn sr_label(k: usize) -> Label
-    ensures { λ r. ⌜ r ≡ labelOf (labelAt Layout.Secondary k) ⌝ }
+fn sr_label(k: usize, s: &[u8], out: &mut [u8], at: usize) -> Met
+    requires { ⌜ at + 36 < limit ⌝ }
+    ensures { λ r. ⌜ Meets (labelAt Layout.Secondary k) (now (s .entry)) (now (out .entry)) at (now (out .exit)) r ⌝ }
 {
     match k {
-        1 => identifier(),
-        2 => unit(),
-        3 => start(),
-        4 => end(),
-        5 => labelled(15, *b"Tipo Operazione                     "),
-        6 => labelled(9, *b"Semibande                           "),
-        7 => reason(),
-        8 => note(),
-        9 => created(),
-        _ => no_label(),
+        1 => identifier(s, out, at),
+        2 => unit(s, out, at),
+        3 => start(s, out, at),
+        4 => end(s, out, at),
+        5 => labelled(15, *b"Tipo Operazione                     ", s, out, at),
+        6 => labelled(9, *b"Semibande                           ", s, out, at),
+        7 => reason(s, out, at),
+        8 => note(s, out, at),
+        9 => created(s, out, at),
+        _ => no_label(s, out, at),
     }
 }
 
 // 2.9, VQ.
-fn vq_label(k: usize) -> Label
-    ensures { λ r. ⌜ r ≡ labelOf (labelAt Layout.VoltVar k) ⌝ }
+fn vq_label(k: usize, s: &[u8], out: &mut [u8], at: usize) -> Met
+    requires { ⌜ at + 36 < limit ⌝ }
+    ensures { λ r. ⌜ Meets (labelAt Layout.VoltVar k) (now (s .entry)) (now (out .entry)) at (now (out .exit)) r ⌝ }
 {
     match k {
-        1 => identifier(),
-        2 => unit(),
-        3 => start(),
-        4 => end(),
-        5 => labelled(17, *b"Stato Sart/Report                   "),
-        6 => labelled(22, *b"Modalita funzionamento              "),
-        7 => labelled(11, *b"Regolazione                         "),
-        8 => labelled(24, *b"Impostazione Sart/Report            "),
-        9 => labelled(16, *b"Impostazione RAT                    "),
-        10 => labelled(10, *b"Variazione                          "),
-        11 => labelled(16, *b"Potenza reattiva                    "),
-        12 => note(),
-        13 => created(),
-        _ => no_label(),
+        1 => identifier(s, out, at),
+        2 => unit(s, out, at),
+        3 => start(s, out, at),
+        4 => end(s, out, at),
+        5 => labelled(17, *b"Stato Sart/Report                   ", s, out, at),
+        6 => labelled(22, *b"Modalita funzionamento              ", s, out, at),
+        7 => labelled(11, *b"Regolazione                         ", s, out, at),
+        8 => labelled(24, *b"Impostazione Sart/Report            ", s, out, at),
+        9 => labelled(16, *b"Impostazione RAT                    ", s, out, at),
+        10 => labelled(10, *b"Variazione                          ", s, out, at),
+        11 => labelled(16, *b"Potenza reattiva                    ", s, out, at),
+        12 => note(s, out, at),
+        13 => created(s, out, at),
+        _ => no_label(s, out, at),
     }
 }
 
 // 2.10, RI.
-fn ri_label(k: usize) -> Label
-    ensures { λ r. ⌜ r ≡ labelOf (labelAt Layout.Rejection k) ⌝ }
+fn ri_label(k: usize, s: &[u8], out: &mut [u8], at: usize) -> Met
+    requires { ⌜ at + 36 < limit ⌝ }
+    ensures { λ r. ⌜ Meets (labelAt Layout.Rejection k) (now (s .entry)) (now (out .entry)) at (now (out .exit)) r ⌝ }
 {
     match k {
-        1 => identifier(),
-        2 => unit(),
-        3 => start(),
-        4 => end(),
-        5 => reason(),
-        6 => note(),
-        _ => no_label(),
+        1 => identifier(s, out, at),
+        2 => unit(s, out, at),
+        3 => start(s, out, at),
+        4 => end(s, out, at),
+        5 => reason(s, out, at),
+        6 => note(s, out, at),
+        _ => no_label(s, out, at),
     }
 }
 
 // 2.11, QR.
-fn qr_label(k: usize) -> Label
-    ensures { λ r. ⌜ r ≡ labelOf (labelAt Layout.Reserve k) ⌝ }
+fn qr_label(k: usize, s: &[u8], out: &mut [u8], at: usize) -> Met
+    requires { ⌜ at + 36 < limit ⌝ }
+    ensures { λ r. ⌜ Meets (labelAt Layout.Reserve k) (now (s .entry)) (now (out .entry)) at (now (out .exit)) r ⌝ }
 {
     match k {
-        1 => identifier(),
-        2 => unit(),
-        3 => start(),
-        4 => end(),
-        5 => labelled(12, *b"Tipo Riserva                        "),
-        6 => labelled(23, *b"Quantita Riservata (MW)             "),
-        7 => labelled(18, *b"Quantita Riservata                  "),
-        8 => note(),
-        9 => created(),
-        _ => no_label(),
+        1 => identifier(s, out, at),
+        2 => unit(s, out, at),
+        3 => start(s, out, at),
+        4 => end(s, out, at),
+        5 => labelled(12, *b"Tipo Riserva                        ", s, out, at),
+        6 => labelled(23, *b"Quantita Riservata (MW)             ", s, out, at),
+        7 => labelled(18, *b"Quantita Riservata                  ", s, out, at),
+        8 => note(s, out, at),
+        9 => created(s, out, at),
+        _ => no_label(s, out, at),
     }
 }
 
 // The label of the field k, from 1: nothing where there is no such field.
-pub fn of_field(l: Layout, k: usize) -> Label
-    ensures { λ r. ⌜ r ≡ labelOf (labelAt l k) ⌝ }
+pub fn of_field(l: Layout, k: usize, s: &[u8], out: &mut [u8], at: usize) -> Met
+    requires { ⌜ at + 36 < limit ⌝ }
+    ensures { λ r. ⌜ Meets (labelAt l k) (now (s .entry)) (now (out .entry)) at (now (out .exit)) r ⌝ }
 {
     match l {
-        Layout::Market => market_label(k),
-        Layout::Mfrr => mfrr_label(k),
-        Layout::Revocation => rc_label(k),
-        Layout::Generic => mg_label(k),
-        Layout::Exclusion => eb_label(k),
-        Layout::Limitation => lb_label(k),
-        Layout::Secondary => sr_label(k),
-        Layout::VoltVar => vq_label(k),
-        Layout::Rejection => ri_label(k),
-        Layout::Reserve => qr_label(k),
+        Layout::Market => market_label(k, s, out, at),
+        Layout::Mfrr => mfrr_label(k, s, out, at),
+        Layout::Revocation => rc_label(k, s, out, at),
+        Layout::Generic => mg_label(k, s, out, at),
+        Layout::Exclusion => eb_label(k, s, out, at),
+        Layout::Limitation => lb_label(k, s, out, at),
+        Layout::Secondary => sr_label(k, s, out, at),
+        Layout::VoltVar => vq_label(k, s, out, at),
+        Layout::Rejection => ri_label(k, s, out, at),
+        Layout::Reserve => qr_label(k, s, out, at),
     }
 }

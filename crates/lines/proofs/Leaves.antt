@@ -4,37 +4,39 @@ use Prim.Native.Nat.{ℕ, _+_, _-_, _≤_, _<_}
 use Rattle.lines.specs.Lines.{isSep}
 use Rattle.lines.specs.Places.{Holds, notPlain, plainRun, breakOf}
 use Rattle.lines.specs.declared.Break.the-variants.{After, Bad}
-use Rattle.text.proofs.Cuts.{drop-step, part-from, part-front, length-part, upto-here, upto-on, upto-end, skip-drop}
-use Rattle.text.proofs.Tests.{by-le}
+use Rattle.text.proofs.Cuts.{drop-step, part-from, part-front, length-part, upto-here, upto-on, upto-end, upto-append, all-none, skip-drop}
 use Rattle.text.proofs.Trims.{end-take, end-length}
-use Rattle.text.specs.Bytes.{part, all, is, isBlank, skip, skipEnd, trim}
-use borrow.Author.Tests.{ne-eqb, le-leb, lt-leb, le-ltb, lt-ltb}
-use lib.Dec.{eqb, leb, ltb}
-use lib.ListN.{length, getD, take, drop, drop-of-length-le}
-use mathlib.Core.Bool.{true, false, _&&_, _||_, and-false}
-use mathlib.Core.List.{List, [], _∷_}
+use Rattle.text.specs.Bytes.{part, any, all, upto, is, isBlank, isPlain, skip, skipEnd, trim}
+use borrow.Author.Tests.{ne-eqb, le-leb, lt-leb}
+use lib.Dec.{eqb, leb}
+use lib.ListN.{length, getD, take, drop, length-append, length-take, length-drop, take-append-drop, drop-of-length-le}
+use lib.Seq.{drop-drop}
+use mathlib.Core.Bool.{true, false, _&&_, and-false}
+use mathlib.Core.List.{List, [], _∷_, _++_}
 use mathlib.Core.Path.{_≡_, sym, ap, _∙_}
 use native.Mathlib.Omega.{arith}
 
 -- ---- the run
 
--- the test of the code is the definition's
-plain-test : (b : ℕ) → notPlain b ≡ (ltb b 32 || ltb 126 b)
-plain-test b =
-    by-le 32 b
-    (λ h. by-le b 126 (λ k. rw (le-leb 32 b h, le-leb b 126 k, le-ltb b 32 h, le-ltb 126 b k)) (λ k. rw (le-leb 32 b h, lt-leb b 126 k, le-ltb b 32 h, lt-ltb 126 b k)))
-    (λ h. rw (lt-leb 32 b h, lt-ltb b 32 h))
+module _ (s : List ℕ) (i : ℕ) (e : plainRun s ≡ i + plainRun (drop i s)) where
+  pub plain-here : i < length s → isPlain (getD s i 0) ≡ false → i ≡ plainRun s
+  plain-here h t = omega (arith, ap length (upto-here notPlain 0 s i h (rw t)))
 
-module _ (s : List ℕ) (i : ℕ) (h : i < length s) where
-  pub plain-here : (ltb (getD s i 0) 32 || ltb 126 (getD s i 0)) ≡ true → plainRun s ≡ i + plainRun (drop i s) → i ≡ plainRun s
-  plain-here t e = omega (arith, ap length (upto-here notPlain 0 s i h (plain-test (getD s i 0) ∙ t)))
+  pub plain-on : i < length s → isPlain (getD s i 0) ≡ true → plainRun s ≡ (i + 1) + plainRun (drop (i + 1) s)
+  plain-on h t = omega (arith, ap length (upto-on notPlain 0 s i h (rw t)))
 
-  pub plain-on : (ltb (getD s i 0) 32 || ltb 126 (getD s i 0)) ≡ false → plainRun s ≡ i + plainRun (drop i s)
-      → plainRun s ≡ (i + 1) + plainRun (drop (i + 1) s)
-  plain-on t e = omega (arith, ap length (upto-on notPlain 0 s i h (plain-test (getD s i 0) ∙ t)))
+  -- k at a time
+  pub plain-over : (k : ℕ) → i + k ≤ length s → all isPlain (part i (i + k) s) ≡ true → plainRun s ≡ (i + k) + plainRun (drop (i + k) s)
+  plain-over k h t =
+      let n : i + k - i ≡ k = omega arith in
+      let a : List ℕ = take k (drop i s) in
+      let none : any notPlain a ≡ false = all-none notPlain isPlain (λ x p. rw p) a (rw n at t) in
+      let cut : upto notPlain (drop i s) ≡ a ++ upto notPlain (drop (i + k) s) =
+      ap (upto notPlain) (sym (take-append-drop k (drop i s))) ∙ upto-append notPlain a (drop k (drop i s)) none ∙ rw (drop-drop k i s) in
+      omega (arith, ap length cut, length-append a (upto notPlain (drop (i + k) s)), length-take k (drop i s), length-drop i s)
 
-pub plain-end : (s : List ℕ) (i : ℕ) → length s ≤ i → plainRun s ≡ i + plainRun (drop i s) → i ≡ plainRun s
-plain-end s i h e = omega (arith, ap length (upto-end notPlain s i h))
+  pub plain-end : length s ≤ i → i ≡ plainRun s
+  plain-end h = omega (arith, ap length (upto-end notPlain s i h))
 
 -- ---- what ends a line
 

@@ -2,7 +2,7 @@
 -- Assumes nothing.
 use Prim.Native.Nat.{ℕ, zero, suc}
 use Rattle.lines.specs.Lines.{isSep, param, paramOf}
-use Rattle.text.proofs.Cuts.{upto-seam, past-seam, any-seam, any-append, all-none}
+use Rattle.text.proofs.Cuts.{skip-append, upto-seam, past-seam, any-seam, any-append, all-none}
 use Rattle.text.proofs.Tests.{by-test, and-parts}
 use Rattle.text.proofs.Trims.{skip-stop, skip-twice, end-stop, end-twice, skip-end}
 use Rattle.text.specs.Bytes.{any, all, is, isBlank, skip, keep, skipEnd, trim}
@@ -25,11 +25,6 @@ trim-end : (a : List ℕ) → trim (skipEnd isBlank a) ≡ trim a
 unfolding trim
 trim-end a = ap (skipEnd isBlank) (skip-end isBlank a) ∙ end-twice isBlank (skip isBlank a)
 
-skip-blanks : (b s : List ℕ) → all isBlank b ≡ true → skip isBlank (b ++ s) ≡ skip isBlank s
-unfolding all skip
-skip-blanks [] s h = refl
-skip-blanks (x ∷ b) s h = let o = and-parts (isBlank x) (all isBlank b) h in rw (o .0) (skip-blanks b s (o .1))
-
 end-blanks : (s b : List ℕ) → all isBlank b ≡ true → skipEnd isBlank (s ++ b) ≡ skipEnd isBlank s
 unfolding all skipEnd
 end-blanks [] [] h = refl
@@ -40,7 +35,7 @@ end-blanks (x ∷ s) b h = ap (keep isBlank x) (end-blanks s b h)
 
 pub trim-front-blanks : (b s : List ℕ) → all isBlank b ≡ true → trim (b ++ s) ≡ trim s
 unfolding trim
-trim-front-blanks b s h = ap (skipEnd isBlank) (skip-blanks b s h)
+trim-front-blanks b s h = ap (skipEnd isBlank) (skip-append isBlank b s h)
 
 pub trim-end-blanks : (s b : List ℕ) → all isBlank b ≡ true → trim (s ++ b) ≡ trim s
 trim-end-blanks s b h = sym (trim-end (s ++ b)) ∙ ap trim (end-blanks s b h) ∙ trim-end s

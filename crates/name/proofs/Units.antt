@@ -1,13 +1,15 @@
 -- The bytes of a unit, as ranges of numbers. Assumes nothing.
 use Prim.Native.Nat.{ℕ, _≤_, _<_}
 use Rattle.name.specs.Names.{isUnitByte, isUnit}
+use Rattle.text.proofs.Fronts.{run-all}
 use Rattle.text.proofs.Tests.{Tells, within-tells, eqb-tells, untold}
-use Rattle.text.specs.Bytes.{all, within}
+use Rattle.text.specs.Bytes.{within, runOf}
+use lib.Dec.{eqb}
 use lib.ListN.{length}
 use mathlib.Core.Bool.{Bool, true, false, _||_, false≢true}
 use mathlib.Core.List.{List}
 use mathlib.Core.Logic.{_⊎_, inl, inr, ⊎-elim}
-use mathlib.Core.Path.{_≡_, refl, sym}
+use mathlib.Core.Path.{_≡_, refl, sym, ap, _∙_}
 use native.Mathlib.Omega.{arith}
 
 infixl 4 _or_
@@ -45,9 +47,9 @@ module _ (b : ℕ) where
   unit-none n =
       sym (untold (unit-tells b) (λ u. by-kind b u (λ h. omega (arith, n .0 (h .0))) (λ h. omega (arith, n .1 (h .0))) (n .2) (λ h. omega (arith, n .3 (h .0)))))
 
-pub unit-sized : (s : List ℕ) → within 1 16 (length s) ≡ true → all isUnitByte s ≡ isUnit s
+pub unit-sized : (s : List ℕ) (n : ℕ) → n ≡ runOf isUnitByte s → within 1 16 (length s) ≡ true → eqb n (length s) ≡ isUnit s
 unfolding isUnit
-unit-sized s e = rw e
+unit-sized s n h e = ap (λ (k : ℕ). eqb k (length s)) h ∙ run-all isUnitByte s ∙ rw e
 
 pub unit-other : (s : List ℕ) → within 1 16 (length s) ≡ false → false ≡ isUnit s
 unfolding isUnit

@@ -1,6 +1,6 @@
 // A unit's code: 1 to 16 letters, digits or '_'.
 ghost use Rattle.name.specs.Names.{isUnitByte, isUnit};
-ghost use Rattle.text.specs.Bytes.{all};
+ghost use Rattle.text.specs.Bytes.{runOf};
 ghost use mathlib.Core.Path.{_≡_};
 
 fn is_unit_byte(b: u8) -> bool
@@ -15,17 +15,18 @@ fn is_unit_byte(b: u8) -> bool
     }
 }
 
-fn all_unit_bytes(s: &[u8]) -> bool
-    ensures { λ r. ⌜ r ≡ all isUnitByte (now (s .entry)) ⌝ }
+// How many bytes of a code it begins with.
+pub fn run(s: &[u8]) -> usize
+    ensures { λ r. ⌜ r ≡ runOf isUnitByte (now (s .entry)) ⌝ }
 {
     let mut i = 0;
     while i < s.len() {
         if !is_unit_byte(s[i]) {
-            return false;
+            return i;
         }
         i += 1;
     }
-    true
+    i
 }
 
 pub fn is_unit(s: &[u8]) -> bool
@@ -33,7 +34,7 @@ pub fn is_unit(s: &[u8]) -> bool
 {
     let n = s.len();
     if (1 <= n) & (n <= 16) {
-        return all_unit_bytes(s);
+        return run(s) == n;
     }
     false
 }

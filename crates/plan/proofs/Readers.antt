@@ -1,153 +1,187 @@
--- The ways through the readers of a row and of its lines.
+-- The ways through the reader of a row: what its lines tell, where they stand, and the row that they give.
 -- Assumes nothing.
-use Prim.Native.Nat.{ℕ, zero, suc, _+_, _-_, _≤_, _<_}
-use Rattle.name.specs.Names.{isUnit}
-use Rattle.name.specs.Types.{codeOf}
+use Prim.Native.Nat.{ℕ, _+_, _-_, _≤_, _<_}
 use Rattle.name.specs.declared.MessageType.{MessageType}
-use Rattle.name.specs.declared.MessageType.the-variants.{Cb}
-use Rattle.plan.specs.Keyed.{lineOf, valueIn, below}
-use Rattle.plan.specs.Kept.{nowhere, plain, above, given, typeReadOf, entry, rowAtOf}
-use Rattle.plan.specs.Rows.{Row, row, caAt, ioaAt, unitAt, typeFrom, types, typeAt, isAt, named, rowOf}
-use Rattle.plan.specs.declared.keyed.Line.{Line}
-use Rattle.plan.specs.declared.keyed.Line.the-variants.{Ends, Bad as BadLine}
-use Rattle.plan.specs.declared.row.Address.{Address}
+use Rattle.plan.proofs.Addresses.{any-keys}
+use Rattle.plan.proofs.Codes.{type-told}
+use Rattle.plan.proofs.Lines.{unit-told}
+use Rattle.plan.proofs.Values.{number-told}
+use Rattle.plan.specs.Kept.{keyOf, rowsOf, numberedOf, namedTo, ifNamed, typeReadOf, thirdOf, rowAtOf}
+use Rattle.plan.specs.Keyed.{below}
+use Rattle.plan.specs.Rows.{caAt, ioaAt, unitAt, typeAt, isAt, rowOf}
+use Rattle.plan.specs.declared.row.Named.{Named}
+use Rattle.plan.specs.declared.row.Named.the-variants.{To, Not as NotNamed}
+use Rattle.plan.specs.declared.row.Numbered.{Numbered}
+use Rattle.plan.specs.declared.row.Numbered.the-variants.{Is as IsNumbered, Not as NotNumbered}
 use Rattle.plan.specs.declared.row.RowAt.{RowAt}
 use Rattle.plan.specs.declared.row.RowAt.the-variants.{Good, Bad}
 use Rattle.plan.specs.declared.row.TypeRead.{TypeRead}
 use Rattle.plan.specs.declared.row.TypeRead.the-variants.{Is, Not as NoType}
-use Rattle.text.specs.Bytes.{bytes, same, any}
+use Rattle.text.proofs.Cuts.{tail, past-drop}
+use Rattle.text.specs.Bytes.{bytes, is, any, firstOf}
 use Rattle.text.specs.declared.digits.Digits.{Digits}
 use Rattle.text.specs.declared.digits.Digits.the-variants.{Are, Not}
-use lib.ListN.{getD, drop}
-use lib.Seq.{drop-cons}
-use mathlib.Core.Bool.{Bool, true, false, cond, false≢true}
-use mathlib.Core.List.{List, []}
+use lib.ListN.{length, take, drop, length-drop}
+use lib.Seq.{drop-drop}
+use mathlib.Core.Bool.{Bool, true, false}
+use mathlib.Core.List.{List}
 use mathlib.Core.Option.{Option, none, some}
-use mathlib.Core.Path.{_≡_, refl, sym, ap, _∙_}
-use native.Mathlib.Numerals.{add-one}
+use mathlib.Core.Path.{_≡_, refl, sym, ap, ap₂, _∙_}
 use native.Mathlib.Omega.{arith}
 
--- ---- an address among those above, from the last
+-- ---- what is told by a line's answer
 
-module _ (l : List Address) (c i : ℕ) where
-  -- the address that is kept at a place is this one
-  abbrev pub is-kept : ℕ → Bool
-  is-kept k = isAt c i (plain (getD l k nowhere .ca) (getD l k nowhere .ioa))
+not-numbered : (x : Digits) (s : List ℕ) → NotNumbered ≡ numberedOf x s → x ≡ Not
+not-numbered Not s e = refl
+not-numbered (Are n) s e = let z : _≡_ {A = ℕ} 0 1 = cc in absurd (omega arith)
 
-  pub taken-here : (k : ℕ) → 0 < k → is-kept (k - 1) ≡ true → any (isAt c i) (above k l) ≡ true
-  unfolding any above
-  taken-here zero h e = absurd (omega arith)
-  taken-here (suc k) h e = let d : suc k - 1 ≡ k = omega arith in rw (rw d at e)
+is-numbered : (x : Digits) (s : List ℕ) (n e : ℕ) → IsNumbered n e ≡ numberedOf x s → (x ≡ Are n) × (e ≡ firstOf 10 s)
+is-numbered Not s n e h = let z : _≡_ {A = ℕ} 0 1 = cc in absurd (omega arith)
+is-numbered (Are m) s n e h = let k : m ≡ n = cc in (rw k, cc)
 
-  pub taken-on : (k : ℕ) → 0 < k → is-kept (k - 1) ≡ false → any (isAt c i) (above k l) ≡ any (isAt c i) (above (k - 1) l)
-  unfolding any above
-  taken-on zero h e = absurd (omega arith)
-  taken-on (suc k) h e = let d : suc k - 1 ≡ k = omega arith in rw (d, rw d at e)
+not-named : (x : Option (List ℕ)) (s : List ℕ) → NotNamed ≡ ifNamed x s → x ≡ none
+not-named none s e = refl
+not-named (some u) s e = let z : _≡_ {A = ℕ} 0 1 = cc in absurd (omega arith)
 
-  pub taken-none : (k : ℕ) → k ≤ 0 → any (isAt c i) (above k l) ≡ false
-  unfolding any above
-  taken-none zero h = refl
-  taken-none (suc k) h = absurd (omega arith)
+is-named : (x : Option (List ℕ)) (s : List ℕ) (e : ℕ) → To e ≡ ifNamed x s → (u : List ℕ) × (x ≡ some u) × (e ≡ firstOf 10 s)
+is-named none s e h = let z : _≡_ {A = ℕ} 0 1 = cc in absurd (omega arith)
+is-named (some u) s e h = (u, refl, cc)
 
--- ---- the line of the unit
+not-typed : (x : Option MessageType) → NoType ≡ typeReadOf x → x ≡ none
+not-typed none e = refl
+not-typed (some t) e = let z : _≡_ {A = ℕ} 0 1 = cc in absurd (omega arith)
 
-module _ (s : List ℕ) (l : Line) (told : l ≡ lineOf (bytes "unit=") s) where
-  pub no-unit-line : l ≡ BadLine → false ≡ given (unitAt s)
-  unfolding unitAt
-  no-unit-line n = rw (sym told, n)
+is-typed : (x : Option MessageType) (t : MessageType) → Is t ≡ typeReadOf x → x ≡ some t
+is-typed none t e = let z : _≡_ {A = ℕ} 0 1 = cc in absurd (omega arith)
+is-typed (some r) t e = let k : r ≡ t = cc in rw k
 
-  pub unit-line : (e : ℕ) (v : List ℕ) (b : Bool) → l ≡ Ends e → v ≡ valueIn (bytes "unit=") s → b ≡ isUnit v → b ≡ given (unitAt s)
-  unfolding unitAt
-  unit-line e v b y h u = rw (sym told, y, sym h, sym u) (either b)
-    where
-      either : (b : Bool) → b ≡ given (cond b (some v) none)
-      either true = refl
-      either false = refl
+-- ---- where the lines stand
 
--- ---- the line of the type
+-- x is what is left of s from the place p on
+pub record At (s : List ℕ) (p : ℕ) (x : List ℕ) : Type 0 where
+  pub inside : p ≤ length s
+  pub left : take (length s - p) (drop p s) ≡ x
 
-module _ (s : List ℕ) (k : ℕ) (t : MessageType) (code : List ℕ) (b : Bool) (nth : t ≡ getD types k Cb) (coded : code ≡ codeOf t) (told : b ≡ same code s) (h : k < 9) where
-  step : typeFrom (drop k types) s ≡ cond b (some t) (typeFrom (drop (k + 1) types) s)
-  unfolding typeFrom
-  step = rw (add-one k, drop-cons types k Cb h, sym nth, sym coded, sym told)
+pub at-length : {s : List ℕ} {p : ℕ} {x : List ℕ} → At s p x → length s ≡ p + length x
+at-length {s = s} {p = p} {x = x} a =
+    omega (arith, a .inside, ap length (sym (tail s p) ∙ a .left), length-drop p s)
 
-  pub type-here : b ≡ true → typeReadOf (typeFrom (drop k types) s) ≡ Is t
-  type-here y = let e : typeFrom (drop k types) s ≡ some t = step ∙ rw y in ap typeReadOf e
+pub next-line : {s : List ℕ} {p : ℕ} {x : List ℕ} (e : ℕ) → At s p x → e ≡ firstOf 10 x → e < length x → At s (p + e + 1) (below x)
+next-line {s = s} {p = p} {x = x} e a f h =
+    let n : p + e + 1 ≡ p + (e + 1) = omega arith in
+    record {
+      inside = omega (arith, at-length a);
+      left =
+          tail s (p + e + 1) ∙ ap (λ (k : ℕ). drop k s) n ∙ sym (drop-drop (e + 1) p s)
+          ∙ ap (λ (l : List ℕ). drop (e + 1) l) (sym (tail s p) ∙ a .left)
+          ∙ ap (λ (k : ℕ). drop (k + 1) x) f ∙ sym (past-drop (is 10) x);
+    }
 
-  pub type-on : b ≡ false → typeFrom (drop k types) s ≡ typeFrom (drop (k + 1) types) s
-  type-on n = step ∙ rw n
-
-pub no-type : (s : List ℕ) (k : ℕ) → 9 ≤ k → k ≤ 9 → typeReadOf (typeFrom (drop k types) s) ≡ NoType
-unfolding typeFrom
-no-type s k h g = let n : k ≡ 9 = omega arith in rw n
-
-module _ (s : List ℕ) (l : Line) (told : l ≡ lineOf (bytes "type=") s) where
-  pub no-type-line : l ≡ BadLine → NoType ≡ typeReadOf (typeAt s)
-  unfolding typeAt
-  no-type-line n = rw (sym told, n)
-
-  pub type-line : (e : ℕ) (v : List ℕ) (t : TypeRead) → l ≡ Ends e → v ≡ valueIn (bytes "type=") s → t ≡ typeReadOf (typeFrom types v) → t ≡ typeReadOf (typeAt s)
-  unfolding typeAt
-  type-line e v t y h u = u ∙ rw (sym told, y, h)
+pub second-line : (s : List ℕ) (e : ℕ) → e ≡ firstOf 10 s → e < length s → At s (e + 1) (below s)
+second-line s e f h =
+    record { inside = omega arith; left = tail s (e + 1) ∙ ap (λ (k : ℕ). drop (k + 1) s) f ∙ sym (past-drop (is 10) s) }
 
 -- ---- the row
 
-module _ (up : List Row) (s : List ℕ) (d : Digits) (first : d ≡ caAt s) where
-  pub bad-ca : d ≡ Not → Bad 0 ≡ rowAtOf (rowOf up s)
+module _ (keys s : List ℕ) (d : Numbered) (first : d ≡ numberedOf (caAt s) s) where
+  -- what is answered
+  abbrev answer : RowAt
+  answer = rowAtOf s (rowOf (rowsOf keys) s)
+
+  pub bad-ca : d ≡ NotNumbered → Bad 0 ≡ answer
   unfolding rowOf
-  bad-ca n = rw (sym first, n)
+  bad-ca n = rw (not-numbered (caAt s) s (sym n ∙ first))
 
-  module _ (c : ℕ) (s₂ : List ℕ) (d₂ : Digits) (is-ca : d ≡ Are c) (b₂ : s₂ ≡ below s) (second : d₂ ≡ ioaAt s₂) where
-    two : d₂ ≡ ioaAt (below s)
-    two = second ∙ ap ioaAt b₂
+  module _ (c a : ℕ) (is-ca : d ≡ IsNumbered c a) where
+    one : (caAt s ≡ Are c) × (a ≡ firstOf 10 s)
+    one = is-numbered (caAt s) s c a (sym is-ca ∙ first)
 
-    pub bad-ioa : d₂ ≡ Not → Bad 1 ≡ rowAtOf (rowOf up s)
-    unfolding rowOf
-    bad-ioa n = rw (sym first, is-ca, sym two, n)
+    pub ca-told : (1 ≤ c) × (c ≤ 65534) × (firstOf 10 s < length s)
+    ca-told = number-told (bytes "ca=") 65534 s c (sym (one .0))
 
-    module _ (i : ℕ) (t : Bool) (is-ioa : d₂ ≡ Are i) (told : t ≡ any (isAt c i) up) where
-      pub twice : t ≡ true → Bad 1 ≡ rowAtOf (rowOf up s)
+    pub at-two : At s (a + 1) (below s)
+    at-two = second-line s a (one .1) (omega (arith, one .1, ca-told))
+
+    abbrev two-left : List ℕ
+    two-left = take (length s - (a + 1)) (drop (a + 1) s)
+
+    module _ (d₂ : Numbered) (second : d₂ ≡ numberedOf (ioaAt two-left) two-left) where
+      two-told : d₂ ≡ numberedOf (ioaAt (below s)) (below s)
+      two-told = second ∙ ap (λ (x : List ℕ). numberedOf (ioaAt x) x) (at-two .left)
+
+      pub bad-ioa : d₂ ≡ NotNumbered → Bad 1 ≡ answer
       unfolding rowOf
-      twice y = rw (sym first, is-ca, sym two, is-ioa, sym told, y)
+      bad-ioa n = rw (one .0, not-numbered (ioaAt (below s)) (below s) (sym n ∙ two-told))
 
-      module _ (new : t ≡ false) (s₃ : List ℕ) (u : Bool) (b₃ : s₃ ≡ below s₂) (third : u ≡ given (unitAt s₃)) where
-        three : u ≡ given (unitAt (below (below s)))
-        three = third ∙ ap (λ (x : List ℕ). given (unitAt x)) (b₃ ∙ ap (λ (x : List ℕ). below x) b₂)
+      module _ (i b : ℕ) (is-ioa : d₂ ≡ IsNumbered i b) where
+        two : (ioaAt (below s) ≡ Are i) × (b ≡ firstOf 10 (below s))
+        two = is-numbered (ioaAt (below s)) (below s) i b (sym is-ioa ∙ two-told)
 
-        -- what the unit's line and the type's leave
-        left : Option (List ℕ) → Option MessageType → RowAt
-        left o p = rowAtOf (named c i o p)
+        pub ioa-told : (1 ≤ i) × (i ≤ 16777215) × (firstOf 10 (below s) < length (below s))
+        ioa-told = number-told (bytes "ioa=") 16777215 (below s) i (sym (two .0))
 
-        so-far : rowAtOf (rowOf up s) ≡ left (unitAt (below (below s))) (typeAt (below (below (below s))))
-        unfolding rowOf left
-        so-far = rw (sym first, is-ca, sym two, is-ioa, sym told, new)
+        pub at-three : At s (a + 1 + b + 1) (below (below s))
+        at-three = next-line b at-two (two .1) (omega (arith, two .1, ioa-told))
 
-        not-given : (o : Option (List ℕ)) (p : Option MessageType) → given o ≡ false → left o p ≡ Bad 2
-        unfolding left
-        not-given none p e = refl
-        not-given (some v) p e = absurd (false≢true (sym e))
+        module _ (k : ℕ) (t : Bool) (key : k ≡ keyOf c i) (told : t ≡ any (is k) keys) where
+          above : any (isAt c i) (rowsOf keys) ≡ t
+          above = any-keys c i keys (ioa-told .1) ∙ ap (λ (x : ℕ). any (is x) keys) (sym key) ∙ sym told
 
-        pub bad-unit : u ≡ false → Bad 2 ≡ rowAtOf (rowOf up s)
-        bad-unit n = sym (so-far ∙ not-given _ _ (sym three ∙ n))
+          pub twice : t ≡ true → Bad 1 ≡ answer
+          unfolding rowOf
+          twice y = rw (one .0, two .0, above, y)
 
-        module _ (s₄ : List ℕ) (p : TypeRead) (is-unit : u ≡ true) (b₄ : s₄ ≡ below s₃) (fourth : p ≡ typeReadOf (typeAt s₄)) where
-          four : p ≡ typeReadOf (typeAt (below (below (below s))))
-          four = fourth ∙ ap (λ (x : List ℕ). typeReadOf (typeAt x)) (b₄ ∙ ap (λ (x : List ℕ). below x) b₃ ∙ ap (λ (x : List ℕ). below (below x)) b₂)
+          abbrev three-left : List ℕ
+          three-left = take (length s - (a + 1 + b + 1)) (drop (a + 1 + b + 1) s)
 
-          not-typed : (o : Option (List ℕ)) (q : Option MessageType) → given o ≡ true → typeReadOf q ≡ NoType → left o q ≡ Bad 3
-          unfolding left
-          not-typed none q g e = absurd (false≢true g)
-          not-typed (some v) none g e = refl
-          not-typed (some v) (some t) g e = let z : _≡_ {A = ℕ} 0 1 = cc in absurd (omega arith)
+          module _ (new : t ≡ false) (d₃ : Named) (third : d₃ ≡ namedTo three-left) where
+            three-told : d₃ ≡ namedTo (below (below s))
+            three-told = third ∙ ap (λ (x : List ℕ). namedTo x) (at-three .left)
 
-          all-good : (o : Option (List ℕ)) (q : Option MessageType) (t : MessageType) → given o ≡ true → typeReadOf q ≡ Is t → left o q ≡ Good (entry (row c i [] t))
-          unfolding left
-          all-good none q t g e = absurd (false≢true g)
-          all-good (some v) none t g e = let z : _≡_ {A = ℕ} 0 1 = cc in absurd (omega arith)
-          all-good (some v) (some x) t g e = let n : x ≡ t = cc in rw n
+            pub bad-unit : d₃ ≡ NotNamed → Bad 2 ≡ answer
+            unfolding rowOf
+            bad-unit n = rw (one .0, two .0, above, new, not-named (unitAt (below (below s))) (below (below s)) (sym n ∙ three-told))
 
-          pub bad-type : p ≡ NoType → Bad 3 ≡ rowAtOf (rowOf up s)
-          bad-type n = sym (so-far ∙ not-typed _ _ (sym three ∙ is-unit) (sym four ∙ n))
+            module _ (e : ℕ) (is-unit : d₃ ≡ To e) where
+              three : (u : List ℕ) × (unitAt (below (below s)) ≡ some u) × (e ≡ firstOf 10 (below (below s)))
+              three = is-named (unitAt (below (below s))) (below (below s)) e (sym is-unit ∙ three-told)
 
-          pub good-row : (t : MessageType) → p ≡ Is t → Good (entry (row c i [] t)) ≡ rowAtOf (rowOf up s)
-          good-row t e = sym (so-far ∙ all-good _ _ t (sym three ∙ is-unit) (sym four ∙ e))
+              unit-ends : (5 ≤ firstOf 10 (below (below s))) × (firstOf 10 (below (below s)) < length (below (below s)))
+              unit-ends = let w = unit-told (below (below s)) (three .0) (three .1) in (w .1, w .2)
+
+              pub unit-from : a + 1 + b + 1 + 5 ≤ length s
+              unit-from = omega (arith, unit-ends, at-length at-three)
+
+              pub at-four : At s (a + 1 + b + 1 + e + 1) (below (below (below s)))
+              at-four = next-line e at-three (three .2) (omega (arith, three .2, unit-ends))
+
+              abbrev four-left : List ℕ
+              four-left = take (length s - (a + 1 + b + 1 + e + 1)) (drop (a + 1 + b + 1 + e + 1) s)
+
+              module _ (p : TypeRead) (fourth : p ≡ typeReadOf (typeAt four-left)) where
+                four-told : p ≡ typeReadOf (typeAt (below (below (below s))))
+                four-told = fourth ∙ ap (λ (x : List ℕ). typeReadOf (typeAt x)) (at-four .left)
+
+                pub bad-type : p ≡ NoType → Bad 3 ≡ answer
+                unfolding rowOf
+                bad-type n =
+                    rw (one .0, two .0, above, new, three .1, not-typed (typeAt (below (below (below s)))) (sym n ∙ four-told))
+
+                module _ (kind : MessageType) (is-type : p ≡ Is kind) where
+                  four : typeAt (below (below (below s))) ≡ some kind
+                  four = is-typed (typeAt (below (below (below s)))) kind (sym is-type ∙ four-told)
+
+                  type-ends : (firstOf 10 (below (below (below s))) ≡ 7) × (7 < length (below (below (below s))))
+                  type-ends = type-told (below (below (below s))) kind four
+
+                  pub at-five : At s (a + 1 + b + 1 + e + 1 + 8) (below (below (below (below s))))
+                  at-five =
+                      let n : a + 1 + b + 1 + e + 1 + 7 + 1 ≡ a + 1 + b + 1 + e + 1 + 8 = omega arith in
+                      rw n at (next-line 7 at-four (sym (type-ends .0)) (type-ends .1))
+
+                  pub good-row : Good record { key = k; kind = kind; from = a + 1 + b + 1 + 5; to = a + 1 + b + 1 + e; end = a + 1 + b + 1 + e + 1 + 8 } ≡ answer
+                  unfolding rowOf
+                  good-row =
+                      let f : a + 1 + b + 1 ≡ thirdOf s = omega (arith, at-length at-three) in
+                      let g : a + 1 + b + 1 + e + 1 + 8 ≡ length s - length (below (below (below (below s)))) = omega (arith, at-length at-five) in
+                      rw (one .0, two .0, above, new, three .1, four, key, g) (ap₂ (λ (x y : ℕ). Good record { key = keyOf c i; kind = kind; from = x + 5; to = x + y; end = length s - length (below (below (below (below s)))) }) f (three .2))

@@ -6,14 +6,14 @@ use Rattle.plan.specs.Keyed.{lineOf, valueIn, below, wholeUpto, bounded,
 use Rattle.plan.specs.declared.keyed.Line.{Line}
 use Rattle.plan.specs.declared.keyed.Line.the-variants.{Ends, Bad}
 use Rattle.text.proofs.Cuts.{upto-take, past-drop, upto-all}
-use Rattle.text.proofs.Tests.{by-test, and-parts}
+use Rattle.text.proofs.Tests.{by-test, and-parts, within-tells}
 use Rattle.text.specs.Bytes.{is, within, any, upto, firstOf, starts}
 use Rattle.text.specs.declared.digits.Digits.{Digits}
 use Rattle.text.specs.declared.digits.Digits.the-variants.{Are, Not}
-use borrow.Author.Tests.{leb-true}
-use lib.Dec.{eqb, leb}
-use lib.ListN.{length, take, drop}
-use mathlib.Core.Bool.{Bool, true, false, cond, and-false, false≢true}
+use borrow.Author.Tests.{eqb-true}
+use lib.Dec.{eqb}
+use lib.ListN.{length, getD, take, drop}
+use mathlib.Core.Bool.{Bool, true, false, _&&_, cond, and-false, false≢true}
 use mathlib.Core.List.{List, [], _∷_}
 use mathlib.Core.Path.{_≡_, refl, sym, ap, _∙_}
 use native.Mathlib.Omega.{arith}
@@ -21,11 +21,17 @@ use native.Mathlib.Omega.{arith}
 -- ---- the end of a line
 
 -- where there is an LF, the first line is shorter than the text
-upto-less : (s : List ℕ) → any (is 10) s ≡ true → firstOf 10 s < length s
+pub upto-less : (s : List ℕ) → any (is 10) s ≡ true → firstOf 10 s < length s
 unfolding any upto
 upto-less [] h = absurd (false≢true h)
 upto-less (b ∷ s) h =
     by-test (eqb b 10) (λ e. rw e (omega arith)) (λ e. let r = upto-less s (rw e at h) in rw e (omega arith))
+
+-- and its byte there is the LF
+pub first-at : (s : List ℕ) → any (is 10) s ≡ true → getD s (firstOf 10 s) 0 ≡ 10
+unfolding any upto
+first-at [] h = absurd (false≢true h)
+first-at (b ∷ s) h = by-test (eqb b 10) (λ e. rw e (eqb-true b 10 e)) (λ e. rw e (first-at s (rw e at h)))
 
 not-ended : (s : List ℕ) → firstOf 10 s ≡ length s → any (is 10) s ≡ false
 not-ended s n = by-test (any (is 10) s) (λ h. absurd (omega (arith, upto-less s h))) (λ h. h)
@@ -46,6 +52,15 @@ module _ (key s : List ℕ) (b : Bool) (told : b ≡ starts key s) where
     pub ends-at : b ≡ true → (e ≡ length s → ⊥) → Ends e ≡ lineOf key s
     unfolding lineOf
     ends-at y n = rw (sym told, y, ended s (λ h. n (first ∙ h)), first)
+
+-- what is told by a line
+pub line-told : (key s : List ℕ) (e : ℕ) → lineOf key s ≡ Ends e → (starts key s ≡ true) × (any (is 10) s ≡ true)
+unfolding lineOf
+line-told key s e h = and-parts (starts key s) (any (is 10) s) (chosen (starts key s && any (is 10) s) h)
+  where
+    chosen : (t : Bool) → cond t (Ends (firstOf 10 s)) Bad ≡ Ends e → t ≡ true
+    chosen true h = refl
+    chosen false h = let z : _≡_ {A = ℕ} 0 1 = cc in absurd (omega arith)
 
 -- ---- its value, and what follows it
 
@@ -80,21 +95,24 @@ module _ (key : List ℕ) (most : ℕ) (s : List ℕ) (l : Line) (told : l ≡ l
   unfolding numberAt
   line-number e v d y h n = n ∙ rw (sym told, y, h)
 
--- a number that was read is within its bounds
-pub number-within : (key : List ℕ) (most : ℕ) (s : List ℕ) (n : ℕ) → Are n ≡ numberAt key most s → n ≤ most
+-- a number that was read is within its bounds, in a line that ends
+pub number-told : (key : List ℕ) (most : ℕ) (s : List ℕ) (n : ℕ) → Are n ≡ numberAt key most s → (1 ≤ n) × (n ≤ most) × (firstOf 10 s < length s)
 unfolding numberAt wholeUpto
-number-within key most s n e = at-line (lineOf key s) e
+number-told key most s n e = at-line (lineOf key s) refl e
   where
     bounds : (t : Bool) (m : ℕ) → Are n ≡ cond t (Are m) Not → (t ≡ true) × (m ≡ n)
     bounds true m e = (refl, cc)
     bounds false m e = let z : _≡_ {A = ℕ} 0 1 = cc in absurd (omega arith)
 
-    at-most : (d : Digits) → Are n ≡ bounded most d → n ≤ most
-    at-most Not e = let z : _≡_ {A = ℕ} 0 1 = cc in absurd (omega arith)
-    at-most (Are m) e =
-        let b = bounds (within 1 most m) m e in
-        omega (arith, leb-true m most (and-parts (leb 1 m) (leb m most) (b .0) .1), b .1)
+    in-bounds : (d : Digits) → Are n ≡ bounded most d → (1 ≤ n) × (n ≤ most)
+    in-bounds Not e = let z : _≡_ {A = ℕ} 0 1 = cc in absurd (omega arith)
+    in-bounds (Are m) e = let b = bounds (within 1 most m) m e in rw (b .1) at (within-tells 1 most m .0 (b .0))
 
-    at-line : (l : Line) → Are n ≡ ifLine l (wholeUpto most (valueIn key s)) → n ≤ most
-    at-line Bad e = let z : _≡_ {A = ℕ} 0 1 = cc in absurd (omega arith)
-    at-line (Ends k) e = at-most (sequenceOf (valueIn key s)) e
+    at-line : (l : Line) → lineOf key s ≡ l → Are n ≡ ifLine l (wholeUpto most (valueIn key s)) → (1 ≤ n) × (n ≤ most) × (firstOf 10 s < length s)
+    at-line Bad i e = let z : _≡_ {A = ℕ} 0 1 = cc in absurd (omega arith)
+    at-line (Ends k) i e =
+        let b = in-bounds (sequenceOf (valueIn key s)) e in
+        (b .0, b .1, upto-less s (line-told key s k i .1))
+
+pub number-within : (key : List ℕ) (most : ℕ) (s : List ℕ) (n : ℕ) → Are n ≡ numberAt key most s → n ≤ most
+number-within key most s n e = number-told key most s n e .1

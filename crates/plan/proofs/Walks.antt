@@ -1,124 +1,128 @@
 -- The plan row by row: what is read so far, and what the rest gives below it, is the plan.
 -- Assumes nothing.
 use Prim.Native.Nat.{ℕ, zero, suc, _+_, _-_, _*_, _≤_, _<_}
-use Rattle.name.specs.Names.{isUnit}
 use Rattle.name.specs.declared.MessageType.{MessageType}
-use Rattle.plan.specs.Keyed.{lineOf, valueIn, below}
-use Rattle.plan.specs.Kept.{nowhere, plain, above, entry, rowAtOf, unitIn, rowSought}
-use Rattle.plan.specs.Rows.{Row, row, ifUnit, unitAt, caAt, ioaAt, typeAt, isAt, RowRead, good, bad, named, begun, rowOf, rows, wrong, after, planFrom, planOf, refusal, lookUp, soughtOf}
+use Rattle.plan.proofs.Addresses.{kept-row, any-kept, key-place, key-sought}
+use Rattle.plan.proofs.Codes.{type-told}
+use Rattle.plan.proofs.Lines.{unit-told}
+use Rattle.plan.proofs.Readers.{At, at-length, next-line, second-line}
+use Rattle.plan.proofs.Values.{number-told}
+use Rattle.plan.specs.Kept.{soughtKey, rowsOf, thirdOf, entryOf, rowAtOf, foundIn}
+use Rattle.plan.specs.Keyed.{valueIn, below}
+use Rattle.plan.specs.Rows.{Row, row, unitAt, caAt, ioaAt, typeAt, isAt, RowRead, good, bad, named, begun, rowOf, rows, wrong, after, planFrom, planOf, refusal, lookUp, soughtOf}
 use Rattle.plan.specs.declared.Sought.{Sought}
-use Rattle.plan.specs.declared.keyed.Line.{Line}
-use Rattle.plan.specs.declared.keyed.Line.the-variants.{Ends, Bad as BadLine}
-use Rattle.plan.specs.declared.row.Address.{Address}
 use Rattle.plan.specs.declared.row.Entry.{Entry}
 use Rattle.plan.specs.declared.row.RowAt.{RowAt}
 use Rattle.plan.specs.declared.row.RowAt.the-variants.{Good, Bad}
 use Rattle.room.specs.Rooms.{keptIn}
-use Rattle.text.specs.Bytes.{bytes, any}
+use Rattle.text.proofs.Cuts.{tail, part-from, upto-take}
+use Rattle.text.specs.Bytes.{bytes, part, is, any, firstOf}
 use Rattle.text.specs.declared.digits.Digits.{Digits}
 use Rattle.text.specs.declared.digits.Digits.the-variants.{Are, Not}
 use borrow.Author.Tests.{eq-eqb, ne-eqb}
-use lib.ListN.{length, set}
-use lib.Seq.{getD-set-same, getD-set-other}
-use mathlib.Core.Bool.{Bool, true, false, cond}
-use mathlib.Core.List.{List, [], _∷_, map}
+use lib.Dec.{eqb}
+use lib.ListN.{length, take, drop, set}
+use mathlib.Core.Bool.{Bool, true, false, _||_, cond}
+use mathlib.Core.List.{List, [], _∷_}
+use mathlib.Core.Logic.{_⊎_, inl, inr}
 use mathlib.Core.Option.{Option, none, some}
 use mathlib.Core.Path.{_≡_, refl, sym, ap, ap₂, _∙_}
-use native.Mathlib.Nat.{le-refl}
-use native.Mathlib.Numerals.{add-one}
+use native.Mathlib.Nat.{sub-zero}
 use native.Mathlib.Omega.{arith}
 
--- ---- what one row gives for an address
+-- ---- what a row with the address gives
 
-module _ (c i : ℕ) (e : Entry) (s : List ℕ) (found : Sought) where
-  abbrev pub is-here : Bool
-  is-here = isAt c i (plain (e .address .ca) (e .address .ioa))
-
-  pub look-here : (u kept : List ℕ) → is-here ≡ true → u ≡ unitIn s → kept ≡ keptIn 16 u
-      → record { number = 0; detail = 0; kind = e .kind; size = length u; unit = kept } ≡ rowSought c i e s found
-  unfolding rowSought
-  look-here u kept h p q = rw (h, q, p)
-
-  pub look-other : is-here ≡ false → found ≡ rowSought c i e s found
-  unfolding rowSought
-  look-other h = rw h
+pub found-here : (s : List ℕ) (e : Entry) (kept : List ℕ) → kept ≡ keptIn 16 (part (e .from) (e .to) s)
+    → record { number = 0; detail = 0; kind = e .kind; size = length (part (e .from) (e .to) s); unit = kept } ≡ foundIn s e
+found-here s e kept q = rw q
 
 -- ---- a row is judged by the addresses above it, and by nothing else of them
 
-abbrev pub bare : Row → Row
-bare r = plain (r .ca) (r .ioa)
-
-any-bare : (c i : ℕ) (up : List Row) → any (isAt c i) (map bare up) ≡ any (isAt c i) up
-unfolding any
-any-bare c i [] = refl
-any-bare c i (r ∷ up) = rw (any-bare c i up)
-
-row-bare : (up : List Row) (s : List ℕ) → rowOf (map bare up) s ≡ rowOf up s
+row-any : (up vs : List Row) (s : List ℕ) → ((c i : ℕ) → any (isAt c i) up ≡ any (isAt c i) vs) → rowOf up s ≡ rowOf vs s
 unfolding rowOf
-row-bare up s = go (caAt s) (ioaAt (below s)) (unitAt (below (below s))) (typeAt (below (below (below s))))
+row-any up vs s h = go (caAt s) (ioaAt (below s)) (unitAt (below (below s))) (typeAt (below (below (below s))))
   where
-    go : (d e : Digits) (o : Option (List ℕ)) (p : Option MessageType) → begun (map bare up) d e o p ≡ begun up d e o p
+    go : (d e : Digits) (o : Option (List ℕ)) (p : Option MessageType) → begun up d e o p ≡ begun vs d e o p
     go Not e o p = refl
     go (Are c) Not o p = refl
-    go (Are c) (Are i) o p = rw (any-bare c i up)
+    go (Are c) (Are i) o p = rw (h c i)
 
 -- what the answer for a row tells of it
-is-bad : (x : RowRead) (k : ℕ) → rowAtOf x ≡ Bad k → x ≡ bad k
-is-bad (bad j) k e = let n : j ≡ k = cc in rw n
-is-bad (good r) k e = let z : _≡_ {A = ℕ} 0 1 = cc in absurd (omega arith)
+is-bad : (s : List ℕ) (x : RowRead) (k : ℕ) → rowAtOf s x ≡ Bad k → x ≡ bad k
+is-bad s (bad j) k e = let n : j ≡ k = cc in rw n
+is-bad s (good r) k e = let z : _≡_ {A = ℕ} 0 1 = cc in absurd (omega arith)
 
-is-good : (x : RowRead) (e : Entry) → rowAtOf x ≡ Good e → (r : Row) × ((x ≡ good r) × (entry r ≡ e))
-is-good (bad j) e h = let z : _≡_ {A = ℕ} 0 1 = cc in absurd (omega arith)
-is-good (good r) e h = (r, (refl, cc))
+is-good : (s : List ℕ) (x : RowRead) (e : Entry) → rowAtOf s x ≡ Good e → (r : Row) × ((x ≡ good r) × (entryOf s r ≡ e))
+is-good s (bad j) e h = let z : _≡_ {A = ℕ} 0 1 = cc in absurd (omega arith)
+is-good s (good r) e h = (r, (refl, cc))
 
 bad-is-good : {A : Type 0} {k : ℕ} {r : Row} → bad k ≡ good r → A
 bad-is-good e = let z : _≡_ {A = ℕ} 0 1 = cc in absurd (omega arith)
 
-unit-some : (s u : List ℕ) → unitAt s ≡ some u → u ≡ valueIn (bytes "unit=") s
-unfolding unitAt
-unit-some s u e = at-line (lineOf (bytes "unit=") s) e
-  where
-    chosen : (b : Bool) (v : List ℕ) → cond b (some v) none ≡ some u → u ≡ v
-    chosen true v e = cc
-    chosen false v e = let z : _≡_ {A = ℕ} 0 1 = cc in absurd (omega arith)
+-- ---- a good row, by its four lines
 
-    at-line : (l : Line) → ifUnit l (valueIn (bytes "unit=") s) ≡ some u → u ≡ valueIn (bytes "unit=") s
-    at-line BadLine e = let z : _≡_ {A = ℕ} 0 1 = cc in absurd (omega arith)
-    at-line (Ends k) e = chosen (isUnit (valueIn (bytes "unit=") s)) (valueIn (bytes "unit=") s) e
+abbrev Four : List ℕ → Row → Type 0
+Four s r =
+    (caAt s ≡ Are (r .ca)) × (ioaAt (below s) ≡ Are (r .ioa)) × (unitAt (below (below s)) ≡ some (r .unit))
+    × (typeAt (below (below (below s))) ≡ some (r .kind))
 
--- a good row's unit is what stands in its third line
-unit-is : (up : List Row) (s : List ℕ) (r : Row) → rowOf up s ≡ good r → r .unit ≡ unitIn s
+four-lines : (up : List Row) (s : List ℕ) (r : Row) → rowOf up s ≡ good r → Four s r
 unfolding rowOf
-unit-is up s r e =
-    unit-some (below (below s)) (r .unit)
-    (at-first (caAt s) (ioaAt (below s)) (unitAt (below (below s))) (typeAt (below (below (below s)))) e)
+four-lines up s r e =
+    at-first (caAt s) (ioaAt (below s)) (unitAt (below (below s))) (typeAt (below (below (below s)))) e
   where
-    at-third : (c i : ℕ) (o : Option (List ℕ)) (p : Option MessageType) → named c i o p ≡ good r → o ≡ some (r .unit)
+    at-third : (c i : ℕ) (o : Option (List ℕ)) (p : Option MessageType) → named c i o p ≡ good r
+        → (Are c ≡ Are (r .ca)) × (Are i ≡ Are (r .ioa)) × (o ≡ some (r .unit)) × (p ≡ some (r .kind))
     at-third c i none p e = bad-is-good e
     at-third c i (some u) none e = bad-is-good e
-    at-third c i (some u) (some t) e = let n : row c i u t ≡ r = cc in ap (λ (x : Row). some (x .unit)) n
+    at-third c i (some u) (some t) e =
+        let n : row c i u t ≡ r = cc in
+        (ap (λ (x : Row). Are (x .ca)) n, ap (λ (x : Row). Are (x .ioa)) n, ap (λ (x : Row). some (x .unit)) n, ap (λ (x : Row). some (x .kind)) n)
 
-    at-second : (t : Bool) (c i : ℕ) (o : Option (List ℕ)) (p : Option MessageType) → cond t (bad 1) (named c i o p) ≡ good r → o ≡ some (r .unit)
+    at-second : (t : Bool) (c i : ℕ) (o : Option (List ℕ)) (p : Option MessageType) → cond t (bad 1) (named c i o p) ≡ good r
+        → (Are c ≡ Are (r .ca)) × (Are i ≡ Are (r .ioa)) × (o ≡ some (r .unit)) × (p ≡ some (r .kind))
     at-second true c i o p e = bad-is-good e
     at-second false c i o p e = at-third c i o p e
 
-    at-first : (d f : Digits) (o : Option (List ℕ)) (p : Option MessageType) → begun up d f o p ≡ good r → o ≡ some (r .unit)
+    at-first : (d f : Digits) (o : Option (List ℕ)) (p : Option MessageType) → begun up d f o p ≡ good r
+        → (d ≡ Are (r .ca)) × (f ≡ Are (r .ioa)) × (o ≡ some (r .unit)) × (p ≡ some (r .kind))
     at-first Not f o p e = bad-is-good e
     at-first (Are c) Not o p e = bad-is-good e
     at-first (Are c) (Are i) o p e = at-second (any (isAt c i) up) c i o p e
 
--- ---- the addresses that are kept
+-- a place that a text is left from, by its length
+placed : {s : List ℕ} {p : ℕ} {x : List ℕ} → At s p x → At s (length s - length x) x
+placed {s = s} {p = p} {x = x} a = let n : p ≡ length s - length x = omega (arith, at-length a) in rw n at a
 
-above-set : (n : ℕ) (l : List Address) (k : ℕ) (a : Address) → n ≤ k → above n (set l k a) ≡ above n l
-unfolding above
-above-set zero l k a h = refl
-above-set (suc n) l k a h =
-    let ne : n ≡ k → ⊥ = λ e. omega arith in
-    rw (getD-set-other l k n a nowhere ne, above-set n l k a (omega arith))
+module _ (s : List ℕ) (r : Row) (f : Four s r) where
+  abbrev x₃ : List ℕ
+  x₃ = below (below s)
 
-above-one : (n : ℕ) (l : List Address) (a : Address) → n < length l → above (n + 1) (set l n a) ≡ plain (a .ca) (a .ioa) ∷ above n l
-unfolding above
-above-one n l a h = let o = le-refl n in rw (add-one n, getD-set-same l n a nowhere h, above-set n l n a o)
+  ca-is : (1 ≤ r .ca) × (r .ca ≤ 65534) × (firstOf 10 s < length s)
+  ca-is = number-told (bytes "ca=") 65534 s (r .ca) (sym (f .0))
+
+  ioa-is : (1 ≤ r .ioa) × (r .ioa ≤ 16777215) × (firstOf 10 (below s) < length (below s))
+  ioa-is = number-told (bytes "ioa=") 16777215 (below s) (r .ioa) (sym (f .1))
+
+  unit-is : (r .unit ≡ valueIn (bytes "unit=") x₃) × (5 ≤ firstOf 10 x₃) × (firstOf 10 x₃ < length x₃)
+  unit-is = unit-told x₃ (r .unit) (f .2)
+
+  type-is : (firstOf 10 (below x₃) ≡ 7) × (7 < length (below x₃))
+  type-is = type-told (below x₃) (r .kind) (f .3)
+
+  third-at : At s (thirdOf s) x₃
+  third-at = placed (next-line (firstOf 10 (below s)) (second-line s (firstOf 10 s) refl (ca-is .2)) refl (ioa-is .2))
+
+  end-at : At s (length s - length (below (below x₃))) (below (below x₃))
+  end-at = placed (next-line 7 (next-line (firstOf 10 x₃) third-at refl (unit-is .2)) (sym (type-is .0)) (type-is .1))
+
+  -- the unit's code is out of the row's bytes
+  unit-part : part (thirdOf s + 5) (thirdOf s + firstOf 10 x₃) s ≡ r .unit
+  unit-part =
+      let n : thirdOf s + firstOf 10 x₃ - thirdOf s ≡ firstOf 10 x₃ = omega arith in
+      sym (part-from s (thirdOf s) (thirdOf s + firstOf 10 x₃) 5)
+      ∙ ap (λ (l : List ℕ). drop 5 l) (ap₂ (λ (k : ℕ) (l : List ℕ). take k l) n (sym (tail s (thirdOf s)) ∙ third-at .left) ∙ sym (upto-take (is 10) x₃))
+      ∙ sym (unit-is .0)
 
 -- ---- the plan
 
@@ -137,10 +141,10 @@ unfolding planFrom
 plan-row room n up s h = let e : length s ≡ 0 → ⊥ = λ e. omega arith in rw (ne-eqb _ _ e)
 
 -- THE INVARIANT of the one loop over the rows: `rest` is what was not read yet, and `up` the rows that were, last first
-pub record Sofar (plan : List ℕ) (ca ioa : ℕ) (room : List Address) (count : ℕ) (found : Sought) (rest : List ℕ) : Type 0 where
+pub record Sofar (plan : List ℕ) (ca ioa : ℕ) (keys : List ℕ) (count : ℕ) (found : Sought) (rest : List ℕ) : Type 0 where
   pub few : count ≤ 64
   pub up : List Row
-  pub kept : map bare up ≡ above count room
+  pub kept : (c i : ℕ) → any (isAt c i) (rowsOf (take count keys)) ≡ any (isAt c i) up
   pub all : planOf plan ≡ planFrom (64 - count) (4 * count + 1) up rest
   pub hand : found ≡ lookUp ca ioa up
 
@@ -149,12 +153,12 @@ module _ (plan : List ℕ) (ca ioa : ℕ) where
   unfolding planOf soughtOf
   empty r e g = g ∙ rw (eq-eqb _ _ e)
 
-  pub begin : (room : List Address) (found : Sought) → (length plan ≡ 0 → ⊥) → found ≡ refusal 1 0 → Sofar plan ca ioa room 0 found plan
-  unfolding planOf above lookUp
-  begin room found n e =
-      record { few = omega arith; up = []; kept = refl; all = rw (ne-eqb _ _ n); hand = e }
+  pub begin : (keys : List ℕ) (found : Sought) → (length plan ≡ 0 → ⊥) → found ≡ refusal 1 0 → Sofar plan ca ioa keys 0 found plan
+  unfolding planOf lookUp
+  begin keys found n e =
+      record { few = omega arith; up = []; kept = λ c i. refl; all = rw (ne-eqb _ _ n); hand = e }
 
-  module _ (room : List Address) (count : ℕ) (found : Sought) (rest : List ℕ) (f : Sofar plan ca ioa room count found rest) where
+  module _ (keys : List ℕ) (count : ℕ) (found : Sought) (rest : List ℕ) (f : Sofar plan ca ioa keys count found rest) where
     pub finish : length rest ≤ 0 → found ≡ soughtOf ca ioa (planOf plan)
     unfolding soughtOf
     finish h = f .hand ∙ rw (f .all, plan-end (64 - count) (4 * count + 1) (f .up) rest h)
@@ -166,9 +170,11 @@ module _ (plan : List ℕ) (ca ioa : ℕ) where
           let m : 64 - count ≡ 0 = omega arith in
           g ∙ rw (f .all, m, plan-over (4 * count + 1) (f .up) rest more)
 
-      module _ (x : RowAt) (fits : count ≡ 64 → ⊥) (told : x ≡ rowAtOf (rowOf (above count room) rest)) where
-        judged : rowAtOf (rowOf (f .up) rest) ≡ x
-        judged = sym (told ∙ ap (λ (l : List Row). rowAtOf (rowOf l rest)) (sym (f .kept)) ∙ ap rowAtOf (row-bare (f .up) rest))
+      module _ (x : RowAt) (fits : count ≡ 64 → ⊥) (told : x ≡ rowAtOf rest (rowOf (rowsOf (take (count - 0) keys)) rest)) where
+        judged : rowAtOf rest (rowOf (f .up) rest) ≡ x
+        judged =
+            sym (told ∙ ap (λ (n : ℕ). rowAtOf rest (rowOf (rowsOf (take n keys)) rest)) (sub-zero count)
+            ∙ ap (rowAtOf rest) (row-any (rowsOf (take count keys)) (f .up) rest (f .kept)))
 
         one-more : planOf plan ≡ after (4 * count + 1) (rowOf (f .up) rest) (λ r. planFrom (64 - (count + 1)) (4 * count + 1 + 4) (r ∷ f .up) (below (below (below (below rest)))))
         one-more =
@@ -178,27 +184,66 @@ module _ (plan : List ℕ) (ca ioa : ℕ) where
 
         pub bad-line : (k : ℕ) (r : Sought) → x ≡ Bad k → r ≡ refusal 13 (4 * count + 1 + k) → r ≡ soughtOf ca ioa (planOf plan)
         unfolding soughtOf
-        bad-line k r e g = g ∙ rw (one-more, is-bad (rowOf (f .up) rest) k (judged ∙ e))
+        bad-line k r e g = g ∙ rw (one-more, is-bad rest (rowOf (f .up) rest) k (judged ∙ e))
 
-        module _ (e : Entry) (next : List ℕ) (found₂ : Sought) (h : count < length room)
-            (g : found₂ ≡ rowSought ca ioa e rest found) (b : next ≡ below (below (below (below rest)))) where
-          with-row : (r : Row) → rowOf (f .up) rest ≡ good r → entry r ≡ e → Sofar plan ca ioa (set room count (e .address)) (count + 1) found₂ next
-          unfolding lookUp rowSought
-          with-row r y p =
+        module _ (e : Entry) (y : x ≡ Good e) where
+          this : (r : Row) × ((rowOf (f .up) rest ≡ good r) × (entryOf rest r ≡ e))
+          this = is-good rest (rowOf (f .up) rest) e (judged ∙ y)
+
+          abbrev r : Row
+          r = this .0
+
+          lines : Four rest r
+          lines = four-lines (f .up) rest r (this .1 .0)
+
+          -- where the unit's code and the row end
+          pub unit-inside : (e .from ≤ e .to) × (e .to ≤ length rest)
+          unit-inside =
+              let p = ap (λ (n : Entry). n .from) (this .1 .1) in
+              let q = ap (λ (n : Entry). n .to) (this .1 .1) in
+              (omega (arith, p, q, unit-is rest r lines), omega (arith, q, unit-is rest r lines, at-length (third-at rest r lines)))
+
+          pub row-inside : e .end ≤ length rest
+          row-inside = let p = ap (λ (n : Entry). n .end) (this .1 .1) in omega (arith, p)
+
+          next-is : take (length rest - e .end) (drop (e .end) rest) ≡ below (below (below (below rest)))
+          next-is = ap (λ (n : Entry). take (length rest - n .end) (drop (n .end) rest)) (sym (this .1 .1)) ∙ end-at rest r lines .left
+
+          -- the row has the address
+          sought-is : eqb (e .key) (soughtKey ca ioa) ≡ isAt ca ioa r
+          sought-is =
+              ap (λ (n : Entry). eqb (n .key) (soughtKey ca ioa)) (sym (this .1 .1))
+              ∙ key-sought (r .ca) (r .ioa) ca ioa (ca-is rest r lines .0) (ioa-is rest r lines .1)
+
+          found-is : foundIn rest e ≡ record { number = 0; detail = 0; kind = r .kind; size = length (r .unit); unit = keptIn 16 (r .unit) }
+          found-is =
+              ap (foundIn rest) (sym (this .1 .1))
+              ∙ ap (λ (v : List ℕ). record { number = 0; detail = 0; kind = r .kind; size = length v; unit = keptIn 16 v }) (unit-part rest r lines)
+
+          -- what was found so far, with this row
+          handed : (sought : ℕ) (found₂ : Sought) → sought ≡ soughtKey ca ioa
+              → ((e .key ≡ sought) × (found₂ ≡ foundIn rest e)) ⊎ ((e .key ≡ sought → ⊥) × (found₂ ≡ found)) → found₂ ≡ lookUp ca ioa (r ∷ f .up)
+          unfolding lookUp
+          handed sought found₂ asked (inl w) = let a = sym sought-is ∙ eq-eqb _ _ (w .0 ∙ asked) in w .1 ∙ found-is ∙ rw a
+          handed sought found₂ asked (inr w) =
+              let a = sym sought-is ∙ ne-eqb _ _ (λ k. w .0 (k ∙ sym asked)) in
+              w .1 ∙ f .hand ∙ rw a
+
+          pub next-row : (sought : ℕ) (found₂ : Sought) → sought ≡ soughtKey ca ioa
+              → ((e .key ≡ sought) × (found₂ ≡ foundIn rest e)) ⊎ ((e .key ≡ sought → ⊥) × (found₂ ≡ found)) → count < length keys
+              → Sofar plan ca ioa (set keys count (e .key)) (count + 1) found₂ (take (length rest - e .end) (drop (e .end) rest))
+          unfolding any
+          next-row sought found₂ asked w h =
               let c : count ≤ 64 = f .few in
               let n : 4 * count + 1 + 4 ≡ 4 * (count + 1) + 1 = omega arith in
+              let p = key-place (r .ca) (r .ioa) (ioa-is rest r lines .1) in
               record {
                 few = omega arith;
                 up = r ∷ f .up;
-                kept =
-                    ap₂ (λ (a : Address) (l : List Row). plain (a .ca) (a .ioa) ∷ l) (ap (λ (x : Entry). x .address) p) (f .kept)
-                    ∙ sym (above-one count room (e .address) h);
-                all = one-more ∙ rw (y, n, b);
-                hand =
-                    g ∙ ap₂ (λ (x : Entry) (z : Sought). rowSought ca ioa x rest z) (sym p) (f .hand)
-                    ∙ ap (λ (v : List ℕ). cond (isAt ca ioa r) (record { number = 0; detail = 0; kind = r .kind; size = length v; unit = keptIn 16 v }) (lookUp ca ioa (f .up)))
-                    (sym (unit-is (f .up) rest r y));
+                kept = λ c i.
+                    any-kept c i count keys (e .key) h
+                    ∙ ap (λ (k : Entry). isAt c i (kept-row (k .key)) || any (isAt c i) (rowsOf (take count keys))) (sym (this .1 .1))
+                    ∙ rw (p .0, p .1, f .kept c i);
+                all = one-more ∙ rw (this .1 .0, n, next-is);
+                hand = handed sought found₂ asked w;
               }
-
-          pub next-row : x ≡ Good e → Sofar plan ca ioa (set room count (e .address)) (count + 1) found₂ next
-          next-row y = let w = is-good (rowOf (f .up) rest) e (judged ∙ y) in with-row (w .0) (w .1 .0) (w .1 .1)

@@ -1,58 +1,76 @@
 -- What the private functions keep of the rows and answer for one, by the definitions of the plan. No part of what a plan means.
-use Prim.Native.Nat.{ℕ, zero, suc}
+use Prim.Native.Nat.{ℕ, _+_, _-_, _*_, _/_, _%_}
 use Rattle.name.specs.declared.MessageType.{MessageType}
 use Rattle.name.specs.declared.MessageType.the-variants.{Cb}
-use Rattle.plan.specs.Keyed.{valueIn, below}
-use Rattle.plan.specs.Rows.{Row, row, isAt, RowRead, good, bad}
+use Rattle.plan.specs.Keyed.{below}
+use Rattle.plan.specs.Rows.{Row, row, unitAt, RowRead, good, bad}
 use Rattle.plan.specs.declared.Sought.{Sought}
-use Rattle.plan.specs.declared.row.Address.{Address}
 use Rattle.plan.specs.declared.row.Entry.{Entry}
+use Rattle.plan.specs.declared.row.Named.{Named}
+use Rattle.plan.specs.declared.row.Named.the-variants.{To, Not as NotNamed}
+use Rattle.plan.specs.declared.row.Numbered.{Numbered}
+use Rattle.plan.specs.declared.row.Numbered.the-variants.{Is as IsNumbered, Not as NotNumbered}
 use Rattle.plan.specs.declared.row.RowAt.{RowAt}
 use Rattle.plan.specs.declared.row.RowAt.the-variants.{Good, Bad}
 use Rattle.plan.specs.declared.row.TypeRead.{TypeRead}
 use Rattle.plan.specs.declared.row.TypeRead.the-variants.{Is, Not}
 use Rattle.room.specs.Rooms.{keptIn}
-use Rattle.text.specs.Bytes.{bytes}
-use lib.ListN.{length, getD}
-use mathlib.Core.Bool.{Bool, true, false, cond}
-use mathlib.Core.List.{List, [], _∷_}
+use Rattle.text.specs.Bytes.{firstOf, part}
+use Rattle.text.specs.declared.digits.Digits.{Digits}
+use Rattle.text.specs.declared.digits.Digits.the-variants.{Are, Not as NoDigits}
+use lib.Dec.{leb}
+use lib.ListN.{length}
+use mathlib.Core.Bool.{cond}
+use mathlib.Core.List.{List, [], map}
 use mathlib.Core.Option.{Option, none, some}
 
--- ---- the rows above, last first: only their addresses are kept
+-- ---- the rows above: of each only its address is kept, in one number
 
-abbrev pub nowhere : Address
-nowhere = record { ca = 0; ioa = 0 }
+abbrev pub keyOf : ℕ → ℕ → ℕ
+keyOf c i = c * 16777216 + i
 
-abbrev pub plain : ℕ → ℕ → Row
-plain c i = row c i [] Cb
+-- 0 is no row's number
+abbrev pub soughtKey : ℕ → ℕ → ℕ
+soughtKey c i = cond (leb i 16777215) (keyOf c i) 0
 
-unfoldable pub above : ℕ → List Address → List Row
-above zero l = []
-above (suc n) l = plain (getD l n nowhere .ca) (getD l n nowhere .ioa) ∷ above n l
+abbrev pub rowsOf : List ℕ → List Row
+rowsOf keys = map (λ (k : ℕ). row (k / 16777216) (k % 16777216) [] Cb) keys
 
 -- ---- what is answered for a line and for a row
 
-abbrev pub given : {A : Type 0} → Option A → Bool
-given none = false
-given (some a) = true
+-- a number's line ends at its LF
+abbrev pub numberedOf : Digits → List ℕ → Numbered
+numberedOf (Are n) s = IsNumbered n (firstOf 10 s)
+numberedOf NoDigits s = NotNumbered
+
+abbrev pub ifNamed : Option (List ℕ) → List ℕ → Named
+ifNamed none s = NotNamed
+ifNamed (some u) s = To (firstOf 10 s)
+
+abbrev pub namedTo : List ℕ → Named
+namedTo s = ifNamed (unitAt s) s
 
 abbrev pub typeReadOf : Option MessageType → TypeRead
 typeReadOf none = Not
 typeReadOf (some t) = Is t
 
-abbrev pub entry : Row → Entry
-entry r = record { address = record { ca = r .ca; ioa = r .ioa }; kind = r .kind }
+-- where the third line of a text begins
+abbrev pub thirdOf : List ℕ → ℕ
+thirdOf s = length s - length (below (below s))
 
-abbrev pub rowAtOf : RowRead → RowAt
-rowAtOf (good r) = Good (entry r)
-rowAtOf (bad k) = Bad k
+abbrev pub entryOf : List ℕ → Row → Entry
+entryOf s r = record {
+  key = keyOf (r .ca) (r .ioa);
+  kind = r .kind;
+  from = thirdOf s + 5;
+  to = thirdOf s + firstOf 10 (below (below s));
+  end = length s - length (below (below (below (below s))));
+}
 
--- the unit's code in the row at the front of a text
-abbrev pub unitIn : List ℕ → List ℕ
-unitIn s = valueIn (bytes "unit=") (below (below s))
+abbrev pub rowAtOf : List ℕ → RowRead → RowAt
+rowAtOf s (good r) = Good (entryOf s r)
+rowAtOf s (bad k) = Bad k
 
--- what the row at the front of a text gives for an address, or else what those above it gave
-unfoldable pub rowSought : ℕ → ℕ → Entry → List ℕ → Sought → Sought
-rowSought c i e s found =
-    cond (isAt c i (plain (e .address .ca) (e .address .ioa)))
-    (record { number = 0; detail = 0; kind = e .kind; size = length (unitIn s); unit = keptIn 16 (unitIn s) }) found
+-- what a row with the address gives
+abbrev pub foundIn : List ℕ → Entry → Sought
+foundIn s e = record { number = 0; detail = 0; kind = e .kind; size = length (part (e .from) (e .to) s); unit = keptIn 16 (part (e .from) (e .to) s) }

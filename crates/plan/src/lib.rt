@@ -2,13 +2,13 @@
 pub mod keyed;
 mod row;
 
-use crate::row::Address;
 use crate::row::Entry;
 use crate::row::RowAt;
 use name::MessageType;
-ghost use Rattle.plan.specs.Keyed.{below};
-ghost use Rattle.plan.specs.Kept.{unitIn, rowSought};
+ghost use Prim.Native.Nat.{_≤_};
+ghost use Rattle.plan.specs.Kept.{foundIn};
 ghost use Rattle.plan.specs.Rows.{planOf, refusal, soughtOf};
+ghost use lib.ListN.{length};
 ghost use mathlib.Core.Path.{_≡_};
 
 // An address looked up: refusal 13 or 1 with its detail and the rest zero, or number 0 with the type and the unit's code in its room.
@@ -19,8 +19,6 @@ pub struct Sought {
     pub size: usize,
     pub unit: [u8; 16],
 }
-
-const NOWHERE: Address = Address { ca: 0, ioa: 0 };
 
 fn refused(number: u8, detail: usize) -> Sought
     ensures { λ r. ⌜ r ≡ refusal number detail ⌝ }
@@ -35,40 +33,23 @@ fn refused(number: u8, detail: usize) -> Sought
     }
 }
 
-// What follows a row.
-fn below_row(s: &[u8]) -> &[u8]
-    ensures { λ r. ⌜ now r ≡ below (below (below (below (now (s .entry))))) ⌝ }
+// What a row gives that has the address, with the unit's code out of the row's bytes.
+fn found_in(s: &[u8], e: Entry) -> Sought
+    requires { ⌜ (e .from ≤ e .to) × (e .to ≤ length (now s)) ⌝ }
+    ensures { λ r. ⌜ r ≡ foundIn (now (s .entry)) e ⌝ }
 {
-    let t = keyed::below(keyed::below(s));
-    keyed::below(keyed::below(t))
-}
-
-// The unit's code in a row.
-fn unit_in(s: &[u8]) -> &[u8]
-    ensures { λ r. ⌜ now r ≡ unitIn (now (s .entry)) ⌝ }
-{
-    let t = keyed::below(keyed::below(s));
-    keyed::value(t, 5)
-}
-
-// What a row gives for an address, or what those above it gave.
-fn look(s: &[u8], e: Entry, ca: u32, ioa: u32, found: Sought) -> Sought
-    ensures { λ r. ⌜ r ≡ rowSought ca ioa e (now (s .entry)) found ⌝ }
-{
-    let a = e.address;
-    if (a.ca == ca) & (a.ioa == ioa) {
-        let u = unit_in(s);
-        let unit = room::keep_unit(u);
-        let kind = e.kind;
-        return Sought {
-            number: 0,
-            detail: 0,
-            kind,
-            size: u.len(),
-            unit,
-        };
+    let from = e.from;
+    let to = e.to;
+    let u = &s[from..to];
+    let unit = room::keep_unit(u);
+    let kind = e.kind;
+    Sought {
+        number: 0,
+        detail: 0,
+        kind,
+        size: u.len(),
+        unit,
     }
-    found
 }
 
 // The rows from the top, at most 64 of them, with the addresses above each.
@@ -78,7 +59,8 @@ pub fn seek(plan: &[u8], ca: u32, ioa: u32) -> Sought
     if plan.len() == 0 {
         return refused(13, 0);
     }
-    let mut addresses = [NOWHERE; 64];
+    let sought = row::sought_key(ca, ioa);
+    let mut keys = [0u64; 64];
     let mut count = 0;
     let mut found = refused(1, 0);
     let mut rest = plan;
@@ -87,16 +69,18 @@ pub fn seek(plan: &[u8], ca: u32, ioa: u32) -> Sought
         if count == 64 {
             return refused(13, line);
         }
-        match row::row_at(rest, addresses, count) {
+        match row::row_at(rest, &keys[0..count]) {
             RowAt::Bad(k) => {
                 return refused(13, line + k as usize);
             }
             RowAt::Good(e) => {
-                let a = e.address;
-                found = look(rest, e, ca, ioa, found);
-                addresses[count] = a;
+                if e.key == sought {
+                    found = found_in(rest, e);
+                }
+                keys[count] = e.key;
                 count += 1;
-                let next = below_row(rest);
+                let end = e.end;
+                let next = &rest[end..];
                 rest = next;
             }
         }

@@ -68,7 +68,7 @@ read-all k (d ∷ ds) [] vs e = absurd (not-good e)
 read-all k (d ∷ ds) (s ∷ ts) vs e =
     joined-read k d ds s ts vs (valueOf d s) (typed (suc k) ds ts) refl e (λ ws q. read-all (suc k) ds ts ws q)
 
-read-at : {ds : List Kind} {ts : List (List ℕ)} {vs : List Value} → ReadAll ds ts vs → (j : ℕ) → j < length ds
+pub read-at : {ds : List Kind} {ts : List (List ℕ)} {vs : List Value} → ReadAll ds ts vs → (j : ℕ) → j < length ds
     → valueOf (getD ds j noKind) (getD ts j []) ≡ Read (getD vs j Blank)
 read-at end j h = absurd (omega arith)
 read-at (next e a) zero h = e

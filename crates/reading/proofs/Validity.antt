@@ -54,7 +54,7 @@ accepted-valid t unit file h =
 
 -- ---- the whole reader: what is accepted met neither refusal of the plan, so it is a message
 
-message-at : (s : Sought) (file : List ℕ) → NoneHolds (planned s file) → answerAt s file ≡ messageOf (s .kind) (unitIn s) file
+pub message-at : (s : Sought) (file : List ℕ) → NoneHolds (planned s file) → answerAt s file ≡ messageOf (s .kind) (unitIn s) file
 unfolding answerAt planned messageOf
 message-at s file (next no-13 (next no-1 n)) =
     answer-no 13 (s .detail) (eqb (s .number) 13) _ (bodyIn (s .kind) file) no-13

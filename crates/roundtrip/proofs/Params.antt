@@ -1,6 +1,6 @@
 -- A written parameter line: it can stand above the row, and is read as its label and its value. Assumes nothing.
 use Prim.Native.Nat.{ℕ, zero, suc, _-_, _<_}
-use Rattle.label.specs.Labels.{labelOf}
+use Rattle.label.specs.Labels.{padded}
 use Rattle.layout.proofs.Labels.{GoodLabel}
 use Rattle.lines.proofs.Params.{trim-front-blanks, head-param, equals-trim, sep-equals}
 use Rattle.lines.specs.Lines.{Param, param, paramOf, params}
@@ -41,7 +41,7 @@ module _ (label s : List ℕ) (g : GoodLabel label) (h : tidy s ≡ true) where
   pad = replicate (36 - length label) 32
 
   line-plain : all isPlain (paramLine label s) ≡ true
-  unfolding paramLine labelOf
+  unfolding paramLine padded
   line-plain =
       all-append isPlain (label ++ pad) (61 ∷ after s)
       (all-append isPlain label pad (tidy-parts label (g .is-tidy) .0) (all-replicate isPlain 32 refl (36 - length label)))
@@ -51,13 +51,13 @@ module _ (label s : List ℕ) (g : GoodLabel label) (h : tidy s ≡ true) where
   unfolding paramLine
   line-no-sep =
       let x = paramLine label s in
-      ap not (sep-equals (trim x) (equals-trim x ∙ any-seam (is 61) (labelOf label .text) 61 (after s) refl))
+      ap not (sep-equals (trim x) (equals-trim x ∙ any-seam (is 61) (padded label) 61 (after s) refl))
 
   line-upper : upper (paramLine label s) ≡ true
   line-upper = rw (line-plain, line-no-sep)
 
   line-param : paramOf (trim (paramLine label s)) ≡ some (param label s)
-  unfolding paramLine labelOf
+  unfolding paramLine padded
   line-param =
       ap (λ (x : List ℕ). paramOf (trim x)) (append-assoc label pad (61 ∷ after s))
       ∙ head-param label pad (after s) (tidy-parts label (g .is-tidy) .1) (g .no-equals) (all-replicate isBlank 32 refl (36 - length label))

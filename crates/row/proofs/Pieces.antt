@@ -3,47 +3,25 @@ use Prim.Native.Nat.{ℕ, suc, _+_, _-_, _≤_, _<_}
 use Rattle.row.specs.Steps.{stepOf}
 use Rattle.row.specs.declared.Step.{Step}
 use Rattle.row.specs.declared.Step.the-variants.{To, Differs}
-use Rattle.text.proofs.Cuts.{drop-step, length-part, starts-short, starts-here, starts-on, starts-end}
+use Rattle.text.proofs.Cuts.{drop-step, length-part}
 use Rattle.text.specs.Bytes.{part, starts}
 use borrow.Author.Tests.{ne-eqb}
-use lib.ListN.{length, getD, drop}
-use lib.Seq.{getD-drop, getD-take}
+use lib.ListN.{length, getD}
+use mathlib.Core.Bool.{true, false}
 use mathlib.Core.List.{List, _∷_}
 use mathlib.Core.Path.{_≡_, sym, _∙_}
 use native.Mathlib.Omega.{arith}
 
--- a byte of a part
-part-at : (a e : ℕ) (s : List ℕ) (i : ℕ) → i < e - a → getD (part a e s) i 0 ≡ getD s (a + i) 0
-part-at a e s i h = rw (getD-take, getD-drop)
-
 -- ---- a piece
 
-module _ (file : List ℕ) (at end from to : ℕ) (he : end ≤ length file) (ht : to ≤ length file) where
-  pub piece-long : end - at < to - from → Differs ≡ stepOf file at end (part from to file)
+module _ (file : List ℕ) (at end from to : ℕ) where
+  pub piece-differs : starts (part from to file) (part at end file) ≡ false → Differs ≡ stepOf file at end (part from to file)
   unfolding stepOf
-  piece-long h = rw (sym (starts-short (part from to file) (part at end file) (omega (arith, length-part at end file he, length-part from to file ht))))
+  piece-differs e = rw e
 
-  -- the comparison of the two parts, from their i-th bytes on
-  module _ (i : ℕ) (fits : to - from ≤ end - at) (all : starts (part from to file) (part at end file) ≡ starts (drop i (part from to file)) (drop i (part at end file))) where
-    pub piece-on : i < to - from → getD file (at + i) 0 ≡ getD file (from + i) 0
-        → starts (part from to file) (part at end file) ≡ starts (drop (i + 1) (part from to file)) (drop (i + 1) (part at end file))
-    piece-on h e =
-        all
-        ∙ starts-on (part from to file) (part at end file) i (omega (arith, length-part from to file ht)) (omega (arith, length-part at end file he)) (part-at from to file i h ∙ sym e ∙ sym (part-at at end file i (omega arith)))
-
-    pub piece-here : i < to - from → (getD file (at + i) 0 ≡ getD file (from + i) 0 → ⊥) → Differs ≡ stepOf file at end (part from to file)
-    unfolding stepOf
-    piece-here h n =
-        let no =
-        all
-        ∙ starts-here (part from to file) (part at end file) i (omega (arith, length-part from to file ht)) (omega (arith, length-part at end file he)) (λ e. n (sym (part-at at end file i (omega arith)) ∙ sym e ∙ part-at from to file i h)) in
-        rw no
-
-    pub piece-end : to - from ≤ i → To (at + (to - from)) ≡ stepOf file at end (part from to file)
-    unfolding stepOf
-    piece-end h =
-        let yes = all ∙ starts-end (part from to file) (part at end file) i (omega (arith, length-part from to file ht)) in
-        rw (yes, length-part from to file ht)
+  pub piece-passed : to ≤ length file → starts (part from to file) (part at end file) ≡ true → To (at + (to - from)) ≡ stepOf file at end (part from to file)
+  unfolding stepOf
+  piece-passed h e = rw (e, length-part from to file h)
 
 -- ---- a piece after a `;`
 

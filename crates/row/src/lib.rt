@@ -8,7 +8,6 @@ ghost use Rattle.layout.specs.Rows.{rowFields, textAt, bandsIn, tailText, rowTe
 ghost use Rattle.lines.specs.Places.{partOf, columnIn, Placed, Holds};
 ghost use Rattle.row.specs.Steps.{stepOf};
 ghost use Rattle.text.specs.Bytes.{same, is, upto, past, trim};
-ghost use lib.Dec.{eqb};
 ghost use lib.ListN.{length};
 ghost use mathlib.Core.List.{[], _∷_, map};
 ghost use mathlib.Core.Path.{_≡_};
@@ -19,31 +18,17 @@ pub enum Step {
     Differs,
 }
 
-// A `;` is a byte like any other: it does not end a piece.
-fn same_byte(a: u8, b: u8) -> bool
-    ensures { λ r. ⌜ r ≡ eqb a b ⌝ }
-{
-    a == b
-}
-
 // The bytes of the file from at to end begin with those of the piece.
 fn skip_piece(file: &[u8], at: usize, end: usize, p: Span) -> Step
     requires { ⌜ (at ≤ end) × (end ≤ length (now file)) × (p .from ≤ p .to) × (p .to ≤ length (now file)) ⌝ }
     ensures { λ r. ⌜ r ≡ stepOf (now (file .entry)) at end (partOf (now (file .entry)) p) ⌝ }
 {
     let from = p.from as usize;
-    let size = p.to as usize - from;
-    if end - at < size {
+    let to = p.to as usize;
+    if !scan::starts(&file[from..to], &file[at..end]) {
         return Step::Differs;
     }
-    let mut i = 0;
-    while i < size {
-        if !same_byte(file[at + i], file[from + i]) {
-            return Step::Differs;
-        }
-        i += 1;
-    }
-    Step::To(at + size)
+    Step::To(at + (to - from))
 }
 
 // The same with a `;` before the piece.

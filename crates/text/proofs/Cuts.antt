@@ -5,12 +5,12 @@ use Rattle.text.proofs.Tests.{by-test, and-parts, or-parts, or-right}
 use Rattle.text.specs.Bytes.{part, same, upto, past, any, all, skip, starts}
 use borrow.Author.Tests.{eq-eqb, ne-eqb, eqb-true}
 use lib.Dec.{eqb}
-use lib.ListN.{length, getD, take, drop, length-drop, length-take, drop-of-length-le}
+use lib.ListN.{length, getD, take, drop, length-drop, length-take, drop-of-length-le, take-append-drop}
 use lib.Seq.{drop-cons, getD-take, take-all, drop-drop, take-take, take-nil}
-use mathlib.Core.Bool.{Bool, true, false, false≢true}
-use mathlib.Core.List.{List, [], _∷_, _++_}
+use mathlib.Core.Bool.{Bool, true, false, _&&_, and-assoc, and-true, and-false, false≢true}
+use mathlib.Core.List.{List, [], _∷_, _++_, append-nil}
 use mathlib.Core.Path.{_≡_, refl, sym, ap, ap₂, _∙_}
-use native.Mathlib.Nat.{le-refl, sub-zero, suc-sub-suc, zero-sub}
+use native.Mathlib.Nat.{le-refl, add-zero, sub-zero, suc-sub-suc, zero-sub}
 use native.Mathlib.Numerals.{add-one}
 use native.Mathlib.Omega.{arith}
 
@@ -46,6 +46,24 @@ pub part-front : {A : Type 0} (s : List A) (at end e : ℕ) → at + e ≤ end �
 part-front s at end e h =
     let n : e ≡ at + e - at = omega arith in
     take-take e (end - at) (drop at s) (omega arith) ∙ ap (λ (k : ℕ). take k (drop at s)) n
+
+-- n elements from i + k on, one by one
+module _ {A : Type 0} (d : A) (s : List A) (i : ℕ) where
+  abbrev each : ℕ → ℕ → List A
+  each zero k = []
+  each (suc n) k = getD s (i + k) d ∷ each n (suc k)
+
+  take-each : (n k : ℕ) → i + k + n ≤ length s → take n (drop (i + k) s) ≡ each n k
+  take-each zero k h = refl
+  take-each (suc n) k h =
+      let m : suc (i + k) ≡ i + suc k = omega arith in
+      let g : i + k < length s = omega arith in
+      rw (drop-cons s (i + k) d g, m) (ap (λ (l : List A). getD s (i + k) d ∷ l) (take-each n (suc k) (omega arith)))
+
+  eight : i + 8 ≤ length s → part i (i + 8) s ≡ getD s i d ∷ each 7 1
+  eight h =
+      let m : i + 8 - i ≡ 8 = omega arith in
+      rw m (rw add-zero at (take-each 8 0 (omega arith)))
 
 -- ---- one step at an index
 
@@ -85,6 +103,20 @@ skip-none p s i h = rw (drop-of-length-le s h)
 pub all-end : {A : Type 0} (p : A → Bool) (s : List A) (i : ℕ) → length s ≤ i → all p (drop i s) ≡ true
 unfolding all
 all-end p s i h = rw (drop-of-length-le s h)
+
+-- eight tests, as one
+pub all-eight : {A : Type 0} (p : A → Bool) (d : A) (s : List A) (i : ℕ) → i + 8 ≤ length s
+    → (p (getD s i d)
+    && p (getD s (i + 1) d)
+    && p (getD s (i + 2) d)
+    && p (getD s (i + 3) d)
+    && p (getD s (i + 4) d)
+    && p (getD s (i + 5) d)
+    && p (getD s (i + 6) d)
+    && p (getD s (i + 7) d))
+    ≡ all p (part i (i + 8) s)
+unfolding all
+all-eight p d s i h = rw (eight d s i h) (simp (and-assoc, and-true))
 
 -- ---- the first n of a list, one by one
 
@@ -140,12 +172,29 @@ module _ {A : Type 0} (p : A → Bool) where
 
   -- ---- at a seam
 
-  pub upto-seam : (a : List A) (c : A) (v : List A) → any p a ≡ false → p c ≡ true → upto p (a ++ c ∷ v) ≡ a
+  -- past what p always is
+  pub skip-append : (a b : List A) → all p a ≡ true → skip p (a ++ b) ≡ skip p b
+  unfolding all skip
+  skip-append [] b h = refl
+  skip-append (x ∷ a) b h = let o = and-parts (p x) (all p a) h in rw (o .0) (skip-append a b (o .1))
+
+  -- k at a time
+  pub skip-over : (s : List A) (i k : ℕ) → all p (part i (i + k) s) ≡ true → skip p (drop i s) ≡ skip p (drop (i + k) s)
+  skip-over s i k h =
+      let n : i + k - i ≡ k = omega arith in
+      ap (skip p) (sym (take-append-drop k (drop i s))) ∙ skip-append (take k (drop i s)) (drop k (drop i s)) (rw n at h) ∙ rw (drop-drop k i s)
+
+  -- past what p never is
+  pub upto-append : (a b : List A) → any p a ≡ false → upto p (a ++ b) ≡ a ++ upto p b
   unfolding any upto
-  upto-seam [] c v n h = rw h
-  upto-seam (x ∷ a) c v n h =
+  upto-append [] b n = refl
+  upto-append (x ∷ a) b n =
       let o = or-parts (p x) (any p a) n in
-      rw (o .0) (ap (λ (l : List A). x ∷ l) (upto-seam a c v (o .1) h))
+      rw (o .0) (ap (λ (l : List A). x ∷ l) (upto-append a b (o .1)))
+
+  pub upto-seam : (a : List A) (c : A) (v : List A) → any p a ≡ false → p c ≡ true → upto p (a ++ c ∷ v) ≡ a
+  unfolding upto
+  upto-seam a c v n h = upto-append a (c ∷ v) n ∙ rw h (append-nil a)
 
   pub past-seam : (a : List A) (c : A) (v : List A) → any p a ≡ false → p c ≡ true → past p (a ++ c ∷ v) ≡ v
   unfolding any past
@@ -159,11 +208,8 @@ module _ {A : Type 0} (p : A → Bool) where
 
   -- where it stands nowhere, all is before it
   pub upto-all : (a : List A) → any p a ≡ false → upto p a ≡ a
-  unfolding any upto
-  upto-all [] n = refl
-  upto-all (x ∷ a) n =
-      let o = or-parts (p x) (any p a) n in
-      rw (o .0) (ap (λ (l : List A). x ∷ l) (upto-all a (o .1)))
+  unfolding upto
+  upto-all a n = ap (upto p) (sym (append-nil a)) ∙ upto-append a [] n ∙ append-nil a
 
   pub any-append : (a b : List A) → any p a ≡ false → any p b ≡ false → any p (a ++ b) ≡ false
   unfolding any
@@ -225,13 +271,91 @@ module _ (a b : List ℕ) (i : ℕ) (h : i < length a) (k : i < length b) where
   unfolding same
   same-on e = rw (drop-step a i h, drop-step b i k, eq-eqb _ _ e)
 
+-- eight tests, as one
+pub same-eight : (a b : List ℕ) (i : ℕ) → i + 8 ≤ length a → i + 8 ≤ length b
+    → (eqb (getD a i 0) (getD b i 0)
+    && eqb (getD a (i + 1) 0) (getD b (i + 1) 0)
+    && eqb (getD a (i + 2) 0) (getD b (i + 2) 0)
+    && eqb (getD a (i + 3) 0) (getD b (i + 3) 0)
+    && eqb (getD a (i + 4) 0) (getD b (i + 4) 0)
+    && eqb (getD a (i + 5) 0) (getD b (i + 5) 0)
+    && eqb (getD a (i + 6) 0) (getD b (i + 6) 0)
+    && eqb (getD a (i + 7) 0) (getD b (i + 7) 0))
+    ≡ same (part i (i + 8) a) (part i (i + 8) b)
+unfolding same
+same-eight a b i h k = rw (eight 0 a i h, eight 0 b i k) (simp (and-assoc, and-true))
+
+-- two texts are the same where their first k bytes are, and what follows those
+pub same-cut : (k : ℕ) (a b : List ℕ) → same a b ≡ (same (take k a) (take k b) && same (drop k a) (drop k b))
+unfolding same
+same-cut zero a b = refl
+same-cut (suc k) [] [] = refl
+same-cut (suc k) [] (y ∷ b) = refl
+same-cut (suc k) (x ∷ a) [] = refl
+same-cut (suc k) (x ∷ a) (y ∷ b) = by-test (eqb x y) (λ e. rw e (same-cut k a b)) (λ e. rw e)
+
+-- where what follows i decides, so does what follows an earlier j: what is compared twice is the same twice
+pub same-back : (a b : List ℕ) (j i : ℕ) → j ≤ i → same a b ≡ same (drop i a) (drop i b) → same a b ≡ same (drop j a) (drop j b)
+same-back a b j i h e =
+    let n : j + (i - j) ≡ i = omega arith in
+    let past : (s : List ℕ) → drop i s ≡ drop (i - j) (drop j s) = λ s. sym (drop-drop (i - j) j s ∙ rw n) in
+    by-test (same (drop j a) (drop j b))
+    (λ t. e ∙ rw (past a, past b, same-true (drop j a) (drop j b) t) (same-refl (drop (i - j) (drop j b))) ∙ sym t)
+    (λ f. same-cut j a b ∙ rw f (and-false (same (take j a) (take j b))) ∙ sym f)
+
 pub same-end : (a b : List ℕ) (i : ℕ) → length a ≤ i → length a ≡ length b → same (drop i a) (drop i b) ≡ true
 unfolding same
 same-end a b i h e =
     let k : length b ≤ i = omega arith in
     rw (drop-of-length-le a h, drop-of-length-le b k)
 
+-- ---- the first n of two texts, from i on
+
+module _ (a b : List ℕ) (n i k : ℕ) (h : i + k ≤ n) where
+  next : (s : List ℕ) → take k (drop i (take n s)) ≡ part i (i + k) s
+  next s = ap (take k) (drop-take i n s) ∙ part-front s i n k h
+
+  -- the next k of them, and what follows those
+  alike-cut : same (drop i (take n a)) (drop i (take n b))
+      ≡ (same (part i (i + k) a) (part i (i + k) b) && same (drop (i + k) (take n a)) (drop (i + k) (take n b)))
+  alike-cut =
+      same-cut k (drop i (take n a)) (drop i (take n b)) ∙ rw (next a, next b, drop-drop k i (take n a), drop-drop k i (take n b))
+
+  pub alike-stop : same (part i (i + k) a) (part i (i + k) b) ≡ false → same (drop i (take n a)) (drop i (take n b)) ≡ false
+  alike-stop e = alike-cut ∙ rw e
+
+  pub alike-next : same (part i (i + k) a) (part i (i + k) b) ≡ true
+      → same (drop i (take n a)) (drop i (take n b)) ≡ same (drop (i + k) (take n a)) (drop (i + k) (take n b))
+  alike-next e = alike-cut ∙ rw e
+
+module _ (a b : List ℕ) (n i : ℕ) (ha : n ≤ length a) (hb : n ≤ length b) where
+  pub alike-here : i < n → (getD a i 0 ≡ getD b i 0 → ⊥) → same (drop i (take n a)) (drop i (take n b)) ≡ false
+  alike-here h e =
+      same-here (take n a) (take n b) i (rw length-take (omega arith)) (rw length-take (omega arith)) (rw (getD-take n a i 0 h, getD-take n b i 0 h) e)
+
+  pub alike-on : i < n → getD a i 0 ≡ getD b i 0
+      → same (drop i (take n a)) (drop i (take n b)) ≡ same (drop (i + 1) (take n a)) (drop (i + 1) (take n b))
+  alike-on h e =
+      same-on (take n a) (take n b) i (rw length-take (omega arith)) (rw length-take (omega arith)) (rw (getD-take n a i 0 h, getD-take n b i 0 h) e)
+
+  pub alike-end : n ≤ i → same (drop i (take n a)) (drop i (take n b)) ≡ true
+  alike-end h =
+      same-end (take n a) (take n b) i (rw length-take (omega arith)) (omega (arith, length-take n a, length-take n b))
+
+-- the last k of them decide, where all before a later i are the same
+pub alike-last : (a b : List ℕ) (n i k : ℕ) → k ≤ n → n - k ≤ i → same (take n a) (take n b) ≡ same (drop i (take n a)) (drop i (take n b))
+    → same (part (n - k) (n - k + k) a) (part (n - k) (n - k + k) b) ≡ same (take n a) (take n b)
+alike-last a b n i k h l e =
+    let m : n - (n - k) ≡ n - k + k - (n - k) = omega arith in
+    sym (same-back (take n a) (take n b) (n - k) i l e ∙ rw (drop-take (n - k) n a, drop-take (n - k) n b, m))
+
 -- ---- a text that begins with another
+
+pub starts-same : (t s : List ℕ) → starts t s ≡ same t (take (length t) s)
+unfolding starts same
+starts-same [] s = refl
+starts-same (x ∷ t) [] = refl
+starts-same (x ∷ t) (y ∷ s) = by-test (eqb x y) (λ e. rw e (starts-same t s)) (λ e. rw e)
 
 pub starts-short : (t s : List ℕ) → length s < length t → false ≡ starts t s
 unfolding starts
@@ -241,19 +365,6 @@ starts-short (x ∷ t) (y ∷ s) h =
     let k : length s < length t = omega (arith, h) in
     let r = starts-short t s k in
     by-test (eqb x y) (λ e. rw e r) (λ e. rw e)
-
-module _ (t s : List ℕ) (i : ℕ) (h : i < length t) (k : i < length s) where
-  pub starts-here : (getD t i 0 ≡ getD s i 0 → ⊥) → starts (drop i t) (drop i s) ≡ false
-  unfolding starts
-  starts-here n = rw (drop-step t i h, drop-step s i k, ne-eqb _ _ n)
-
-  pub starts-on : getD t i 0 ≡ getD s i 0 → starts (drop i t) (drop i s) ≡ starts (drop (i + 1) t) (drop (i + 1) s)
-  unfolding starts
-  starts-on e = rw (drop-step t i h, drop-step s i k, eq-eqb _ _ e)
-
-pub starts-end : (t s : List ℕ) (i : ℕ) → length t ≤ i → starts (drop i t) (drop i s) ≡ true
-unfolding starts
-starts-end t s i h = rw (drop-of-length-le t h)
 
 -- it is the one text, and then the rest
 pub starts-cut : (t s : List ℕ) → starts t s ≡ true → s ≡ t ++ drop (length t) s

@@ -4,3 +4,4 @@ pub mod Trims
 pub mod Numerals
 pub mod Runs
 pub mod Tables
+pub mod Fronts

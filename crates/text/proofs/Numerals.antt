@@ -13,7 +13,7 @@ use lib.ListN.{length, getD, drop, drop-of-length-le}
 use mathlib.Core.Bool.{Bool, true, false, _&&_, and-false, cond, true≢false}
 use mathlib.Core.List.{List, [], _∷_, _++_}
 use mathlib.Core.Path.{_≡_, refl, sym, ap, _∙_}
-use native.Mathlib.Nat.{pow-suc, pow-succ', one-le-pow, pow-le-pow-right, mul-le-mul-right, mod-eq-of-lt, le-div-iff-mul-le, div-lt-iff-lt-mul}
+use native.Mathlib.Nat.{pow-suc, pow-succ', one-le-pow, pow-le-pow-right, mul-le-mul-right, mod-eq-of-lt, div-one, div-div-eq-div-mul, le-div-iff-mul-le, div-lt-iff-lt-mul}
 use native.Mathlib.Numerals.{add-one}
 use native.Mathlib.Omega.{arith}
 
@@ -112,6 +112,14 @@ unfolding digitsText
 length-text zero n = refl
 length-text (suc k) n = ap suc (length-text k n)
 
+-- the last digit, and before it those of a tenth
+pub digits-last : (k n : ℕ) → digitsText (suc k) n ≡ digitsText k (n / 10) ++ (48 + n % 10) ∷ []
+unfolding digitsText
+digits-last zero n = rw div-one
+digits-last (suc k) n =
+    let e : n / 10 ^ suc k ≡ n / 10 / 10 ^ k = rw (pow-succ' 10 k) (sym (div-div-eq-div-mul n 10 (10 ^ k))) in
+    rw e (ap (λ (t : List ℕ). (48 + n / 10 / 10 ^ k % 10) ∷ t) (digits-last k n))
+
 pub all-text : (k n : ℕ) → all isDigit (digitsText k n) ≡ true
 unfolding all digitsText
 all-text zero n = refl
@@ -154,6 +162,16 @@ pub whole-less : (k n : ℕ) → 0 < k → n < 10 ^ k → wholeText k n ≡ whol
 unfolding wholeText
 whole-less zero n h b = absurd (omega arith)
 whole-less (suc k) n h b = let e : suc k - 1 ≡ k = omega arith in rw (lt-ltb n (10 ^ suc k) b, e)
+
+-- fewer digits hold it
+pub whole-low : (k j n : ℕ) → 0 < j → j ≤ k → n < 10 ^ j → wholeText k n ≡ wholeText (j - 1) n
+whole-low zero j n h g b = absurd (omega arith)
+whole-low (suc k) j n h g b =
+    let e : suc k - 1 ≡ k = omega arith in
+    let less : n < 10 ^ suc k = omega (arith, pow-le-pow-right {n = 10} (lit< tt) g) in
+    let step : wholeText (suc k) n ≡ wholeText k n = rw e at (whole-less (suc k) n (omega arith) less) in
+    by-le j k (λ f. step ∙ whole-low k j n h f b)
+    (λ f. let q : k ≡ j - 1 = omega arith in step ∙ ap (λ (m : ℕ). wholeText m n) q)
 
 pub whole-found : (k n : ℕ) → 0 < k → 10 ^ k ≤ n → wholeText k n ≡ digitsText (k + 1) n
 unfolding wholeText

@@ -1,23 +1,28 @@
 -- Runs of stores into a buffer: one put after another, a text byte by byte, the digits of a number, and the whole write.
 -- Assumes nothing.
-use Prim.Native.Nat.{ℕ, zero, suc, _+_, _-_, _/_, _%_, _^_, _≤_, _<_}
+use Prim.Native.Nat.{ℕ, zero, suc, _+_, _-_, _/_, _%_, min, _≤_, _<_}
 use Rattle.text.proofs.Cuts.{tail}
-use Rattle.text.proofs.Numerals.{length-text}
+use Rattle.text.proofs.Numerals.{length-text, digits-last}
+use Rattle.text.proofs.Tests.{by-le}
 use Rattle.text.specs.Digits.{digitsText, wholeText}
 use Rattle.text.specs.Puts.{wroteOf, bufferOf, roomOf}
 use Rattle.text.specs.declared.put.Wrote.the-variants.{To, NoRoom}
 use borrow.Author.Tests.{le-leb, lt-leb}
 use lib.ListN.{length, getD, take, drop, set, replicate, length-append, length-drop, length-replicate, drop-of-length-le}
-use lib.Seq.{sets, sets-eq, set-out, drop-cons, drop-drop}
+use lib.Seq.{sets, sets-eq, set-out, set-comm, drop-cons, drop-drop}
 use mathlib.Core.List.{List, [], _∷_, _++_, append-assoc, append-nil}
 use mathlib.Core.Path.{_≡_, refl, sym, ap, _∙_}
 use native.Mathlib.Nat.{add-zero}
 use native.Mathlib.Numerals.{add-one}
 use native.Mathlib.Omega.{arith}
 
--- a store past the end is none
+-- stores past the end are none
+sets-past : (l : List ℕ) (at : ℕ) (t : List ℕ) → length l ≤ at → sets l at t ≡ l
+sets-past l at [] h = refl
+sets-past l at (b ∷ t) h = rw (set-out l at b h) (sets-past l (suc at) t (omega arith))
+
 pub put-past : (l : List ℕ) (at b : ℕ) → length l ≤ at → l ≡ sets l at (b ∷ [])
-put-past l at b h = sym (set-out l at b h)
+put-past l at b h = sym (sets-past l at (b ∷ []) h)
 
 pub sets-append : (l : List ℕ) (at : ℕ) (t u : List ℕ) → sets (sets l at t) (at + length t) u ≡ sets l at (t ++ u)
 sets-append l at [] u = rw add-zero
@@ -59,15 +64,28 @@ same-puts u e p = rw (sym e) (p .place, p .bytes)
 pub text-step : (l m : List ℕ) (p q : ℕ) (t : List ℕ) (i : ℕ) → i < length t → q ≡ p + 1 → m ≡ sets l p (getD t i 0 ∷ []) → sets m q (drop (i + 1) t) ≡ sets l p (drop i t)
 text-step l m p q t i h e f = rw (f, e, add-one, add-one, drop-cons t i 0 h)
 
-pub text-end : (l : List ℕ) (p : ℕ) (t : List ℕ) (i : ℕ) → length t ≤ i → sets l p (drop i t) ≡ l
-text-end l p t i h = rw (drop-of-length-le t h)
+-- no byte is left, or no room
+pub text-end : (l : List ℕ) (at : ℕ) (t : List ℕ) (i : ℕ) → min (length t) (length l - at) ≤ i → sets l (at + i) (drop i t) ≡ l
+text-end l at t i h =
+    by-le (length t) i (λ e. rw (drop-of-length-le t e)) (λ e. sets-past l (at + i) (drop i t) (omega arith))
 
--- ---- digits: one of them, and those that are left, are the digits from here
+-- ---- digits, the last one first
 
-pub digit-step : (l m : List ℕ) (p q j n : ℕ) → 0 < j → q ≡ p + 1 → m ≡ sets l p ((48 + n / 10 ^ (j - 1) % 10) ∷ []) → sets m q (digitsText (j - 1) n) ≡ sets l p (digitsText j n)
-unfolding digitsText
-digit-step l m p q zero n h e f = absurd (omega arith)
-digit-step l m p q (suc j) n h e f = let d : suc j - 1 ≡ j = omega arith in rw (f, e, add-one p, d)
+-- the last store of a run may be the first
+sets-last : (l : List ℕ) (at : ℕ) (t : List ℕ) (b : ℕ) → sets l at (t ++ b ∷ []) ≡ sets (set l (at + length t) b) at t
+sets-last l at [] b = rw add-zero
+sets-last l at (x ∷ t) b =
+    let n : at + suc (length t) ≡ suc at + length t = omega arith in
+    sets-last (set l at x) (suc at) t b
+    ∙ rw n (ap (λ (m : List ℕ). sets m (suc at) t) (set-comm l at (suc at + length t) x b (λ e. omega arith)))
+
+-- the last digit, and those of what is left before it, are the digits
+pub digit-step : (l m : List ℕ) (at j n : ℕ) → 0 < j → m ≡ sets l (at + (j - 1)) ((48 + n % 10) ∷ [])
+    → sets m at (digitsText (j - 1) (n / 10)) ≡ sets l at (digitsText j n)
+digit-step l m at zero n h f = absurd (omega arith)
+digit-step l m at (suc j) n h f =
+    let d : suc j - 1 ≡ j = omega arith in
+    rw (f, d, digits-last j n, sets-last l at (digitsText j (n / 10)) (48 + n % 10), length-text j (n / 10))
 
 pub digit-end : (l : List ℕ) (p j n : ℕ) → j ≤ 0 → sets l p (digitsText j n) ≡ l
 unfolding digitsText
@@ -83,8 +101,7 @@ whole-put l m at k n size r e p =
 -- ---- the whole write: the length is found on an empty part, then the text is put or refused
 
 pub none-put : (at : ℕ) (t : List ℕ) → sets [] at t ≡ []
-none-put at [] = refl
-none-put at (b ∷ t) = none-put (suc at) t
+none-put at t = sets-past [] at t (omega arith)
 
 -- an empty part that came back changes nothing
 part-back : (l m t : List ℕ) → m ≡ sets [] 0 t → m ++ l ≡ l

@@ -100,6 +100,10 @@ isBlank b = is 32 b
 abbrev pub firstOf : ℕ → List ℕ → ℕ
 firstOf b s = length (upto (is b) s)
 
+-- how many bytes from the start p holds of
+abbrev pub runOf : (ℕ → Bool) → List ℕ → ℕ
+runOf p s = length s - length (skip p s)
+
 -- without the blanks at its two ends
 unfoldable pub trim : List ℕ → List ℕ
 trim s = skipEnd isBlank (skip isBlank s)

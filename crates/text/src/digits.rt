@@ -1,6 +1,6 @@
 // Decimal digits: reading them, and how many a number has.
 ghost use Prim.Native.Nat.{_^_, _≤_, _<_};
-ghost use Rattle.text.specs.Bytes.{isDigit};
+ghost use Rattle.text.specs.Bytes.{isDigit, runOf};
 ghost use Rattle.text.specs.Digits.{digitsOf, digitsText, wholeText};
 ghost use mathlib.Core.Path.{_≡_};
 
@@ -17,6 +17,20 @@ pub fn is_digit(b: u8) -> bool
         b'0'..=b'9' => true,
         _ => false,
     }
+}
+
+// How many digits it begins with.
+pub fn run(s: &[u8]) -> usize
+    ensures { λ r. ⌜ r ≡ runOf isDigit (now (s .entry)) ⌝ }
+{
+    let mut i = 0;
+    while i < s.len() {
+        if !is_digit(s[i]) {
+            return i;
+        }
+        i += 1;
+    }
+    i
 }
 
 // The number that s writes, where it is 1 to most digits and nothing else.
@@ -67,12 +81,12 @@ pub fn whole_size(n: u64, k: usize) -> usize
     requires { ⌜ k ≤ 9 ⌝ }
     ensures { λ r. ⌜ (1 ≤ r) × (r ≤ 10) × (wholeText k n ≡ digitsText r n) ⌝ }
 {
-    let mut j = k;
-    while 0 < j {
-        if pow10(j) <= n {
-            return j + 1;
+    let mut j = 1;
+    while j <= k {
+        if n < pow10(j) {
+            return j;
         }
-        j -= 1;
+        j += 1;
     }
-    1
+    j
 }

@@ -1,8 +1,57 @@
 // Looking at bytes and handing on parts of them.
-ghost use Prim.Native.Nat.{_-_};
-ghost use Rattle.text.specs.Bytes.{same, starts, skip, skipEnd, firstOf, trim, isBlank};
+ghost use Prim.Native.Nat.{_+_, _≤_};
+ghost use Rattle.text.specs.Bytes.{part, same, starts, all, runOf, skipEnd, firstOf, trim, isBlank};
 ghost use lib.ListN.{length, take, drop};
 ghost use mathlib.Core.Path.{_≡_};
+
+// Eight bytes of both from i on, tested without a branch between them: compiled to one compare of two words.
+fn eight_alike(a: &[u8], b: &[u8], i: usize) -> bool
+    requires { ⌜ (i + 8 ≤ length (now a)) × (i + 8 ≤ length (now b)) ⌝ }
+    ensures { λ r. ⌜ r ≡ same (part i (i + 8) (now (a .entry))) (part i (i + 8) (now (b .entry))) ⌝ }
+{
+    (a[i] == b[i])
+        & (a[i + 1] == b[i + 1])
+        & (a[i + 2] == b[i + 2])
+        & (a[i + 3] == b[i + 3])
+        & (a[i + 4] == b[i + 4])
+        & (a[i + 5] == b[i + 5])
+        & (a[i + 6] == b[i + 6])
+        & (a[i + 7] == b[i + 7])
+}
+
+// Fewer than eight bytes, one by one.
+fn few_alike(a: &[u8], b: &[u8], n: usize) -> bool
+    requires { ⌜ (n ≤ length (now a)) × (n ≤ length (now b)) ⌝ }
+    ensures { λ r. ⌜ r ≡ same (take n (now (a .entry))) (take n (now (b .entry))) ⌝ }
+{
+    let mut i = 0;
+    while i < n {
+        if a[i] != b[i] {
+            return false;
+        }
+        i += 1;
+    }
+    true
+}
+
+// Whether both begin with the same n bytes: eight at a time, the last eight of them perhaps once more, which is cheaper than the rest one by one.
+fn alike(a: &[u8], b: &[u8], n: usize) -> bool
+    requires { ⌜ (n ≤ length (now a)) × (n ≤ length (now b)) ⌝ }
+    ensures { λ r. ⌜ r ≡ same (take n (now (a .entry))) (take n (now (b .entry))) ⌝ }
+{
+    if n < 8 {
+        return few_alike(a, b, n);
+    }
+    let last = n - 8;
+    let mut i = 0;
+    while i < last {
+        if !eight_alike(a, b, i) {
+            return false;
+        }
+        i += 8;
+    }
+    eight_alike(a, b, last)
+}
 
 // Whether two texts are the same, byte by byte.
 pub fn same(a: &[u8], b: &[u8]) -> bool
@@ -11,14 +60,7 @@ pub fn same(a: &[u8], b: &[u8]) -> bool
     if a.len() != b.len() {
         return false;
     }
-    let mut i = 0;
-    while i < a.len() {
-        if a[i] != b[i] {
-            return false;
-        }
-        i += 1;
-    }
-    true
+    alike(a, b, a.len())
 }
 
 // Whether s begins with t.
@@ -28,14 +70,7 @@ pub fn starts(t: &[u8], s: &[u8]) -> bool
     if s.len() < t.len() {
         return false;
     }
-    let mut i = 0;
-    while i < t.len() {
-        if t[i] != s[i] {
-            return false;
-        }
-        i += 1;
-    }
-    true
+    alike(t, s, t.len())
 }
 
 // How many bytes stand before the first b: all where there is none.
@@ -52,18 +87,39 @@ pub fn first(s: &[u8], b: u8) -> usize
     i
 }
 
-// How many blanks it begins with.
-pub fn lead(s: &[u8]) -> usize
-    ensures { λ r. ⌜ r ≡ length (now (s .entry)) - length (skip isBlank (now (s .entry))) ⌝ }
+// Eight bytes from i on, tested without a branch between them.
+fn eight_blank(s: &[u8], i: usize) -> bool
+    requires { ⌜ i + 8 ≤ length (now s) ⌝ }
+    ensures { λ r. ⌜ r ≡ all isBlank (part i (i + 8) (now (s .entry))) ⌝ }
 {
-    let mut i = 0;
-    while i < s.len() {
-        if s[i] != b' ' {
-            return i;
+    (s[i] == b' ')
+        & (s[i + 1] == b' ')
+        & (s[i + 2] == b' ')
+        & (s[i + 3] == b' ')
+        & (s[i + 4] == b' ')
+        & (s[i + 5] == b' ')
+        & (s[i + 6] == b' ')
+        & (s[i + 7] == b' ')
+}
+
+// How many blanks it begins with: a padded label is followed by many.
+pub fn lead(s: &[u8]) -> usize
+    ensures { λ r. ⌜ r ≡ runOf isBlank (now (s .entry)) ⌝ }
+{
+    let mut n = 0;
+    while 8 <= s.len() - n {
+        if !eight_blank(s, n) {
+            break;
         }
-        i += 1;
+        n += 8;
     }
-    i
+    while n < s.len() {
+        if s[n] != b' ' {
+            return n;
+        }
+        n += 1;
+    }
+    n
 }
 
 // How long it is without the blanks that it ends with.

@@ -1,4 +1,4 @@
 pub mod Table
 pub mod RoundTrip
-pub mod Texts
+pub mod Arms
 pub mod Search

@@ -2,12 +2,14 @@
 -- with the space. They are numbered from 1, once for all layouts, so that what one field may hold is a run of them. 0 is no word.
 use Prim.Native.Nat.{ℕ, zero, suc, _-_}
 use Rattle.text.specs.Bytes.{bytes, same}
+use Rattle.word.specs.declared.Met.{Met}
 use Rattle.word.specs.declared.Word.{Word}
 use Rattle.word.specs.declared.Word.the-variants.{Is, Not}
-use Rattle.word.specs.declared.WordText.{WordText}
-use lib.ListN.{length, getD, replicate}
+use lib.ListN.{length, getD}
+use lib.Seq.{sets}
 use mathlib.Core.Bool.{cond}
 use mathlib.Core.List.{List, [], _∷_, _++_}
+use mathlib.Core.Path.{_≡_}
 
 -- 1 to 12, of CB, EB, LB and SR: gradient, continuation, SI and NO, origin of data, kind of auction, operation
 unfoldable pub commandWords : List (List ℕ)
@@ -72,7 +74,11 @@ wordFrom (suc n) w s = cond (same (word w) s) (Is w) (wordFrom n (suc w) s)
 abbrev pub wordIn : ℕ → ℕ → List ℕ → Word
 wordIn first last s = wordFrom (suc last - first) first s
 
--- ---- a word in its room of 20 bytes, filled up with blanks
+-- ---- a word against a text, and in a buffer
 
-unfoldable pub wordTextOf : List ℕ → WordText
-wordTextOf t = record { len = length t; bytes = t ++ replicate (20 - length t) 32 }
+unfoldable pub metOf : List ℕ → List ℕ → Met
+metOf w s = record { size = length w; is = same w s }
+
+-- the word w met the text s, and stands in the buffer from the place `at` on, as far as there is room
+abbrev pub Spells : List ℕ → List ℕ → List ℕ → ℕ → List ℕ → Met → Type 0
+Spells w s before at after r = (r ≡ metOf w s) × (after ≡ sets before at w)

@@ -1,7 +1,7 @@
 -- The written form of values that their kinds may hold has 1 to 8,192 bytes: a cap for each shape, and sums along the tables. Assumes nothing.
 use Prim.Native.Nat.{ℕ, zero, suc, _+_, _≤_}
 use Rattle.date.proofs.Back.{date-length}
-use Rattle.label.specs.Labels.{labelOf}
+use Rattle.label.specs.Labels.{padded}
 use Rattle.layout.specs.Banners.{bannerOf}
 use Rattle.layout.specs.Fields.{command, technical, market, mfrr, rc, mg, eb, lb, sr, vq, ri, qr}
 use Rattle.layout.specs.Layouts.{fieldsOf, labelsOf, kindsOf, typeOf}
@@ -149,7 +149,7 @@ after-short (b ∷ s) = omega arith
 line-short : (label s : List ℕ) → length (paramLine label s) ≤ suc (bare label + length s)
 unfolding bare paramLine
 line-short label s =
-    let p = labelOf label .text in
+    let p = padded label in
     omega (arith, length-append p (61 ∷ after s), length-append p (61 ∷ after []), after-short s)
 
 lines-short : (ls col : List (List ℕ)) → weigh length (paramLines ls col) ≤ weigh bare ls + weigh length col
@@ -213,7 +213,7 @@ budget : Layout → ℕ
 budget l = length (bannerOf l) + weigh bare (labelsOf l) + weigh capOf (kindsOf l) + weigh (capAt (kindsOf l)) (rowFields l) + capAt (kindsOf l) 6 + 16
 
 in-budget : (l : Layout) → budget l ≤ 8192
-unfolding budget weigh bare paramLine after labelOf cap capOf capAt bannerOf labelsOf kindsOf rowFields fieldsOf market command technical mfrr rc mg eb lb sr vq ri qr
+unfolding budget weigh bare paramLine after padded cap capOf capAt bannerOf labelsOf kindsOf rowFields fieldsOf market command technical mfrr rc mg eb lb sr vq ri qr
 in-budget Market = leb-true _ _ refl
 in-budget Mfrr = leb-true _ _ refl
 in-budget Revocation = leb-true _ _ refl

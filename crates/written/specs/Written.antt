@@ -1,7 +1,7 @@
 -- The written form of a message. Document 01, "Written form": banner lines, an empty line, each label padded to 36 bytes, `=`, and, unless the value
 -- is blank, a space and the value; then `+++++`, row, `+++++`. LF after each line. Bytes: 10 LF, 32 the space, 43 '+', 61 '='.
 use Prim.Native.Nat.{ℕ}
-use Rattle.label.specs.Labels.{labelOf}
+use Rattle.label.specs.Labels.{padded}
 use Rattle.layout.specs.Banners.{bannerOf}
 use Rattle.layout.specs.Layouts.{labelsOf, sizeOf, typeOf}
 use Rattle.layout.specs.Rows.{rowOf}
@@ -28,7 +28,7 @@ after [] = []
 after (b ∷ s) = 32 ∷ b ∷ s
 
 unfoldable pub paramLine : List ℕ → List ℕ → List ℕ
-paramLine label value = labelOf label .text ++ (61 ∷ after value)
+paramLine label value = padded label ++ (61 ∷ after value)
 
 -- a line for each label, with its value
 unfoldable pub paramLines : List (List ℕ) → List (List ℕ) → List (List ℕ)

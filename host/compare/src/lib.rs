@@ -5,6 +5,7 @@
 //! answered. The files come from [`samples`], by way of [`layout_noise`] (which leaves the
 //! record as it is), [`values`] and [`together`] (other values, the summary row mended),
 //! [`damage`] and [`random`]; the plans from [`plans`]. Each choice is a throw of [`dice`].
+//! With the feature `pace`, `pace` is the reference's side of the book's calls that are timed.
 #![deny(unsafe_code)]
 
 pub mod body;
@@ -16,6 +17,8 @@ pub mod kinds;
 pub mod layout_noise;
 pub mod lines;
 pub mod ours;
+#[cfg(feature = "pace")]
+pub mod pace;
 pub mod plans;
 pub mod random;
 pub mod samples;

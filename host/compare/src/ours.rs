@@ -1,5 +1,6 @@
-//! The two C entries of host/include/halimpung.h, as calls on slices. The only `unsafe` code here: a slice of Rust
-//! is what the header asks for (never null, of its length; `out` is lent alone, so it overlaps no input).
+//! The two C entries of host/include/halimpung.h, as calls on slices, and that of crates/pace. The only `unsafe` code
+//! here: a slice of Rust is what the header asks for (never null, of its length; `out` is lent alone, so it overlaps no
+//! input).
 #![allow(unsafe_code)]
 
 #[rustfmt::skip]
@@ -22,4 +23,21 @@ pub fn normalise(ca: u32, ioa: u32, plan: &[u8], file: &[u8], out: &mut [u8]) ->
     unsafe {
         halimpung_normalise(ca, ioa, plan.as_ptr(), plan.len(), file.as_ptr(), file.len(), out.as_mut_ptr(), out.len())
     }
+}
+
+#[cfg(feature = "pace")]
+#[rustfmt::skip]
+extern "C" {
+    fn halimpung_pace(
+        call: u32, rounds: u32, held: u32,
+        plan: *const u8, plan_len: usize, command: *const u8, command_len: usize, revocation: *const u8, revocation_len: usize,
+    ) -> u32;
+}
+
+#[cfg(feature = "pace")]
+pub fn pace(call: u32, rounds: u32, held: u32, plan: &[u8], command: &[u8], revocation: &[u8]) -> u32 {
+    let (plan, plan_len) = (plan.as_ptr(), plan.len());
+    let (command, command_len) = (command.as_ptr(), command.len());
+    let (revocation, revocation_len) = (revocation.as_ptr(), revocation.len());
+    unsafe { halimpung_pace(call, rounds, held, plan, plan_len, command, command_len, revocation, revocation_len) }
 }

@@ -1,38 +1,105 @@
--- The label stands in its room before the blanks.
-use Prim.Native.Nat.{ℕ}
-use Rattle.label.proofs.Rooms.{size-inside, label-part}
+-- The label, blanks and the byte after them, one test a return.
+use Prim.Native.Nat.{ℕ, _+_, _≤_}
+use Rattle.entry.proofs.Heads.{no-head, other-head, head-fits, head-end, head-byte, head-here}
+use Rattle.entry.proofs.Mets.{size-is, begins-is}
 use Rattle.entry.proofs.head.Statement.{statement}
 use Rattle.entry.proofs.head.Tie as tie
-use Rattle.entry.specs.Items.{headOf}
+use Rattle.layout.specs.Layouts.{labelAt}
+use Rattle.text.proofs.Cuts.{starts-length}
+use Rattle.text.specs.Bytes.{starts}
 use borrow.Author.Needs.{needs}
+use borrow.Author.Tests.{not-true, not-false}
+use lib.ListN.{length}
+use mathlib.Core.Bool.{true}
 use mathlib.Core.List.{List}
-use mathlib.Core.Path.{ap, _∙_}
+use mathlib.Core.Path.{_≡_, sym, _∙_}
+use native.Mathlib.Omega.{arith}
+
+-- ---- where the line begins with the label: how long that is, and past the blanks
+
+abbrev name-of : tie.Else2 → List ℕ
+name-of c = labelAt (c .before .before .before .before .before .before .before .args .l) (c .before .before .before .before .before .before .before .args .k)
+
+abbrev line-of : tie.Else2 → List ℕ
+line-of c = c .before .before .before .before .before .before .before .args .s .now
+
+sized : (c : tie.Else2) → c .before .before .before .before .of-field .result .size ≡ length (name-of c)
+sized c = size-is _ _ _ (c .before .before .before .before .of-field .ensures .0)
+
+begun : (c : tie.Else2) → starts (name-of c) (line-of c) ≡ true
+begun c = sym (begins-is _ _ _ (c .before .before .before .before .of-field .ensures .0)) ∙ not-false _ (c .if2 .left)
+
+inside : (c : tie.Else2) → c .before .before .before .before .of-field .result .size ≤ length (line-of c)
+inside c = omega (arith, sized c, starts-length (name-of c) (line-of c) (begun c))
+
+fits : (c : tie.After-lead) → c .before .before .before .before .before .before .of-field .result .size + c .lead .result ≤ length (line-of (c .before .before))
+fits c = head-fits (name-of (c .before .before)) _ _ _ (sized (c .before .before)) (begun (c .before .before)) (c .lead .ensures)
+
+-- ---- the needs
+
+slice-aggregate-of-field : tie.Need-slice-aggregate-of-field
+slice-aggregate-of-field c = search needs
 
 of-field-requires : tie.Need-of-field-requires
 of-field-requires c κs = search needs
 
-sub-head-with : tie.Need-sub-head-with
-sub-head-with c = search needs
-
-part-head-with-start : tie.Need-part-head-with-start
-part-head-with-start c = search needs
-
-part-head-with-end : tie.Need-part-head-with-end
-part-head-with-end c = size-inside _ _ (c .before .before .of-field .ensures)
-
-head-with-requires : tie.Need-head-with-requires
-head-with-requires c κs = search needs
-
 returns : tie.Need-returns
-returns c = c .head-with .ensures ∙ ap (λ (t : List ℕ). headOf t (c .before .before .before .before .before .before .args .s .now)) (label-part _ _ (c .before .before .before .before .of-field .ensures))
+returns c = no-head _ _ _ (size-is _ _ _ (c .before .before .of-field .ensures .0)) (c .if1 .taken)
+
+returns-2 : tie.Need-returns-2
+returns-2 c = other-head _ _ (sym (begins-is _ _ _ (c .before .before .before .before .of-field .ensures .0)) ∙ not-true _ (c .if2 .taken))
+
+sub-lead : tie.Need-sub-lead
+sub-lead c = inside c
+
+part-lead-start : tie.Need-part-lead-start
+part-lead-start c = inside c
+
+part-lead-end : tie.Need-part-lead-end
+part-lead-end c = search needs
+
+lead-requires : tie.Need-lead-requires
+lead-requires c κs = search needs
+
+add-at : tie.Need-add-at
+add-at c = search needs
+
+returns-3 : tie.Need-returns-3
+returns-3 c =
+    let z = c .before .before .before in
+    head-end _ _ _ _ (sized z) (begun z) (c .before .lead .ensures) (c .if3 .taken)
+
+shared-slice-read-if4 : tie.Need-shared-slice-read-if4
+shared-slice-read-if4 c = omega (arith, fits (c .before .before))
+
+returns-4 : tie.Need-returns-4
+returns-4 c =
+    let z = c .before .before .before .before .before in
+    head-byte _ _ _ _ (sized z) (begun z) (c .before .before .before .lead .ensures) (c .before .before .if3 .left) (c .if4 .taken)
+
+add-result : tie.Need-add-result
+add-result c = let h = fits (c .before .before .before) in search needs
+
+returns-5 : tie.Need-returns-5
+returns-5 c =
+    let z = c .before .before .before .before .before in
+    head-here _ _ _ _ (sized z) (begun z) (c .before .before .before .lead .ensures) (z .before .before .if1 .left) (c .before .before .if3 .left) (c .if4 .left)
 
 pub head-spec : {M : Type 1} → statement M
 head-spec =
     tie.close
     (tie.spec
+    slice-aggregate-of-field
     of-field-requires
-    sub-head-with
-    part-head-with-start
-    part-head-with-end
-    head-with-requires
-    returns)
+    returns
+    returns-2
+    sub-lead
+    part-lead-start
+    part-lead-end
+    lead-requires
+    add-at
+    returns-3
+    shared-slice-read-if4
+    returns-4
+    add-result
+    returns-5)

@@ -1,14 +1,10 @@
--- Each arm is the entry of the table at its number; past them there is none.
-use Rattle.layout.proofs.Arms.{entry}
+-- Each arm is the entry of this part of the market layout at its number; past them there is none.
+use Rattle.label.proofs.Arms.{labelIn, arm, no-arm-in}
 use Rattle.label.proofs.command_label.Statement.{statement}
 use Rattle.label.proofs.command_label.Tie as tie
-use Rattle.layout.specs.Fields.{Field, command}
-use Rattle.label.specs.Labels.{labelOf}
-use Rattle.text.proofs.Tables.{no-arm}
+use Rattle.label.specs.Labels.{padded}
+use Rattle.layout.specs.Fields.{command}
 use borrow.Author.Needs.{needs}
-use lib.ListN.{getD}
-use mathlib.Core.List.{[], map}
-use mathlib.Core.Path.{ap, _∙_}
 
 identifier-requires : tie.Need-identifier-requires
 identifier-requires c κs = search needs
@@ -49,57 +45,96 @@ labelled-requires-10 c κs = search needs
 no-label-requires : tie.Need-no-label-requires
 no-label-requires c κs = search needs
 
+same-length : tie.Need-same-length
+same-length c = search needs
+
 returns : tie.Need-returns
 unfolding command
-returns c = c .identifier .ensures ∙ entry (λ k. labelOf (getD (map (λ (f : Field). f .label) command) k [])) (c .before .match .keys1)
+returns c = arm _ _ _ (labelIn command) (c .before .before .before .before .match .keys1) (c .before .before .identifier .ensures)
+
+same-length-2 : tie.Need-same-length-2
+same-length-2 c = search needs
 
 returns-2 : tie.Need-returns-2
 unfolding command
-returns-2 c = c .unit .ensures ∙ entry (λ k. labelOf (getD (map (λ (f : Field). f .label) command) k [])) (c .before .match .keys2)
+returns-2 c = arm _ _ _ (labelIn command) (c .before .before .before .before .match .keys2) (c .before .before .unit .ensures)
+
+same-length-3 : tie.Need-same-length-3
+same-length-3 c = search needs
 
 returns-3 : tie.Need-returns-3
-unfolding command labelOf
-returns-3 c = c .labelled .ensures ∙ entry (λ k. labelOf (getD (map (λ (f : Field). f .label) command) k [])) (c .before .before .before .match .keys3)
+unfolding command padded
+returns-3 c = arm _ _ _ (labelIn command) (c .before .before .before .before .before .before .match .keys3) (c .before .before .labelled .ensures)
+
+same-length-4 : tie.Need-same-length-4
+same-length-4 c = search needs
 
 returns-4 : tie.Need-returns-4
-unfolding command labelOf
-returns-4 c = c .labelled2 .ensures ∙ entry (λ k. labelOf (getD (map (λ (f : Field). f .label) command) k [])) (c .before .before .before .match .keys4)
+unfolding command padded
+returns-4 c = arm _ _ _ (labelIn command) (c .before .before .before .before .before .before .match .keys4) (c .before .before .labelled2 .ensures)
+
+same-length-5 : tie.Need-same-length-5
+same-length-5 c = search needs
 
 returns-5 : tie.Need-returns-5
-unfolding command labelOf
-returns-5 c = c .labelled3 .ensures ∙ entry (λ k. labelOf (getD (map (λ (f : Field). f .label) command) k [])) (c .before .before .before .match .keys5)
+unfolding command padded
+returns-5 c = arm _ _ _ (labelIn command) (c .before .before .before .before .before .before .match .keys5) (c .before .before .labelled3 .ensures)
+
+same-length-6 : tie.Need-same-length-6
+same-length-6 c = search needs
 
 returns-6 : tie.Need-returns-6
-unfolding command labelOf
-returns-6 c = c .labelled4 .ensures ∙ entry (λ k. labelOf (getD (map (λ (f : Field). f .label) command) k [])) (c .before .before .before .match .keys6)
+unfolding command padded
+returns-6 c = arm _ _ _ (labelIn command) (c .before .before .before .before .before .before .match .keys6) (c .before .before .labelled4 .ensures)
+
+same-length-7 : tie.Need-same-length-7
+same-length-7 c = search needs
 
 returns-7 : tie.Need-returns-7
-unfolding command labelOf
-returns-7 c = c .labelled5 .ensures ∙ entry (λ k. labelOf (getD (map (λ (f : Field). f .label) command) k [])) (c .before .before .before .match .keys7)
+unfolding command padded
+returns-7 c = arm _ _ _ (labelIn command) (c .before .before .before .before .before .before .match .keys7) (c .before .before .labelled5 .ensures)
+
+same-length-8 : tie.Need-same-length-8
+same-length-8 c = search needs
 
 returns-8 : tie.Need-returns-8
-unfolding command labelOf
-returns-8 c = c .labelled6 .ensures ∙ entry (λ k. labelOf (getD (map (λ (f : Field). f .label) command) k [])) (c .before .before .before .match .keys8)
+unfolding command padded
+returns-8 c = arm _ _ _ (labelIn command) (c .before .before .before .before .before .before .match .keys8) (c .before .before .labelled6 .ensures)
+
+same-length-9 : tie.Need-same-length-9
+same-length-9 c = search needs
 
 returns-9 : tie.Need-returns-9
-unfolding command labelOf
-returns-9 c = c .labelled7 .ensures ∙ entry (λ k. labelOf (getD (map (λ (f : Field). f .label) command) k [])) (c .before .before .before .match .keys9)
+unfolding command padded
+returns-9 c = arm _ _ _ (labelIn command) (c .before .before .before .before .before .before .match .keys9) (c .before .before .labelled7 .ensures)
+
+same-length-10 : tie.Need-same-length-10
+same-length-10 c = search needs
 
 returns-10 : tie.Need-returns-10
-unfolding command labelOf
-returns-10 c = c .labelled8 .ensures ∙ entry (λ k. labelOf (getD (map (λ (f : Field). f .label) command) k [])) (c .before .before .before .match .keys10)
+unfolding command padded
+returns-10 c = arm _ _ _ (labelIn command) (c .before .before .before .before .before .before .match .keys10) (c .before .before .labelled8 .ensures)
+
+same-length-11 : tie.Need-same-length-11
+same-length-11 c = search needs
 
 returns-11 : tie.Need-returns-11
-unfolding command labelOf
-returns-11 c = c .labelled9 .ensures ∙ entry (λ k. labelOf (getD (map (λ (f : Field). f .label) command) k [])) (c .before .before .before .match .keys11)
+unfolding command padded
+returns-11 c = arm _ _ _ (labelIn command) (c .before .before .before .before .before .before .match .keys11) (c .before .before .labelled9 .ensures)
+
+same-length-12 : tie.Need-same-length-12
+same-length-12 c = search needs
 
 returns-12 : tie.Need-returns-12
-unfolding command labelOf
-returns-12 c = c .labelled10 .ensures ∙ entry (λ k. labelOf (getD (map (λ (f : Field). f .label) command) k [])) (c .before .before .before .match .keys12)
+unfolding command padded
+returns-12 c = arm _ _ _ (labelIn command) (c .before .before .before .before .before .before .match .keys12) (c .before .before .labelled10 .ensures)
+
+same-length-13 : tie.Need-same-length-13
+same-length-13 c = search needs
 
 returns-13 : tie.Need-returns-13
 unfolding command
-returns-13 c = c .no-label .ensures ∙ ap labelOf (no-arm [] (map (λ (f : Field). f .label) command) (c .before .before .args .k) (c .before .match .rest))
+returns-13 c = no-arm-in _ _ _ command (c .before .before .before .before .before .before .before .args .k) (c .before .before .before .before .match .rest) (c .before .before .no-label .ensures)
 
 pub command-label-spec : {M : Type 1} → statement M
 command-label-spec =
@@ -118,16 +153,29 @@ command-label-spec =
     labelled-requires-9
     labelled-requires-10
     no-label-requires
+    same-length
     returns
+    same-length-2
     returns-2
+    same-length-3
     returns-3
+    same-length-4
     returns-4
+    same-length-5
     returns-5
+    same-length-6
     returns-6
+    same-length-7
     returns-7
+    same-length-8
     returns-8
+    same-length-9
     returns-9
+    same-length-10
     returns-10
+    same-length-11
     returns-11
+    same-length-12
     returns-12
+    same-length-13
     returns-13)

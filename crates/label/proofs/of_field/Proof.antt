@@ -1,11 +1,10 @@
 -- Each arm is the table of its layout.
-use Rattle.layout.proofs.Arms.{of-layout}
+use Rattle.label.proofs.Arms.{found}
 use Rattle.label.proofs.of_field.Statement.{statement}
 use Rattle.label.proofs.of_field.Tie as tie
-use Rattle.label.specs.Labels.{labelOf}
+use Rattle.layout.proofs.Arms.{of-layout}
 use Rattle.layout.specs.Layouts.{labelAt}
 use borrow.Author.Needs.{needs}
-use mathlib.Core.Path.{_∙_}
 
 enum-told : tie.Need-enum-told
 enum-told c = search needs
@@ -67,35 +66,65 @@ enum-told-10 c = search needs
 qr-label-requires : tie.Need-qr-label-requires
 qr-label-requires c κs = search needs
 
+same-length : tie.Need-same-length
+same-length c = search needs
+
 returns : tie.Need-returns
-returns c = c .market-label .ensures ∙ of-layout (λ l. labelOf (labelAt l (c .before .before .before .args .k))) (c .before .enum-told .given .1)
+returns c = found _ _ _ (of-layout (λ l. labelAt l (c .before .before .before .before .before .before .before .before .args .k)) (c .before .before .before .before .enum-told .given .1)) (c .before .before .market-label .ensures)
+
+same-length-2 : tie.Need-same-length-2
+same-length-2 c = search needs
 
 returns-2 : tie.Need-returns-2
-returns-2 c = c .mfrr-label .ensures ∙ of-layout (λ l. labelOf (labelAt l (c .before .before .before .args .k))) (c .before .enum-told2 .given .1)
+returns-2 c = found _ _ _ (of-layout (λ l. labelAt l (c .before .before .before .before .before .before .before .before .args .k)) (c .before .before .before .before .enum-told2 .given .1)) (c .before .before .mfrr-label .ensures)
+
+same-length-3 : tie.Need-same-length-3
+same-length-3 c = search needs
 
 returns-3 : tie.Need-returns-3
-returns-3 c = c .rc-label .ensures ∙ of-layout (λ l. labelOf (labelAt l (c .before .before .before .args .k))) (c .before .enum-told3 .given .1)
+returns-3 c = found _ _ _ (of-layout (λ l. labelAt l (c .before .before .before .before .before .before .before .before .args .k)) (c .before .before .before .before .enum-told3 .given .1)) (c .before .before .rc-label .ensures)
+
+same-length-4 : tie.Need-same-length-4
+same-length-4 c = search needs
 
 returns-4 : tie.Need-returns-4
-returns-4 c = c .mg-label .ensures ∙ of-layout (λ l. labelOf (labelAt l (c .before .before .before .args .k))) (c .before .enum-told4 .given .1)
+returns-4 c = found _ _ _ (of-layout (λ l. labelAt l (c .before .before .before .before .before .before .before .before .args .k)) (c .before .before .before .before .enum-told4 .given .1)) (c .before .before .mg-label .ensures)
+
+same-length-5 : tie.Need-same-length-5
+same-length-5 c = search needs
 
 returns-5 : tie.Need-returns-5
-returns-5 c = c .eb-label .ensures ∙ of-layout (λ l. labelOf (labelAt l (c .before .before .before .args .k))) (c .before .enum-told5 .given .1)
+returns-5 c = found _ _ _ (of-layout (λ l. labelAt l (c .before .before .before .before .before .before .before .before .args .k)) (c .before .before .before .before .enum-told5 .given .1)) (c .before .before .eb-label .ensures)
+
+same-length-6 : tie.Need-same-length-6
+same-length-6 c = search needs
 
 returns-6 : tie.Need-returns-6
-returns-6 c = c .lb-label .ensures ∙ of-layout (λ l. labelOf (labelAt l (c .before .before .before .args .k))) (c .before .enum-told6 .given .1)
+returns-6 c = found _ _ _ (of-layout (λ l. labelAt l (c .before .before .before .before .before .before .before .before .args .k)) (c .before .before .before .before .enum-told6 .given .1)) (c .before .before .lb-label .ensures)
+
+same-length-7 : tie.Need-same-length-7
+same-length-7 c = search needs
 
 returns-7 : tie.Need-returns-7
-returns-7 c = c .sr-label .ensures ∙ of-layout (λ l. labelOf (labelAt l (c .before .before .before .args .k))) (c .before .enum-told7 .given .1)
+returns-7 c = found _ _ _ (of-layout (λ l. labelAt l (c .before .before .before .before .before .before .before .before .args .k)) (c .before .before .before .before .enum-told7 .given .1)) (c .before .before .sr-label .ensures)
+
+same-length-8 : tie.Need-same-length-8
+same-length-8 c = search needs
 
 returns-8 : tie.Need-returns-8
-returns-8 c = c .vq-label .ensures ∙ of-layout (λ l. labelOf (labelAt l (c .before .before .before .args .k))) (c .before .enum-told8 .given .1)
+returns-8 c = found _ _ _ (of-layout (λ l. labelAt l (c .before .before .before .before .before .before .before .before .args .k)) (c .before .before .before .before .enum-told8 .given .1)) (c .before .before .vq-label .ensures)
+
+same-length-9 : tie.Need-same-length-9
+same-length-9 c = search needs
 
 returns-9 : tie.Need-returns-9
-returns-9 c = c .ri-label .ensures ∙ of-layout (λ l. labelOf (labelAt l (c .before .before .before .args .k))) (c .before .enum-told9 .given .1)
+returns-9 c = found _ _ _ (of-layout (λ l. labelAt l (c .before .before .before .before .before .before .before .before .args .k)) (c .before .before .before .before .enum-told9 .given .1)) (c .before .before .ri-label .ensures)
+
+same-length-10 : tie.Need-same-length-10
+same-length-10 c = search needs
 
 returns-10 : tie.Need-returns-10
-returns-10 c = c .qr-label .ensures ∙ of-layout (λ l. labelOf (labelAt l (c .before .before .before .args .k))) (c .before .enum-told10 .given .1)
+returns-10 c = found _ _ _ (of-layout (λ l. labelAt l (c .before .before .before .before .before .before .before .before .args .k)) (c .before .before .before .before .enum-told10 .given .1)) (c .before .before .qr-label .ensures)
 
 pub of-field-spec : {M : Type 1} → statement M
 of-field-spec =
@@ -121,13 +150,23 @@ of-field-spec =
     ri-label-requires
     enum-told-10
     qr-label-requires
+    same-length
     returns
+    same-length-2
     returns-2
+    same-length-3
     returns-3
+    same-length-4
     returns-4
+    same-length-5
     returns-5
+    same-length-6
     returns-6
+    same-length-7
     returns-7
+    same-length-8
     returns-8
+    same-length-9
     returns-9
+    same-length-10
     returns-10)

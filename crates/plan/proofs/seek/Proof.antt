@@ -1,18 +1,19 @@
--- One loop over the rows: what is read so far, and what the rest gives below it, is the plan.
+-- One loop over the rows: what is read so far, and what the rest gives below it, is the plan. (r is the place where a row was read.)
 use Prim.Native.Nat.{_-_}
-use Rattle.plan.proofs.Walks.{Sofar, empty, begin, finish, too-many, bad-line, next-row}
+use Rattle.plan.proofs.Walks.{Sofar, empty, begin, finish, too-many, bad-line, unit-inside, row-inside, next-row}
 use Rattle.plan.proofs.seek.Statement.{statement}
 use Rattle.plan.proofs.seek.Tie as tie
 use borrow.Author.Needs.{needs}
 use lib.ListN.{length}
-use mathlib.Core.Path.{_≡_, refl}
+use mathlib.Core.Logic.{inl, inr, ⊎-elim}
+use mathlib.Core.Path.{_≡_, refl, _∙_}
 use native.Mathlib.Omega.{arith}
 
 abbrev Inv-loop : tie.InvT-loop
-Inv-loop plan ca ioa addresses₀ count₀ found₀ rest₀ addresses count found rest = (length addresses ≡ 64) × Sofar plan ca ioa addresses count found rest
+Inv-loop plan ca ioa sought keys₀ count₀ found₀ rest₀ keys count found rest = (length keys ≡ 64) × Sofar plan ca ioa keys count found rest
 
 abbrev μ-loop : tie.MeasureT-loop
-μ-loop plan ca ioa addresses₀ count₀ found₀ rest₀ addresses count found rest = 64 - count
+μ-loop plan ca ioa sought keys₀ count₀ found₀ rest₀ keys count found rest = 64 - count
 
 refused-requires : tie.Need-refused-requires Inv-loop μ-loop
 refused-requires c κs = search needs
@@ -20,11 +21,14 @@ refused-requires c κs = search needs
 returns : tie.Need-returns Inv-loop μ-loop
 returns c = empty _ _ _ _ (c .before .if1 .taken) (c .refused .ensures)
 
+sought-key-requires : tie.Need-sought-key-requires Inv-loop μ-loop
+sought-key-requires c κs = search needs
+
 refused-requires-2 : tie.Need-refused-requires-2 Inv-loop μ-loop
 refused-requires-2 c κs = search needs
 
 loop-holds : tie.Need-loop-holds Inv-loop μ-loop
-loop-holds c = (refl, begin _ _ _ _ _ (c .before .if1 .left) (c .refused2 .ensures))
+loop-holds c = (refl, begin _ _ _ _ _ (c .before .before .if1 .left) (c .refused2 .ensures))
 
 mul-line : tie.Need-mul-line Inv-loop μ-loop
 mul-line c = search needs
@@ -37,6 +41,15 @@ refused-requires-3 c κs = search needs
 
 returns-2 : tie.Need-returns-2 Inv-loop μ-loop
 returns-2 c = too-many _ _ _ _ _ _ _ (c .before .before .before .loop .inv .1) (c .before .before .loop-test .taken) _ (c .before .if2 .taken) (c .refused3 .ensures)
+
+sub-row-at : tie.Need-sub-row-at Inv-loop μ-loop
+sub-row-at c = search needs
+
+part-row-at-start : tie.Need-part-row-at-start Inv-loop μ-loop
+part-row-at-start c = search needs
+
+part-row-at-end : tie.Need-part-row-at-end Inv-loop μ-loop
+part-row-at-end c = search needs
 
 row-at-requires : tie.Need-row-at-requires Inv-loop μ-loop
 row-at-requires c κs = search needs
@@ -56,25 +69,37 @@ refused-requires-4 c κs = search needs
 returns-3 : tie.Need-returns-3 Inv-loop μ-loop
 returns-3 c =
     let r = c .before .before .before .before in
-    bad-line _ _ _ _ _ _ _ (r .before .before .before .loop .inv .1) (r .before .before .loop-test .taken) _ (r .before .if2 .left) (r .row-at .ensures) _ _ (c .before .before .k .given .1) (c .refused4 .ensures)
+    bad-line _ _ _ _ _ _ _ (r .before .before .before .before .before .loop .inv .1) (r .before .before .before .before .loop-test .taken) _ (r .before .before .before .if2 .left) (r .row-at .ensures) _ _ (c .before .before .k .given .1) (c .refused4 .ensures)
 
 enum-known-e : tie.Need-enum-known-e Inv-loop μ-loop
 enum-known-e c = search needs
 
-look-requires : tie.Need-look-requires Inv-loop μ-loop
-look-requires c κs = search needs
+found-in-requires : tie.Need-found-in-requires Inv-loop μ-loop
+found-in-requires c κs =
+    let r = c .before .before .before .before .before in
+    unit-inside _ _ _ _ _ _ _ (r .before .before .before .before .before .loop .inv .1) (r .before .before .before .before .loop-test .taken) _ (r .before .before .before .if2 .left) (r .row-at .ensures) _ (c .before .before .before .e .given .1)
 
-mul-addresses : tie.Need-mul-addresses Inv-loop μ-loop
-mul-addresses c = search needs
+mul-keys : tie.Need-mul-keys Inv-loop μ-loop
+mul-keys c = search needs
 
-array-set-from-addresses : tie.Need-array-set-from-addresses Inv-loop μ-loop
-array-set-from-addresses c = search needs
+array-write-keys : tie.Need-array-write-keys Inv-loop μ-loop
+array-write-keys c = search needs
 
 add-count : tie.Need-add-count Inv-loop μ-loop
 add-count c = search needs
 
-below-row-requires : tie.Need-below-row-requires Inv-loop μ-loop
-below-row-requires c κs = search needs
+sub-next : tie.Need-sub-next Inv-loop μ-loop
+sub-next c =
+    let r = c .before .before .before .before .before in
+    row-inside _ _ _ _ _ _ _ (r .before .before .before .before .before .loop .inv .1) (r .before .before .before .before .loop-test .taken) _ (r .before .before .before .if2 .left) (r .row-at .ensures) _ (c .before .before .before .e .given .1)
+
+part-next-start : tie.Need-part-next-start Inv-loop μ-loop
+part-next-start c =
+    let r = c .before .before .before .before .before in
+    row-inside _ _ _ _ _ _ _ (r .before .before .before .before .before .loop .inv .1) (r .before .before .before .before .loop-test .taken) _ (r .before .before .before .if2 .left) (r .row-at .ensures) _ (c .before .before .before .e .given .1)
+
+part-next-end : tie.Need-part-next-end Inv-loop μ-loop
+part-next-end c = search needs
 
 loop-less : tie.Need-loop-less Inv-loop μ-loop
 loop-less c = search needs
@@ -82,7 +107,7 @@ loop-less c = search needs
 loop-again : tie.Need-loop-again Inv-loop μ-loop
 loop-again c =
     let r = c .before .before .before .before .before .before in
-    (search needs, next-row _ _ _ _ _ _ _ (r .before .before .before .loop .inv .1) (r .before .before .loop-test .taken) _ (r .before .if2 .left) (r .row-at .ensures) _ _ _ (omega arith) (c .before .look .ensures) (c .below-row .ensures) (c .before .before .before .before .e .given .1))
+    (search needs, next-row _ _ _ _ _ _ _ (r .before .before .before .before .before .loop .inv .1) (r .before .before .before .before .loop-test .taken) _ (r .before .before .before .if2 .left) (r .row-at .ensures) _ (c .before .before .before .before .e .given .1) _ _ (r .before .before .before .before .before .before .before .sought-key .ensures) (⊎-elim (λ w. inl (w .0 .taken, w .2 ∙ w .1 .ensures)) (λ w. inr (w .0 .left, w .1)) (c .before .if3 .came)) (omega arith))
 
 returns-4 : tie.Need-returns-4 Inv-loop μ-loop
 returns-4 c = finish _ _ _ _ _ _ _ (c .before .loop .inv .1) (c .loop-test .left)
@@ -95,12 +120,16 @@ seek-spec =
     μ-loop
     refused-requires
     returns
+    sought-key-requires
     refused-requires-2
     loop-holds
     mul-line
     add-line
     refused-requires-3
     returns-2
+    sub-row-at
+    part-row-at-start
+    part-row-at-end
     row-at-requires
     enum-known-k
     cast-refused
@@ -108,11 +137,13 @@ seek-spec =
     refused-requires-4
     returns-3
     enum-known-e
-    look-requires
-    mul-addresses
-    array-set-from-addresses
+    found-in-requires
+    mul-keys
+    array-write-keys
     add-count
-    below-row-requires
+    sub-next
+    part-next-start
+    part-next-end
     loop-less
     loop-again
     returns-4)

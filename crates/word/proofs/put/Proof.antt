@@ -1,37 +1,32 @@
--- The bytes that are put are the word.
-use Rattle.word.proofs.Texts.{few, in-room, counted, text-put}
+-- The word stands in the buffer, and its length was answered.
+use Rattle.word.proofs.Arms.{size-is}
+use Rattle.word.proofs.RoundTrip.{word-short}
 use Rattle.word.proofs.put.Statement.{statement}
 use Rattle.word.proofs.put.Tie as tie
+use Rattle.word.specs.Words.{word}
 use borrow.Author.Needs.{needs}
+use mathlib.Core.List.{[]}
 use native.Mathlib.Omega.{arith}
 
-word-text-requires : tie.Need-word-text-requires
-word-text-requires c κs = search needs
+slice-aggregate-spell : tie.Need-slice-aggregate-spell
+slice-aggregate-spell c = search needs
 
-array-share-prefix-bytes : tie.Need-array-share-prefix-bytes
-array-share-prefix-bytes c = in-room _ _ (c .before .before .word-text .ensures)
+spell-requires : tie.Need-spell-requires
+spell-requires c κs = search needs
 
-slice-aggregate-put-text : tie.Need-slice-aggregate-put-text
-slice-aggregate-put-text c = counted _ _ (c .before .before .before .word-text .ensures)
-
-put-text-requires : tie.Need-put-text-requires
-put-text-requires c κs =
-    let e = c .before .before .before .word-text .ensures in
-    omega (arith, few _ _ e, counted _ _ e)
+add-result : tie.Need-add-result
+add-result c =
+    let w = c .before .before .before .before .before .before .before .args .w in
+    omega (arith, size-is (word w) [] (c .before .before .before .spell .ensures .0), word-short w)
 
 same-length : tie.Need-same-length
 same-length c = search needs
 
 returns : tie.Need-returns
-returns c = text-put _ _ (c .before .before .before .before .before .before .word-text .ensures) _ _ _ _ (c .before .before .put-text .ensures)
+returns c =
+    let w = c .before .before .before .before .before .before .before .args .w in
+    let e = c .before .before .before .spell .ensures in
+    (omega (arith, size-is (word w) [] (e .0)), e .1)
 
 pub put-spec : {M : Type 1} → statement M
-put-spec =
-    tie.close
-    (tie.spec
-    word-text-requires
-    array-share-prefix-bytes
-    slice-aggregate-put-text
-    put-text-requires
-    same-length
-    returns)
+put-spec = tie.close (tie.spec slice-aggregate-spell spell-requires add-result same-length returns)

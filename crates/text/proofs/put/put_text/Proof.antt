@@ -1,29 +1,35 @@
--- What is put, with the bytes that are left put after it, is the whole text put.
-use Prim.Native.Nat.{_+_, _-_, _≤_, _<_}
+-- What is put, with the bytes that are left put after it, is the whole text put; where no room is left, they change nothing.
+use Prim.Native.Nat.{_+_, _-_, _≤_}
 use Rattle.text.proofs.Runs.{text-step, text-end}
 use Rattle.text.proofs.put.put_text.Statement.{statement}
 use Rattle.text.proofs.put.put_text.Tie as tie
-use Rattle.text.specs.Puts.{limit}
 use borrow.Author.Needs.{needs}
-use lib.ListN.{length, drop}
+use lib.ListN.{length, getD, drop, length-set}
 use lib.Seq.{sets}
 use mathlib.Core.Path.{_≡_, refl, sym, _∙_}
+use native.Mathlib.Nat.{add-zero}
 use native.Mathlib.Omega.{arith}
 
 abbrev Inv-loop : tie.InvT-loop
-Inv-loop out₀ at t p₀ i₀ out p i = (i ≤ length t) × (p ≡ at + i) × (at + length t < limit) × (length out ≡ length out₀) × (sets out p (drop i t) ≡ sets out₀ at t)
+Inv-loop out₀ at t n i₀ out i = (i ≤ n) × (length out ≡ length out₀) × (sets out (at + i) (drop i t) ≡ sets out₀ at t)
 
 abbrev μ-loop : tie.MeasureT-loop
-μ-loop out₀ at t p₀ i₀ out p i = length t - i
+μ-loop out₀ at t n i₀ out i = n - i
+
+room-for-requires : tie.Need-room-for-requires Inv-loop μ-loop
+room-for-requires c κs = search needs
 
 loop-holds : tie.Need-loop-holds Inv-loop μ-loop
-loop-holds c = (omega arith, omega arith, omega arith, refl, refl)
+loop-holds c = (omega arith, refl, rw add-zero)
 
-shared-slice-read-put-byte : tie.Need-shared-slice-read-put-byte Inv-loop μ-loop
-shared-slice-read-put-byte c = search needs
+shared-slice-read-out : tie.Need-shared-slice-read-out Inv-loop μ-loop
+shared-slice-read-out c = search needs
 
-put-byte-requires : tie.Need-put-byte-requires Inv-loop μ-loop
-put-byte-requires c κs = search needs
+add-out : tie.Need-add-out Inv-loop μ-loop
+add-out c = search needs
+
+slice-write-out : tie.Need-slice-write-out Inv-loop μ-loop
+slice-write-out c = search needs
 
 add-i : tie.Need-add-i Inv-loop μ-loop
 add-i c = search needs
@@ -33,20 +39,21 @@ loop-less c = search needs
 
 loop-again : tie.Need-loop-again Inv-loop μ-loop
 loop-again c =
-    let l = c .before .before .before .before .before .before .loop in
-    let b = c .before .before .put-byte in (
-      omega arith,
-      omega (arith, b .ensures .0),
-      omega arith,
-      b .kept .0 ∙ l .inv .3,
-      text-step _ _ _ _ _ _ (c .before .before .before .before .before .loop-test .taken) (b .ensures .0) (b .ensures .1) ∙ l .inv .4,
-    )
+    let l = c .before .before .loop in
+    let a = c .before .before .before .before .before .before .before .args in
+    (omega arith, length-set (l .out) (a .at + l .i) (getD (a .t .now) (l .i) 0) ∙ l .inv .1, text-step (l .out) _ (a .at + l .i) _ (a .t .now) (l .i) (omega arith) (omega arith) refl ∙ l .inv .2)
+
+add-result : tie.Need-add-result Inv-loop μ-loop
+add-result c = search needs
 
 same-length : tie.Need-same-length Inv-loop μ-loop
 same-length c = search needs
 
 returns : tie.Need-returns Inv-loop μ-loop
-returns c = (omega arith, sym (text-end _ _ _ _ (c .loop-test .left)) ∙ c .before .loop .inv .4)
+returns c =
+    let l = c .before .loop in
+    let a = c .before .before .before .before .before .before .args in
+    (refl, sym (text-end (l .out) (a .at) (a .t .now) (l .i) (omega arith)) ∙ l .inv .2)
 
 pub put-text-spec : {M : Type 1} → statement M
 put-text-spec =
@@ -54,11 +61,14 @@ put-text-spec =
     (tie.spec
     Inv-loop
     μ-loop
+    room-for-requires
     loop-holds
-    shared-slice-read-put-byte
-    put-byte-requires
+    shared-slice-read-out
+    add-out
+    slice-write-out
     add-i
     loop-less
     loop-again
+    add-result
     same-length
     returns)

@@ -1,67 +1,24 @@
--- The whole texts are the same where the rests are.
-use Prim.Native.Nat.{_-_, _≤_, _<_}
-use Rattle.text.proofs.Cuts.{same-lengths, same-here, same-on, same-end}
+-- Of one length, they are the same where as many first bytes of both are.
+use Rattle.text.proofs.Cuts.{same-lengths}
 use Rattle.text.proofs.scan.same.Statement.{statement}
 use Rattle.text.proofs.scan.same.Tie as tie
 use Rattle.text.specs.Bytes.{same}
 use borrow.Author.Needs.{needs}
-use lib.ListN.{length, drop}
-use mathlib.Core.Path.{_≡_, sym, _∙_}
+use lib.ListN.{length}
+use lib.Seq.{take-all, take-length}
+use mathlib.Core.Path.{ap₂, _∙_}
 use native.Mathlib.Omega.{arith}
 
-abbrev Inv-loop : tie.InvT-loop
-Inv-loop a b i₀ i = (i ≤ length a) × (same a b ≡ same (drop i a) (drop i b))
-
-abbrev μ-loop : tie.MeasureT-loop
-μ-loop a b i₀ i = length a - i
-
-returns : tie.Need-returns Inv-loop μ-loop
+returns : tie.Need-returns
 returns c = same-lengths _ _ (c .if1 .taken)
 
-loop-holds : tie.Need-loop-holds Inv-loop μ-loop
-loop-holds c = search needs
+alike-requires : tie.Need-alike-requires
+alike-requires c κs = search needs
 
-shared-slice-read-if2 : tie.Need-shared-slice-read-if2 Inv-loop μ-loop
-shared-slice-read-if2 c = search needs
-
-shared-slice-read-if2-2 : tie.Need-shared-slice-read-if2-2 Inv-loop μ-loop
-shared-slice-read-if2-2 c = search needs
-
-returns-2 : tie.Need-returns-2 Inv-loop μ-loop
+returns-2 : tie.Need-returns-2
 returns-2 c =
-    let l = c .before .before .before .before in
-    let k : l .loop .i < length (l .before .before .args .b .now) = omega arith in
-    sym (l .loop .inv .1 ∙ same-here _ _ _ (c .before .before .before .loop-test .taken) k (c .if2 .taken))
-
-add-i : tie.Need-add-i Inv-loop μ-loop
-add-i c = search needs
-
-loop-less : tie.Need-loop-less Inv-loop μ-loop
-loop-less c = search needs
-
-loop-again : tie.Need-loop-again Inv-loop μ-loop
-loop-again c =
-    let l = c .before .before .before .before in
-    let k : l .loop .i < length (l .before .before .args .b .now) = omega arith in
-    (omega arith, l .loop .inv .1 ∙ same-on _ _ _ (c .before .before .before .loop-test .taken) k (c .if2 .left))
-
-returns-3 : tie.Need-returns-3 Inv-loop μ-loop
-returns-3 c =
-    let l = c .before in
-    sym (l .loop .inv .1 ∙ same-end _ _ _ (c .loop-test .left) (l .before .if1 .left))
+    let a = c .before .before .before .before .args in
+    c .alike .ensures ∙ ap₂ same (take-length (a .a .now)) (take-all (length (a .a .now)) (a .b .now) (omega arith))
 
 pub same-spec : {M : Type 1} → statement M
-same-spec =
-    tie.close
-    (tie.spec
-    Inv-loop
-    μ-loop
-    returns
-    loop-holds
-    shared-slice-read-if2
-    shared-slice-read-if2-2
-    returns-2
-    add-i
-    loop-less
-    loop-again
-    returns-3)
+same-spec = tie.close (tie.spec returns alike-requires returns-2)

@@ -1,0 +1,114 @@
+-- What demand 1 says of refusals: whose number and detail they give, and that they leave the output as it was. Assumes nothing.
+use Prim.Native.Nat.{ℕ, _+_, _≤_, _<_}
+use Rattle.brief.proofs.Sizes.{six-length}
+use Rattle.brief.specs.Brief.{sixLines}
+use Rattle.demands.specs.Demand1.{isReaders, Leaves}
+use Rattle.gateway.specs.Entry.{lengthOr11, codeOf, outOf}
+use Rattle.plan.specs.Rows.{planOf, soughtOf}
+use Rattle.reader.proofs.Firsts.{Given, given-first, numbers}
+use Rattle.reader.specs.Reader.{valued, labelled, reading, bodyIn, planned, answerAt, readOf}
+use Rattle.reader.specs.Refusals.{Refusal, answer}
+use Rattle.reader.specs.declared.Answer.{Answer}
+use Rattle.reading.proofs.Validity.{read-valid}
+use Rattle.record.specs.Records.{zeroRecord}
+use Rattle.record.specs.declared.Record.{Record}
+use Rattle.roundtrip.proofs.RoundTrip.{small-file}
+use Rattle.text.proofs.Tests.{by-test, eqb-tells, _and_, and-parts}
+use Rattle.text.specs.Bytes.{all}
+use Rattle.text.specs.Puts.{bufferOf}
+use Rattle.valid.specs.Valid.{Valid}
+use Rattle.validity.proofs.Decides.{valid-tells}
+use Rattle.validity.specs.Validity.{isSized, isValid}
+use Rattle.writer.specs.Writer.{fitted, writeOf, leftBy, normaliseOf, normalLeft}
+use Rattle.writer.specs.declared.Written.the-variants.{Length, Refused}
+use Rattle.written.specs.Written.{fileOf}
+use borrow.Author.Tests.{eqb-true, leb-false, lt-leb}
+use lib.Dec.{eqb, leb}
+use lib.ListN.{length}
+use mathlib.Core.Bool.{Bool, true}
+use mathlib.Core.List.{List, [], _∷_}
+use mathlib.Core.Path.{_≡_, refl, ap}
+use native.Mathlib.Omega.{arith}
+
+-- ---- the reader's refusals
+
+-- what holds of 0 and of every number of a list holds of the answer's
+number-of : (p : ℕ → Bool) (rs : List Refusal) (r : Record) → p 0 ≡ true → all (λ (x : Refusal). p (x .number)) rs ≡ true → p (answer rs r .number) ≡ true
+unfolding answer all
+number-of p [] r z h = z
+number-of p (x ∷ xs) r z h =
+    let c = and-parts (p (x .number)) (all (λ (y : Refusal). p (y .number)) xs) h in
+    by-test (x .holds) (λ e. rw e (c .0)) (λ e. rw e (number-of p xs r z (c .1)))
+
+pub readers-number : (ca ioa : ℕ) (plan file : List ℕ) → isReaders (readOf ca ioa plan file .number) ≡ true
+unfolding readOf answerAt planned reading labelled valued all
+readers-number ca ioa plan file =
+    let s = soughtOf ca ioa (planOf plan) in
+    number-of isReaders (planned s file) (bodyIn (s .kind) file) refl refl
+
+module _ (ca ioa : ℕ) (plan file : List ℕ) (refused : readOf ca ioa plan file .number ≡ 0 → ⊥) where
+  pub refused-first : Given (planned (soughtOf ca ioa (planOf plan)) file) (readOf ca ioa plan file)
+  unfolding readOf answerAt
+  refused-first =
+      let s = soughtOf ca ioa (planOf plan) in
+      given-first (planned s file) (bodyIn (s .kind) file) (numbers s file) refused
+
+  pub refused-file : readOf ca ioa plan file .body ≡ zeroRecord
+  refused-file = ap (λ (a : Answer). a .body) (refused-first .says)
+
+-- ---- an output in which a text has no room
+
+no-room : (t out : List ℕ) → length out < length t → bufferOf out 0 t ≡ out
+unfolding bufferOf
+no-room t out h = let z : length out < 0 + length t = omega arith in rw (lt-leb (0 + length t) (length out) z)
+
+unfit-left : (t out : List ℕ) (n d : ℕ) → fitted t (length out) ≡ Refused n d → bufferOf out 0 t ≡ out
+unfolding fitted
+unfit-left t out n d h =
+    by-test (leb (length t) (length out))
+    (λ e. let no : Length (length t) ≡ Refused n d = rw e at h in cc)
+    (λ e. no-room t out (leb-false (length t) (length out) e))
+
+-- ---- the writer and the normaliser
+
+pub refused-write : (r : Record) (out : List ℕ) (n d : ℕ) → writeOf r (length out) ≡ Refused n d → leftBy r out ≡ out
+unfolding writeOf leftBy
+refused-write r out n d h = by-test (isValid r) (λ e. rw e (unfit-left (fileOf r) out n d (rw e at h))) (λ e. rw e)
+
+pub left-normal : (a : Answer) (out : List ℕ) (n d : ℕ) → normaliseOf a (length out) ≡ Refused n d → normalLeft a out ≡ out
+unfolding normaliseOf normalLeft
+left-normal a out n d h = by-test (eqb (a .number) 0) (λ e. rw e (unfit-left (fileOf (a .body)) out n d (rw e at h))) (λ e. rw e)
+
+-- ---- the entries: a length that is written is small, so that no success looks like a refusal
+
+module _ (text : Record → List ℕ) (small : (r : Record) → Valid r → length (text r) < 65536) where
+  small-left : (t out : List ℕ) → length t < 65536 → 65536 ≤ lengthOr11 t (length out) → bufferOf out 0 t ≡ out
+  unfolding lengthOr11
+  small-left t out s h =
+      by-test (leb (length t) (length out))
+      (λ e. let no : 65536 ≤ length t = rw e at h in absurd (omega arith))
+      (λ e. no-room t out (leb-false (length t) (length out) e))
+
+  pub entry-leaves : Leaves text
+  unfolding codeOf outOf
+  entry-leaves ca ioa plan file out h =
+      let a = readOf ca ioa plan file in
+      by-test (eqb (a .number) 0)
+      (λ e. rw e (small-left (text (a .body)) out (small (a .body) (read-valid ca ioa plan file (eqb-true (a .number) 0 e))) (rw e at h)))
+      (λ e. rw e)
+
+unit-sized : (r : Record) → Valid r → length (r .unit) ≡ 16
+unfolding isValid isSized
+unit-sized r v =
+    let sized = and-parts (isSized r) _ (valid-tells r .1 v) .0 in
+    let p =
+    (eqb-tells (length (r .cells)) 26 and eqb-tells (length (r .unit)) 16 and eqb-tells (length (r .reason)) 128 and eqb-tells (length (r .note)) 256
+    and eqb-tells (length (r .gradients)) 16)
+    .0 sized in
+    p .0 .0 .0 .1
+
+pub read-leaves : Leaves sixLines
+read-leaves = entry-leaves sixLines (λ r v. omega (arith, six-length r (unit-sized r v)))
+
+pub normalise-leaves : Leaves fileOf
+normalise-leaves = entry-leaves fileOf (λ r v. omega (arith, small-file r v))

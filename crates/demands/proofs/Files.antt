@@ -1,0 +1,121 @@
+-- What demand 2 says of files, at any address of any plan. Assumes nothing.
+use Prim.Native.Nat.{ℕ, _+_, _≤_}
+use Rattle.demands.specs.Demand2.{address}
+use Rattle.lines.proofs.Order.{Perm}
+use Rattle.lines.specs.Entries.{again}
+use Rattle.name.specs.declared.MessageType.{MessageType}
+use Rattle.plan.specs.declared.Sought.{Sought}
+use Rattle.reader.proofs.Firsts.{NoneHolds, none, next, none-given, accepted-none, numbers}
+use Rattle.reader.specs.Messages.{given, rowIn, entriesIn}
+use Rattle.reader.specs.Reader.{bodyIn, messageOf, unitIn, planned, answerAt, readOf}
+use Rattle.reader.specs.Refusals.{Refusal, refused, answer}
+use Rattle.reader.specs.declared.Answer.{Answer}
+use Rattle.reading.proofs.Agreed.{Accepted, accepted}
+use Rattle.reading.proofs.Alike.{Sound, reordered}
+use Rattle.record.specs.declared.Record.{Record}
+use Rattle.roundtrip.proofs.RoundTrip.{planned-back, small-file}
+use Rattle.text.proofs.Tests.{or-parts}
+use Rattle.text.specs.Bytes.{any}
+use Rattle.text.specs.Puts.{bufferOf}
+use Rattle.valid.specs.Valid.{Valid}
+use Rattle.validity.proofs.Decides.{valid-tells}
+use Rattle.writer.specs.Writer.{fitted, writeOf, leftBy}
+use Rattle.writer.specs.declared.Written.the-variants.{Length}
+use Rattle.written.specs.Written.{fileOf}
+use borrow.Author.Tests.{le-leb}
+use lib.Dec.{eqb}
+use lib.ListN.{length, take, drop}
+use lib.Seq.{take-append-seam}
+use mathlib.Core.Bool.{false, cond}
+use mathlib.Core.List.{List, [], _∷_}
+use mathlib.Core.Logic.{_↔_}
+use mathlib.Core.Option.{none as nothing}
+use mathlib.Core.Path.{_≡_, refl, sym, ap, _∙_}
+use native.Mathlib.Omega.{arith}
+
+-- ---- accepted exactly where no refusal holds
+
+none-any : {rs : List Refusal} → NoneHolds rs → any (λ (r : Refusal). r .holds) rs ≡ false
+unfolding any
+none-any none = refl
+none-any (next e n) = rw e (none-any n)
+
+any-none : (rs : List Refusal) → any (λ (r : Refusal). r .holds) rs ≡ false → NoneHolds rs
+unfolding any
+any-none [] e = none
+any-none (x ∷ xs) e = let o = or-parts (x .holds) (any (λ (r : Refusal). r .holds) xs) e in next (o .0) (any-none xs (o .1))
+
+module _ (ca ioa : ℕ) (plan file : List ℕ) where
+  no-refusal : readOf ca ioa plan file .number ≡ 0 → NoneHolds (planned (address ca ioa plan) file)
+  unfolding readOf answerAt
+  no-refusal h =
+      let s = address ca ioa plan in
+      accepted-none (planned s file) (bodyIn (s .kind) file) (numbers s file) h
+
+  pub accepted-exactly : readOf ca ioa plan file .number ≡ 0 ↔ any (λ (r : Refusal). r .holds) (planned (address ca ioa plan) file) ≡ false
+  unfolding readOf answerAt
+  accepted-exactly = (
+    λ h. none-any (no-refusal h),
+    λ e. ap (λ (a : Answer). a .number) (none-given (bodyIn (address ca ioa plan .kind) file) (any-none (planned (address ca ioa plan) file) e)),
+  )
+
+  pub its-record : readOf ca ioa plan file .number ≡ 0 → readOf ca ioa plan file .body ≡ bodyIn (address ca ioa plan .kind) file
+  unfolding readOf answerAt
+  its-record h = ap (λ (a : Answer). a .body) (none-given (bodyIn (address ca ioa plan .kind) file) (no-refusal h))
+
+-- ---- what is so of a message is so at an address
+
+-- where the address is refused both answers are that refusal
+pub at-same : (s : Sought) (f g : List ℕ) → messageOf (s .kind) (unitIn s) f ≡ messageOf (s .kind) (unitIn s) g → answerAt s f ≡ answerAt s g
+unfolding answerAt planned messageOf answer
+at-same s f g e = ap (λ (a : Answer). cond (eqb (s .number) 13) (refused 13 (s .detail)) (cond (eqb (s .number) 1) (refused 1 0) a)) e
+
+accepted-at : (s : Sought) (file : List ℕ) → answerAt s file .number ≡ 0 → NoneHolds (planned s file) → Accepted (s .kind) (unitIn s) file
+unfolding planned
+accepted-at s file h (next e (next d n)) = accepted (s .kind) (unitIn s) file (sym (ap (λ (a : Answer). a .number) (planned-back s file e d)) ∙ h)
+
+-- what acceptance says of a file at an address
+pub read-accepted : (ca ioa : ℕ) (plan file : List ℕ) → readOf ca ioa plan file .number ≡ 0 → Accepted (address ca ioa plan .kind) (unitIn (address ca ioa plan)) file
+unfolding readOf
+read-accepted ca ioa plan file h = accepted-at (address ca ioa plan) file h (no-refusal ca ioa plan file h)
+
+-- ---- in another order
+
+sound-of : {t : MessageType} {unit file : List ℕ} → Accepted t unit file → Sound file
+sound-of a = record { some-bytes = a .some-bytes; not-long = a .not-long; clean = a .clean; frame = a .frame }
+
+pub ordered : (ca ioa : ℕ) (plan f g : List ℕ) → Sound f → Sound g
+    → rowIn f ≡ rowIn g
+    → Perm (given f) (given g)
+    → again [] (entriesIn (address ca ioa plan .kind) f) ≡ nothing
+    → readOf ca ioa plan f ≡ readOf ca ioa plan g
+unfolding readOf
+ordered ca ioa plan f g sf sg row lines once =
+    let s = address ca ioa plan in
+    at-same s f g (reordered (s .kind) (unitIn s) f g sf sg row lines once)
+
+pub however : (ca ioa : ℕ) (plan f g : List ℕ)
+    → readOf ca ioa plan f .number ≡ 0
+    → Sound g
+    → rowIn g ≡ rowIn f
+    → Perm (given f) (given g)
+    → readOf ca ioa plan g ≡ readOf ca ioa plan f
+however ca ioa plan f g h sg row lines =
+    let a = read-accepted ca ioa plan f h in
+    sym (ordered ca ioa plan f g (sound-of a) sg (sym row) lines (a .once))
+
+-- ---- a valid record is written whole
+
+module _ (r : Record) (out : List ℕ) (v : Valid r) (room : 8192 ≤ length out) where
+  fits : length (fileOf r) ≤ length out
+  fits = omega (arith, small-file r v)
+
+  pub written-length : writeOf r (length out) ≡ Length (length (fileOf r))
+  unfolding writeOf fitted
+  written-length = rw (valid-tells r .1 v, le-leb (length (fileOf r)) (length out) fits)
+
+  pub written-bytes : take (length (fileOf r)) (leftBy r out) ≡ fileOf r
+  unfolding leftBy bufferOf
+  written-bytes =
+      let z : 0 + length (fileOf r) ≤ length out = omega (arith, fits) in
+      rw (valid-tells r .1 v, le-leb (0 + length (fileOf r)) (length out) z) (take-append-seam (fileOf r) (drop (0 + length (fileOf r)) out))

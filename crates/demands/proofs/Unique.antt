@@ -1,0 +1,196 @@
+-- THE THEOREMS on contracts: two answers that satisfy one are equal. Proved once of an equation, once of two, once of a text; then of each public function by
+-- name. Assumes nothing.
+use Prim.Native.Nat.{ℕ}
+use Rattle.book.proofs as book
+use Rattle.demands.specs.Calls.{Calls, Meets}
+use Rattle.demands.specs.Contracts.{Contracts}
+use Rattle.gateway.proofs as gateway
+use Rattle.reader.proofs as reader
+use Rattle.demands.specs.Shapes.{Determines}
+use Rattle.demands.specs.Within.{Within}
+use Rattle.text.proofs.Numerals.{length-text}
+use Rattle.validity.proofs as validity
+use Rattle.writer.proofs as writer
+use lib.ListN.{length}
+use mathlib.Core.List.{List}
+use mathlib.Core.Path.{_≡_, sym, ap, _∙_}
+
+module _ {E : Type 0} where
+  -- the result is what a definition gives
+  equation : {A : Type 0} (d : A) → Determines (λ (x : A). (e : E) × (x ≡ d))
+  equation d x y p q = p .1 ∙ sym (q .1)
+
+  -- and the buffer too
+  equations : {A : Type 0} (buffer : E → List ℕ) (d : A) (o : List ℕ)
+      → Determines (λ (x : A × List ℕ). (e : E) × (x .1 ≡ buffer e) × ((x .0 ≡ d) × (buffer e ≡ o)))
+  equations buffer d o x y p q = λ i. ((p .2 .0 ∙ sym (q .2 .0)) i, (p .1 ∙ p .2 .1 ∙ sym (q .2 .1) ∙ sym (q .1)) i)
+
+  -- the text of the result is what a definition gives
+  text-equation : {Z : Type 0} (text : Z → List ℕ) (d : List ℕ) → Determines (λ (t : List ℕ). (z : Z) × (e : E) × (t ≡ text z) × (text z ≡ d))
+  text-equation text d x y p q = p .2 ∙ p .3 ∙ sym (q .3) ∙ sym (q .2)
+
+pub calls : Calls
+calls =
+    record {
+      gateway-halimpung-read = (λ κs a. tt, λ κs a. equations _ _ _);
+      gateway-halimpung-normalise = (λ κs a. tt, λ κs a. equations _ _ _);
+      reader-read = (λ κs a. tt, λ κs a. equation _);
+      writer-write = (λ κs a. tt, λ κs a. equations _ _ _);
+      writer-normalise = (λ κs a. tt, λ κs a. equations _ _ _);
+      validity-is-valid = (λ κs a. tt, λ κs a. equation _);
+      rules-lowest-broken = (λ κs a. tt, λ κs a. equation _);
+      brief-of-record = (λ κs a. tt, λ κs a. equation _);
+      book-fresh = (λ κs a. tt, λ κs a. equation _);
+      book-command = (λ κs a. tt, λ κs a. equation _);
+      book-revoke = (λ κs a. tt, λ κs a. equation _);
+      book-close = (λ κs a. tt, λ κs a. equation _);
+      book-in-force = (λ κs a. tt, λ κs a. equation _);
+      times-start-up = (λ κs a. tt, λ κs a. text-equation _ _);
+      times-ramp = (λ κs a. tt, λ κs a. text-equation _ _);
+      times-locate = (λ κs a. tt, λ κs a. equation _);
+      times-refusal-of = (λ κs a. tt, λ κs a. equation _);
+      plan-seek = (λ κs a. tt, λ κs a. equation _);
+      report-hear = (λ κs a. tt, λ κs a. equation _);
+      report-print = (λ κs a. tt, λ κs a. equations _ _ _);
+      value-read-read = (λ κs a. tt, λ κs a. equation _);
+      render-write-value = (λ κs a. tt, λ κs a. equations _ _ _);
+      number-read = (λ κs a. tt, λ κs a. equation _);
+      date-read = (λ κs a. tt, λ κs a. equation _);
+      date-is-real = (λ κs a. tt, λ κs a. equation _);
+      date-instant = (λ κs a. tt, λ κs a. equation _);
+      date-is-before = (λ κs a. tt, λ κs a. equation _);
+      name-identifier-read = (λ κs a. tt, λ κs a. equation _);
+      name-sequence-read = (λ κs a. tt, λ κs a. equation _);
+      name-unit-is-unit = (λ κs a. tt, λ κs a. equation _);
+      name-code = (λ κs a. tt, λ κs a. equation _);
+      word-read = (λ κs a. tt, λ κs a. equation _);
+      list-few-read-profile = (λ κs a. tt, λ κs a. equation _);
+      list-few-read-bands = (λ κs a. tt, λ κs a. equation _);
+      list-triples-read = (λ κs a. tt, λ κs a. equation _);
+    }
+
+pub within : Within
+within =
+    record {
+      text-digits-is-digit = (λ κs a. tt, λ κs a. equation _);
+      text-digits-read-digits = λ κs a. equation _;
+      text-digits-pow10 = λ κs a. equation _;
+      -- its text is that of so many digits
+      text-digits-whole-size = λ κs a x y p q. sym (length-text x (a .0)) ∙ ap length (sym (p .1 .2) ∙ q .1 .2) ∙ length-text y (a .0);
+      text-digits-run = (λ κs a. tt, λ κs a. equation _);
+      text-put-put-byte = λ κs a. equations _ _ _;
+      text-put-put-text = λ κs a. equations _ _ _;
+      text-put-put-digits = λ κs a. equations _ _ _;
+      text-put-put-whole = λ κs a. equations _ _ _;
+      text-scan-same = (λ κs a. tt, λ κs a. equation _);
+      text-scan-starts = (λ κs a. tt, λ κs a. equation _);
+      text-scan-first = (λ κs a. tt, λ κs a. equation _);
+      text-scan-lead = (λ κs a. tt, λ κs a. equation _);
+      text-scan-body = (λ κs a. tt, λ κs a. equation _);
+      text-scan-trim = (λ κs a. tt, λ κs a. text-equation _ _);
+      text-scan-front = (λ κs a. tt, λ κs a. text-equation _ _);
+      text-scan-rest = (λ κs a. tt, λ κs a. text-equation _ _);
+      word-put = λ κs a. equations _ _ _;
+      date-put = λ κs a. equations _ _ _;
+      number-put = λ κs a. equations _ _ _;
+      name-unit-run = (λ κs a. tt, λ κs a. equation _);
+      name-identifier-put = λ κs a. equations _ _ _;
+      lines-plain-run = (λ κs a. tt, λ κs a. equation _);
+      lines-break-at = λ κs a. equation _;
+      lines-is-separator = (λ κs a. tt, λ κs a. equation _);
+      room-keep-unit = (λ κs a. tt, λ κs a. equation _);
+      room-keep-reason = (λ κs a. tt, λ κs a. equation _);
+      room-keep-note = (λ κs a. tt, λ κs a. equation _);
+      list-few-read = λ κs a. equation _;
+      list-few-put = λ κs a. equations _ _ _;
+      list-triples-put = λ κs a. equations _ _ _;
+      plan-keyed-line-of = (λ κs a. tt, λ κs a. equation _);
+      plan-keyed-value = (λ κs a. tt, λ κs a. text-equation _ _);
+      plan-keyed-below = (λ κs a. tt, λ κs a. text-equation _ _);
+      plan-keyed-whole = (λ κs a. tt, λ κs a. equation _);
+      plan-keyed-number = (λ κs a. tt, λ κs a. equation _);
+      render-put-value = λ κs a. equations _ _ _;
+      layout-type-of = (λ κs a. tt, λ κs a. equation _);
+      layout-of-type = (λ κs a. tt, λ κs a. equation _);
+      layout-size = (λ κs a. tt, λ κs a. equation _);
+      layout-row-size = (λ κs a. tt, λ κs a. equation _);
+      layout-row-field = λ κs a. equation _;
+      asked-is-filled = (λ κs a. tt, λ κs a. equation _);
+      asked-number-in = (λ κs a. tt, λ κs a. equation _);
+      asked-count-in = (λ κs a. tt, λ κs a. equation _);
+      asked-size-in = (λ κs a. tt, λ κs a. equation _);
+      asked-instant-in = (λ κs a. tt, λ κs a. equation _);
+      asked-amount-in = (λ κs a. tt, λ κs a. equation _);
+      asked-word-number = (λ κs a. tt, λ κs a. equation _);
+      asked-triples-in = (λ κs a. tt, λ κs a. equation _);
+      asked-not-negative = (λ κs a. tt, λ κs a. equation _);
+      label-of-field = λ κs a. equations _ _ _;
+      entry-is-label = (λ κs a. tt, λ κs a. equation _);
+      fit-holds = (λ κs a. tt, λ κs a. equation _);
+      fit-triples-are-none = (λ κs a. tt, λ κs a. equation _);
+      fit-triples-are-listed = (λ κs a. tt, λ κs a. equation _);
+      kind-of-field = (λ κs a. tt, λ κs a. equation _);
+      row-agrees = λ κs a. equation _;
+      banner-put = λ κs a. equations _ _ _;
+      record-zero = (λ κs a. tt, λ κs a. equation _);
+      record-field = λ κs a. equation _;
+      record-reason-field = (λ κs a. tt, λ κs a. equation _);
+      record-note-field = (λ κs a. tt, λ κs a. equation _);
+      record-gradients-field = (λ κs a. tt, λ κs a. equation _);
+      brief-end-field = (λ κs a. tt, λ κs a. equation _);
+      brief-of-values = (λ κs a. tt, λ κs a. equation _);
+      brief-put-number = λ κs a. equations _ _ _;
+      brief-put-lines = λ κs a. equations _ _ _;
+      fill-fill = λ κs a. equation _;
+      fill-text-at = λ κs a. text-equation _ _;
+      fill-triples-of = λ κs a. equation _;
+      fill-record-of = λ κs a. equation _;
+      voltvar-in-table = (λ κs a. tt, λ κs a. equation _);
+      rules-lowest-of = (λ κs a. tt, λ κs a. equation _);
+      order-is-command = (λ κs a. tt, λ κs a. equation _);
+      order-is-revocation = (λ κs a. tt, λ κs a. equation _);
+      order-of-record = λ κs a. equation _;
+      order-named-by = (λ κs a. tt, λ κs a. equation _);
+      order-is-live = (λ κs a. tt, λ κs a. equation _);
+      order-is-empty = (λ κs a. tt, λ κs a. equation _);
+      order-could-come = (λ κs a. tt, λ κs a. equation _);
+      reader-refuse = (λ κs a. tt, λ κs a. equation _);
+      report-put-record = λ κs a. equations _ _ _;
+      report-put-refusal = λ κs a. equations _ _ _;
+      report-put-answer = λ κs a. equations _ _ _;
+      compose-put-message = λ κs a. equations _ _ _;
+    }
+
+-- ---- what the contracts say, and that the code meets them
+
+pub contracts : Contracts
+contracts =
+    record {
+      halimpung-read = λ κs ca ioa plan file out z e h. h;
+      halimpung-normalise = λ κs ca ioa plan file out z e h. h;
+      read = λ κs ca ioa plan file z e h. h;
+      write = λ κs r out z e h. h;
+      normalise = λ κs ca ioa plan file out z e h. h;
+      is-valid = λ κs r z e h. h;
+      fresh = λ κs unit z e h. h;
+      commands = λ κs b r z e h. h;
+      revokes = λ κs b r z e h. h;
+      closes = λ κs b t z e h. h;
+      in-force = λ κs b t z e h. h;
+    }
+
+pub meets : Meets
+meets =
+    record {
+      gateway-halimpung-read = λ M. gateway.halimpung_read.Met.met;
+      gateway-halimpung-normalise = λ M. gateway.halimpung_normalise.Met.met;
+      reader-read = λ M. reader.read.Met.met;
+      writer-write = λ M. writer.write.Met.met;
+      writer-normalise = λ M. writer.normalise.Met.met;
+      validity-is-valid = λ M. validity.is_valid.Met.met;
+      book-fresh = λ M. book.fresh.Met.met;
+      book-command = λ M. book.Book.command.Met.met;
+      book-revoke = λ M. book.Book.revoke.Met.met;
+      book-close = λ M. book.Book.close.Met.met;
+      book-in-force = λ M. book.Book.in_force.Met.met;
+    }

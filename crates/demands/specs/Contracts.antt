@@ -1,0 +1,58 @@
+-- What the contracts of the calls say, by the definitions of which the demands speak: at the arguments by name, of the result z, and of e, the parameters at
+-- exit in order; κs are lifetimes. (`Learnt` is what the toolchain makes of a contract for its callers: Shapes.antt)
+use Prim.Native.Nat.{ℕ}
+use Rattle.book.proofs as book
+use Rattle.book.specs.Answers.{outcomeOf, freshOf, askedOf}
+use Rattle.book.specs.declared.Asked.{Asked}
+use Rattle.book.specs.declared.Book.{Book}
+use Rattle.book.specs.declared.Outcome.{Outcome}
+use Rattle.brief.specs.Brief.{sixLines}
+use Rattle.gateway.proofs as gateway
+use Rattle.gateway.specs.Entry.{codeOf, outOf}
+use Rattle.ledger.specs.Calls.{command, revoke, close}
+use Rattle.reader.proofs as reader
+use Rattle.reader.specs.Reader.{readOf}
+use Rattle.reader.specs.declared.Answer.{Answer}
+use Rattle.record.specs.declared.Record.{Record}
+use Rattle.validity.proofs as validity
+use Rattle.validity.specs.Validity.{isValid}
+use Rattle.writer.proofs as writer
+use Rattle.writer.specs.Writer.{writeOf, leftBy, normaliseOf, normalLeft}
+use Rattle.writer.specs.declared.Written.{Written}
+use Rattle.written.specs.Written.{fileOf}
+use denote.Ref.{RefT}
+use lib.ListN.{length}
+use mathlib.Core.Bool.{Bool}
+use mathlib.Core.List.{List}
+use mathlib.Core.Path.{_≡_}
+
+-- a slice that the caller lends: `now` has its bytes
+abbrev Slice : Type 0
+Slice = RefT (List ℕ)
+
+-- the reader's answer to what was lent
+abbrev to : ℕ → ℕ → Slice → Slice → Answer
+to ca ioa plan file = readOf ca ioa (plan .now) (file .now)
+
+pub record Contracts : Type 0 where
+  pub halimpung-read : (κs : _) (ca ioa : ℕ) (plan file out : Slice) (z : ℕ) (e : _)
+      → gateway.halimpung_read.Reads.Learnt κs (ca, (ioa, (plan, (file, (out, tt))))) z e
+      → (z ≡ codeOf sixLines (to ca ioa plan file) (length (out .now))) × (e .1 .1 .1 .1 .0 .now ≡ outOf sixLines (to ca ioa plan file) (out .now))
+  pub halimpung-normalise : (κs : _) (ca ioa : ℕ) (plan file out : Slice) (z : ℕ) (e : _)
+      → gateway.halimpung_normalise.Reads.Learnt κs (ca, (ioa, (plan, (file, (out, tt))))) z e
+      → (z ≡ codeOf fileOf (to ca ioa plan file) (length (out .now))) × (e .1 .1 .1 .1 .0 .now ≡ outOf fileOf (to ca ioa plan file) (out .now))
+  pub read : (κs : _) (ca ioa : ℕ) (plan file : Slice) (z : Answer) (e : _)
+      → reader.read.Reads.Learnt κs (ca, (ioa, (plan, (file, tt)))) z e
+      → z ≡ to ca ioa plan file
+  pub write : (κs : _) (r : Record) (out : Slice) (z : Written) (e : _)
+      → writer.write.Reads.Learnt κs (r, (out, tt)) z e
+      → (z ≡ writeOf r (length (out .now))) × (e .1 .0 .now ≡ leftBy r (out .now))
+  pub normalise : (κs : _) (ca ioa : ℕ) (plan file out : Slice) (z : Written) (e : _)
+      → writer.normalise.Reads.Learnt κs (ca, (ioa, (plan, (file, (out, tt))))) z e
+      → (z ≡ normaliseOf (to ca ioa plan file) (length (out .now))) × (e .1 .1 .1 .1 .0 .now ≡ normalLeft (to ca ioa plan file) (out .now))
+  pub is-valid : (κs : _) (r : Record) (z : Bool) (e : _) → validity.is_valid.Reads.Learnt κs (r, tt) z e → z ≡ isValid r
+  pub fresh : (κs : _) (unit : Slice) (z : Outcome) (e : _) → book.fresh.Reads.Learnt κs (unit, tt) z e → z ≡ freshOf (unit .now)
+  pub commands : (κs : _) (b : Book) (r : Record) (z : Outcome) (e : _) → book.Book.command.Reads.Learnt κs (b, (r, tt)) z e → z ≡ outcomeOf (command r) b
+  pub revokes : (κs : _) (b : Book) (r : Record) (z : Outcome) (e : _) → book.Book.revoke.Reads.Learnt κs (b, (r, tt)) z e → z ≡ outcomeOf (revoke r) b
+  pub closes : (κs : _) (b : Book) (t : ℕ) (z : Outcome) (e : _) → book.Book.close.Reads.Learnt κs (b, (t, tt)) z e → z ≡ outcomeOf (close t) b
+  pub in-force : (κs : _) (b : Book) (t : ℕ) (z : Asked) (e : _) → book.Book.in_force.Reads.Learnt κs (b, (t, tt)) z e → z ≡ askedOf t b

@@ -1,0 +1,56 @@
+-- Demand 1, sentence by sentence, over the definitions that the contracts name. (`Given`, a refusal that is the first of a list to hold, is in
+-- reader/proofs/Firsts.antt)
+use Prim.Native.Nat.{ℕ, _≤_, _<_}
+use Rattle.book.specs.Answers.{outcomeOf, askedOf}
+use Rattle.book.specs.declared.Book.{Book}
+use Rattle.brief.specs.Brief.{sixLines}
+use Rattle.demands.specs.Calls.{Calls, Meets}
+use Rattle.demands.specs.Contracts.{Contracts}
+use Rattle.gateway.specs.Entry.{codeOf, outOf}
+use Rattle.ledger.specs.Calls.{Call}
+use Rattle.plan.specs.Rows.{planOf, soughtOf}
+use Rattle.reader.proofs.Firsts.{Given}
+use Rattle.reader.specs.Reader.{planned, readOf}
+use Rattle.record.specs.Records.{zeroRecord}
+use Rattle.record.specs.declared.Record.{Record}
+use Rattle.writer.specs.Writer.{writeOf, leftBy, normaliseOf, normalLeft}
+use Rattle.writer.specs.declared.Written.the-variants.{Refused}
+use Rattle.written.specs.Written.{fileOf}
+use lib.Dec.{eqb, leb}
+use lib.ListN.{length}
+use mathlib.Core.Bool.{Bool, true, _||_}
+use mathlib.Core.List.{List}
+use mathlib.Core.Path.{_≡_}
+
+-- the numbers that the reader may answer: 0, and of document 01's list 13 and 1 to 10
+abbrev pub isReaders : ℕ → Bool
+isReaders n = eqb n 13 || leb n 10
+
+-- an entry for C that writes this text of a record leaves the output as it was, where its answer is a refusal: 65,536 or more
+abbrev pub Leaves : (Record → List ℕ) → Type 0
+Leaves text =
+    (ca ioa : ℕ) (plan file out : List ℕ) → 65536 ≤ codeOf text (readOf ca ioa plan file) (length out) → outOf text (readOf ca ioa plan file) out ≡ out
+
+pub record Demand1 : Type 2 where
+  -- "Every file, address, record and book put to us gets an answer": the code of each call meets its contract, and the contract says which answer
+  pub code : Meets
+  pub contracts : Contracts
+  -- "and no caller needs to have tested anything first.": no contract asks anything. (One answer at most satisfies it, so there is exactly one)
+  pub calls : Calls
+  -- the reader's answer has the number 0, or one of its list with a detail of 16 bits
+  pub answered : (ca ioa : ℕ) (plan file : List ℕ) → (isReaders (readOf ca ioa plan file .number) ≡ true) × (readOf ca ioa plan file .detail < 65536)
+  -- "A refused file yields one number and its detail and no record." The number and the detail are those of the first refusal of the list that holds
+  pub refused-file : (ca ioa : ℕ) (plan file : List ℕ) → (readOf ca ioa plan file .number ≡ 0 → ⊥) → readOf ca ioa plan file .body ≡ zeroRecord
+  pub refused-first : (ca ioa : ℕ) (plan file : List ℕ)
+      → (readOf ca ioa plan file .number ≡ 0 → ⊥)
+      → Given (planned (soughtOf ca ioa (planOf plan)) file) (readOf ca ioa plan file)
+  -- "A refused write leaves the output buffer as the caller lent it." The writer, the normaliser, and the two entries
+  pub refused-write : (r : Record) (out : List ℕ) (n d : ℕ) → writeOf r (length out) ≡ Refused n d → leftBy r out ≡ out
+  pub refused-normalise : (ca ioa : ℕ) (plan file out : List ℕ) (n d : ℕ)
+      → normaliseOf (readOf ca ioa plan file) (length out) ≡ Refused n d
+      → normalLeft (readOf ca ioa plan file) out ≡ out
+  pub refused-read-entry : Leaves sixLines
+  pub refused-normalise-entry : Leaves fileOf
+  -- "A refused book call hands the same book back." Of every book of the code, whose rooms have these sizes; the question hands it back in any case
+  pub refused-call : (k : Call) (b : Book) → length (b .orders) ≡ 96 → length (b .unit) ≡ 16 → (outcomeOf k b .number ≡ 0 → ⊥) → outcomeOf k b .book ≡ b
+  pub question : (t : ℕ) (b : Book) → askedOf t b .book ≡ b

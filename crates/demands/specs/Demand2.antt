@@ -1,0 +1,71 @@
+-- Demand 2, sentence by sentence, over the definitions that the contracts name. (`Clean`, allowed size and bytes, and `Sound`, separators too, are in
+-- reading/proofs/Alike.antt; `Perm`, another order, in lines/proofs/Order.antt; `bodyColumn`, the body's values, in reading/proofs/Agreed.antt)
+use Prim.Native.Nat.{ℕ, _≤_}
+use Rattle.layout.specs.Rows.{rowOf}
+use Rattle.lines.proofs.Order.{Perm}
+use Rattle.lines.specs.Entries.{again}
+use Rattle.lines.specs.Lines.{texts}
+use Rattle.plan.specs.Rows.{planOf, soughtOf}
+use Rattle.plan.specs.declared.Sought.{Sought}
+use Rattle.reader.specs.Messages.{given, rowIn, layoutIn, entriesIn}
+use Rattle.reader.specs.Reader.{bodyIn, planned, readOf}
+use Rattle.reader.specs.Refusals.{Refusal, accepted}
+use Rattle.reading.proofs.Agreed.{bodyColumn}
+use Rattle.reading.proofs.Alike.{Clean, Sound}
+use Rattle.record.specs.declared.Record.{Record}
+use Rattle.roundtrip.specs.Own.{OwnAddress}
+use Rattle.text.specs.Bytes.{any}
+use Rattle.valid.specs.Valid.{Valid}
+use Rattle.validity.specs.Validity.{isValid}
+use Rattle.writer.specs.Writer.{writeOf, leftBy}
+use Rattle.writer.specs.declared.Written.the-variants.{Length}
+use Rattle.written.specs.Written.{fileOf}
+use lib.ListN.{length, take}
+use mathlib.Core.Bool.{true, false}
+use mathlib.Core.List.{List, []}
+use mathlib.Core.Logic.{_↔_}
+use mathlib.Core.Option.{none}
+use mathlib.Core.Path.{_≡_}
+
+-- what a plan gives to an address: its type is the `kind`
+abbrev pub address : ℕ → ℕ → List ℕ → Sought
+address ca ioa plan = soughtOf ca ioa (planOf plan)
+
+pub record Demand2 : Type 0 where
+  -- "A file is accepted exactly when Annex A.34 Rev. 10, as document 01 reads it, allows it": when no refusal of document 01's list holds
+  pub accepted-exactly : (ca ioa : ℕ) (plan file : List ℕ)
+      → readOf ca ioa plan file .number ≡ 0 ↔ any (λ (r : Refusal). r .holds) (planned (address ca ioa plan) file) ≡ false
+  -- "and its record is the one that text gives", and a valid one
+  pub its-record : (ca ioa : ℕ) (plan file : List ℕ) → readOf ca ioa plan file .number ≡ 0 → readOf ca ioa plan file .body ≡ bodyIn (address ca ioa plan .kind) file
+  pub its-validity : (ca ioa : ℕ) (plan file : List ℕ) → readOf ca ioa plan file .number ≡ 0 → Valid (readOf ca ioa plan file .body)
+  -- "however its lines are ordered and spaced.": any file of allowed size, bytes and separators (`Sound`) with the same row and the same parameters, in another
+  -- order and with other blanks about label and value (`given` has them trimmed), is accepted with the same record
+  pub however : (ca ioa : ℕ) (plan f g : List ℕ)
+      → readOf ca ioa plan f .number ≡ 0
+      → Sound g
+      → rowIn g ≡ rowIn f
+      → Perm (given f) (given g)
+      → readOf ca ioa plan g ≡ readOf ca ioa plan f
+  -- and a refused one is refused alike: in another order, where no label of the layout stands twice (refusal 5 tells the first repeat from the top)
+  pub ordered-alike : (ca ioa : ℕ) (plan f g : List ℕ) → Sound f → Sound g
+      → rowIn f ≡ rowIn g
+      → Perm (given f) (given g)
+      → again [] (entriesIn (address ca ioa plan .kind) f) ≡ none
+      → readOf ca ioa plan f ≡ readOf ca ioa plan g
+  -- and with other blanks at the ends of its lines and other line ends
+  pub spaced-alike : (ca ioa : ℕ) (plan f g : List ℕ) → Clean f → Clean g → texts f ≡ texts g → readOf ca ioa plan f ≡ readOf ca ioa plan g
+  -- "Its summary row agrees with its body byte for byte."
+  pub row-agrees : (ca ioa : ℕ) (plan file : List ℕ)
+      → readOf ca ioa plan file .number ≡ 0
+      → rowIn file ≡ rowOf (layoutIn (address ca ioa plan .kind) (given file)) (bodyColumn (address ca ioa plan .kind) file)
+  -- "A valid record, written and read at its own address, comes back the same."
+  pub comes-back : (r : Record) (ca ioa : ℕ) (plan : List ℕ) → Valid r → OwnAddress r ca ioa plan → readOf ca ioa plan (fileOf r) ≡ accepted r
+  -- and `fileOf r` is what is written: into 8,192 bytes or more always. (The writer's own test is of the same records)
+  pub written : (r : Record) (out : List ℕ) → Valid r
+      → 8192 ≤ length out
+      → (writeOf r (length out) ≡ Length (length (fileOf r))) × (take (length (fileOf r)) (leftBy r out) ≡ fileOf r)
+  pub valid-exactly : (r : Record) → isValid r ≡ true ↔ Valid r
+  -- the normaliser: the written form of what was read gives the same answer
+  pub normal-form : (ca ioa : ℕ) (plan file : List ℕ)
+      → readOf ca ioa plan file .number ≡ 0
+      → readOf ca ioa plan (fileOf (readOf ca ioa plan file .body)) ≡ readOf ca ioa plan file

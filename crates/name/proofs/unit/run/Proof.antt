@@ -1,0 +1,64 @@
+-- The whole and the rest come to the same once bytes of a code are skipped.
+use Prim.Native.Nat.{_-_, _≤_}
+use Rattle.name.proofs.unit.run.Statement.{statement}
+use Rattle.name.proofs.unit.run.Tie as tie
+use Rattle.name.specs.Names.{isUnitByte}
+use Rattle.text.proofs.Cuts.{skip-on}
+use Rattle.text.proofs.Fronts.{run-here, run-end}
+use Rattle.text.specs.Bytes.{skip}
+use borrow.Author.Needs.{needs}
+use borrow.Author.Tests.{not-true, not-false}
+use lib.ListN.{length, drop}
+use mathlib.Core.Path.{_≡_, sym, _∙_}
+use native.Mathlib.Omega.{arith}
+
+abbrev Inv-loop : tie.InvT-loop
+Inv-loop s i₀ i = (i ≤ length s) × (skip isUnitByte s ≡ skip isUnitByte (drop i s))
+
+abbrev μ-loop : tie.MeasureT-loop
+μ-loop s i₀ i = length s - i
+
+loop-holds : tie.Need-loop-holds Inv-loop μ-loop
+loop-holds c = search needs
+
+shared-slice-read-is-unit-byte : tie.Need-shared-slice-read-is-unit-byte Inv-loop μ-loop
+shared-slice-read-is-unit-byte c = search needs
+
+is-unit-byte-requires : tie.Need-is-unit-byte-requires Inv-loop μ-loop
+is-unit-byte-requires c κs = search needs
+
+returns : tie.Need-returns Inv-loop μ-loop
+returns c =
+    let l = c .before .before .before .before .loop in
+    run-here isUnitByte _ (l .i) (l .inv .1) (c .before .before .before .loop-test .taken) (sym (c .before .is-unit-byte .ensures) ∙ not-true _ (c .if1 .taken))
+
+add-i : tie.Need-add-i Inv-loop μ-loop
+add-i c = search needs
+
+loop-less : tie.Need-loop-less Inv-loop μ-loop
+loop-less c = search needs
+
+loop-again : tie.Need-loop-again Inv-loop μ-loop
+loop-again c =
+    let l = c .before .before .before .before .loop in
+    (omega arith, l .inv .1 ∙ skip-on isUnitByte 0 _ (l .i) (c .before .before .before .loop-test .taken) (sym (c .before .is-unit-byte .ensures) ∙ not-false _ (c .if1 .left)))
+
+returns-2 : tie.Need-returns-2 Inv-loop μ-loop
+returns-2 c =
+    let l = c .before .loop in
+    run-end isUnitByte _ (l .i) (l .inv .1) (l .inv .0) (c .loop-test .left)
+
+pub run-spec : {M : Type 1} → statement M
+run-spec =
+    tie.close
+    (tie.spec
+    Inv-loop
+    μ-loop
+    loop-holds
+    shared-slice-read-is-unit-byte
+    is-unit-byte-requires
+    returns
+    add-i
+    loop-less
+    loop-again
+    returns-2)

@@ -1,0 +1,11 @@
+pub mod Markets
+pub mod Rests
+pub mod Sheets
+pub mod Values
+pub mod Turns
+pub mod Lays
+pub mod Fields
+pub mod Taken
+pub mod Units
+pub mod Told
+pub mod Theorems

@@ -1,0 +1,207 @@
+-- THE THEOREMS: where a time stands. In the file it is the record's value, in the sheet a number, where the record has none; the two calls refuse alike;
+-- and a part is empty exactly on refusal. Assumes nothing.
+use Prim.Native.Nat.{ℕ, suc, _+_, _≤_, _<_}
+use Rattle.asked.specs.Values.{isFilled}
+use Rattle.brief.specs.Brief.{unitOf}
+use Rattle.layout.proofs.Labels.{labels-length}
+use Rattle.layout.specs.Fields.{command, technical, market}
+use Rattle.layout.specs.Layouts.{fieldsOf, labelsOf, kindsOf, labelAt, kindAt, sizeOf}
+use Rattle.layout.specs.declared.Layout.{Layout}
+use Rattle.layout.specs.declared.Layout.the-variants.{Market}
+use Rattle.lines.specs.Entries.{entries, valueAt, column}
+use Rattle.reader.specs.Messages.{given, layoutIn, entriesIn, valuesOf, isBad, bodyOf}
+use Rattle.reader.specs.Reader.{bodyIn, readOf}
+use Rattle.reader.specs.declared.Answer.{Answer}
+use Rattle.record.specs.Records.{fieldOf, recordOf}
+use Rattle.record.specs.declared.Record.{Record}
+use Rattle.text.proofs.Cuts.{length-part}
+use Rattle.text.specs.Bytes.{part}
+use Rattle.times.proofs.Fields.{field-holds}
+use Rattle.times.proofs.Markets.{market-is}
+use Rattle.times.proofs.Sheets.{for-good, sheet-part}
+use Rattle.times.proofs.Taken.{Taken, taken, field-read, column-value}
+use Rattle.times.proofs.Told.{labelled}
+use Rattle.times.specs.Places.{fieldPart}
+use Rattle.times.specs.Sheet.{isNumber, isFor, sheetPart}
+use Rattle.times.specs.Times.{fieldNo, isMarket, inFile, inSheet, timeIn, timeOf, partIn, refusalIn}
+use Rattle.times.specs.declared.Part.{Part}
+use Rattle.times.specs.declared.Time.{Time}
+use Rattle.times.specs.declared.Time.the-variants.{File, Sheet, Refused}
+use Rattle.times.specs.declared.Which.{Which}
+use Rattle.times.specs.declared.Which.the-variants.{StartUp, Ramp}
+use Rattle.value.specs.Kinds.{valueOf}
+use Rattle.value.specs.declared.Got.the-variants.{Read}
+use Rattle.value.specs.declared.Value.{Value}
+use Rattle.value.specs.declared.Value.the-variants.{Blank, Id, Unit, When, Amount, Count, Reason, Note, Word, List as Numbers, Triples, Voltage, Regulator, Change, Reactive}
+use borrow.Author.Tests.{eqb-true, eqb-false, ltb-true}
+use lib.Dec.{eqb}
+use lib.ListN.{length}
+use mathlib.Core.Bool.{Bool, true, false, cond, false≢true, true≢false}
+use mathlib.Core.List.{List, [], _∷_}
+use mathlib.Core.Path.{_≡_, refl, sym, ap, ap₂, _∙_, subst}
+use native.Mathlib.Omega.{arith}
+
+-- ---- which way an answer came
+
+-- by the four tests: taken, market, a good sheet, filled
+chosen : Bool → Bool → Bool → Bool → Part → Part → ℕ → ℕ → Time
+chosen b m g f p q n d = cond b (cond m (cond g (cond f (inFile p) (inSheet q)) (Refused 14 0)) (Refused 16 0)) (Refused n d)
+
+apart-file : {n d from to : ℕ} → Refused n d ≡ File from to → ⊥
+apart-file e = let z : _≡_ {A = ℕ} 0 1 = cc in omega arith
+
+apart-sheet : {n d from to : ℕ} → Refused n d ≡ Sheet from to → ⊥
+apart-sheet e = let z : _≡_ {A = ℕ} 0 1 = cc in omega arith
+
+apart-both : {from to a b : ℕ} → File from to ≡ Sheet a b → ⊥
+apart-both e = let z : _≡_ {A = ℕ} 0 1 = cc in omega arith
+
+by-file : (b m g f : Bool) (p q : Part) (n d from to : ℕ) → chosen b m g f p q n d ≡ File from to
+    → (b ≡ true) × (m ≡ true) × (f ≡ true) × (p .from ≡ from) × (p .to ≡ to)
+unfolding chosen
+by-file true true true true p q n d from to e = (refl, refl, refl, cc, cc)
+by-file true true true false p q n d from to e = absurd (apart-both (sym e))
+by-file true true false f p q n d from to e = absurd (apart-file e)
+by-file true false g f p q n d from to e = absurd (apart-file e)
+by-file false m g f p q n d from to e = absurd (apart-file e)
+
+by-sheet : (b m g f : Bool) (p q : Part) (n d from to : ℕ) → chosen b m g f p q n d ≡ Sheet from to
+    → (g ≡ true) × (f ≡ false) × (q .from ≡ from) × (q .to ≡ to)
+unfolding chosen
+by-sheet true true true true p q n d from to e = absurd (apart-both e)
+by-sheet true true true false p q n d from to e = (refl, refl, cc, cc)
+by-sheet true true false f p q n d from to e = absurd (apart-sheet e)
+by-sheet true false g f p q n d from to e = absurd (apart-sheet e)
+by-sheet false m g f p q n d from to e = absurd (apart-sheet e)
+
+-- a refusal has a number
+by-refusal : (b m g f : Bool) (p q : Part) (n d k j : ℕ) → (b ≡ false → n ≡ 0 → ⊥) → chosen b m g f p q n d ≡ Refused k j → (k ≡ 0 → ⊥)
+unfolding chosen
+by-refusal true true true true p q n d k j h e = absurd (apart-file (sym e))
+by-refusal true true true false p q n d k j h e = absurd (apart-sheet (sym e))
+by-refusal true true false f p q n d k j h e = let z : 14 ≡ k = cc in λ y. omega arith
+by-refusal true false g f p q n d k j h e = let z : 16 ≡ k = cc in λ y. omega arith
+by-refusal false m g f p q n d k j h e = let z : n ≡ k = cc in λ y. h refl (z ∙ y)
+
+-- and it goes by the first three tests
+same-chosen : (b m g f h : Bool) (p q s t : Part) (n d : ℕ) → refusalIn (chosen b m g f p q n d) ≡ refusalIn (chosen b m g h s t n d)
+unfolding chosen
+same-chosen true true true true true p q s t n d = refl
+same-chosen true true true true false p q s t n d = refl
+same-chosen true true true false true p q s t n d = refl
+same-chosen true true true false false p q s t n d = refl
+same-chosen true true false f h p q s t n d = refl
+same-chosen true false g f h p q s t n d = refl
+same-chosen false m g f h p q s t n d = refl
+
+blank-is : (v : Value) → isFilled v ≡ false → v ≡ Blank
+blank-is Blank e = refl
+blank-is (Id n) e = absurd (true≢false e)
+blank-is (Unit n) e = absurd (true≢false e)
+blank-is (When d) e = absurd (true≢false e)
+blank-is (Amount v) e = absurd (true≢false e)
+blank-is (Count n) e = absurd (true≢false e)
+blank-is (Reason n) e = absurd (true≢false e)
+blank-is (Note n) e = absurd (true≢false e)
+blank-is (Word w) e = absurd (true≢false e)
+blank-is (Numbers x) e = absurd (true≢false e)
+blank-is (Triples n) e = absurd (true≢false e)
+blank-is (Voltage v) e = absurd (true≢false e)
+blank-is (Regulator v) e = absurd (true≢false e)
+blank-is (Change v) e = absurd (true≢false e)
+blank-is (Reactive v) e = absurd (true≢false e)
+
+-- ---- the field of the record
+
+-- the value of a field is what its kind reads of the text of its entry
+entry-read : (l : Layout) (file : List ℕ) → isBad (valuesOf l (column 1 (labelsOf l) (entries (labelsOf l) (given file)))) ≡ false → (j : ℕ) → j < sizeOf l
+    → valueOf (kindAt l (suc j)) (valueAt (suc j) (entries (labelsOf l) (given file))) ≡ Read (fieldOf (bodyOf l (column 1 (labelsOf l) (entries (labelsOf l) (given file))) .cells) (suc j))
+entry-read l file e j h =
+    let es = entries (labelsOf l) (given file) in
+    let n : 1 + j ≡ suc j = omega arith in
+    let i : j < length (labelsOf l) = omega (arith, labels-length l) in
+    ap (valueOf (kindAt l (suc j))) (sym (column-value 1 (labelsOf l) es j i ∙ ap (λ (m : ℕ). valueAt m es) n)) ∙ field-read l (column 1 (labelsOf l) es) e j h
+
+-- of a market file that was taken
+market-read : (a : Answer) (file : List ℕ) → Taken a file → isMarket (a .body .layout) ≡ true → (j : ℕ) → j < sizeOf Market
+    → valueOf (kindAt Market (suc j)) (valueAt (suc j) (entries (labelsOf Market) (given file))) ≡ Read (fieldOf (a .body .cells) (suc j))
+unfolding bodyIn bodyOf recordOf entriesIn
+market-read a file t m j h =
+    let l = layoutIn (t .kind) (given file) in
+    let e : l ≡ Market = sym (ap (λ (r : Record). r .layout) (t .body-is)) ∙ market-is (a .body .layout) m in
+    let i : j < sizeOf l = subst (λ (x : Layout). j < sizeOf x) (sym e) h in
+    subst (λ (x : Layout). valueOf (kindAt x (suc j)) (valueAt (suc j) (entries (labelsOf x) (given file))) ≡ Read (fieldOf (a .body .cells) (suc j))) e
+    (entry-read l file (t .agreed .values) j i ∙ ap (λ (r : Record). Read (fieldOf (r .cells) (suc j))) (sym (t .body-is)))
+
+time-read : (w : Which) (a : Answer) (file : List ℕ) → Taken a file → isMarket (a .body .layout) ≡ true
+    → valueOf (kindAt Market (fieldNo w)) (valueAt (fieldNo w) (entries (labelsOf Market) (given file))) ≡ Read (fieldOf (a .body .cells) (fieldNo w))
+unfolding fieldsOf market command technical
+time-read StartUp a file t m = market-read a file t m 12 (ltb-true _ _ refl)
+time-read Ramp a file t m = market-read a file t m 13 (ltb-true _ _ refl)
+
+-- a field that is filled has a text
+filled-some : (w : Which) (s : List ℕ) (v : Value) → valueOf (kindAt Market (fieldNo w)) s ≡ Read v → isFilled v ≡ true → 1 ≤ length s
+unfolding valueOf kindAt kindsOf fieldsOf market command technical
+filled-some StartUp [] v e f = let z : Blank ≡ v = cc in absurd (false≢true (ap isFilled z ∙ f))
+filled-some StartUp (b ∷ s) v e f = omega arith
+filled-some Ramp [] v e f = let z : Blank ≡ v = cc in absurd (false≢true (ap isFilled z ∙ f))
+filled-some Ramp (b ∷ s) v e f = omega arith
+
+-- ---- the theorems
+
+module _ (w : Which) (ca ioa : ℕ) (plan file sheet : List ℕ) where
+  abbrev answer : Answer
+  answer = readOf ca ioa plan file
+
+  abbrev value : Value
+  value = fieldOf (answer .body .cells) (fieldNo w)
+
+  abbrev time : Time
+  time = timeOf w ca ioa plan file sheet
+
+  time-is : chosen (eqb (answer .number) 0) (isMarket (answer .body .layout)) (isFor (unitOf (answer .body)) sheet) (isFilled value) (fieldPart (labelAt Market (fieldNo w)) file) (sheetPart w sheet) (answer .number) (answer .detail) ≡ time
+  unfolding chosen timeOf timeIn
+  time-is = refl
+
+  -- in the file: the part, read as the field's kind, is the record's value
+  pub in-file : (from to : ℕ) → time ≡ File from to
+      → (answer .number ≡ 0) × (valueOf (kindAt Market (fieldNo w)) (part from to file) ≡ Read value) × (from < to) × (to ≤ length file)
+  in-file from to e =
+      let c = by-file _ _ _ _ _ _ _ _ from to (time-is ∙ e) in
+      let n = eqb-true (answer .number) 0 (c .0) in
+      let h = field-holds (fieldNo w) (labelled w) file in
+      let k : to ≤ length file = omega (arith, h .inside, c .4) in
+      let text : part from to file ≡ valueAt (fieldNo w) (entries (labelsOf Market) (given file)) = ap₂ (λ (a b : ℕ). part a b file) (sym (c .3)) (sym (c .4)) ∙ h .holds in
+      let read = ap (valueOf (kindAt Market (fieldNo w))) text ∙ time-read w answer file (taken ca ioa plan file n) (c .1) in
+      let some = filled-some w (part from to file) value read (c .2) in
+      (n, read, omega (arith, some, length-part from to file k), k)
+
+  -- in the sheet: the record has no value, and the part is a number
+  pub in-sheet : (from to : ℕ) → time ≡ Sheet from to → (value ≡ Blank) × (isNumber (part from to sheet) ≡ true) × (from < to) × (to ≤ length sheet)
+  in-sheet from to e =
+      let c = by-sheet _ _ _ _ _ _ _ _ from to (time-is ∙ e) in
+      let h = sheet-part sheet (for-good (unitOf (answer .body)) sheet (c .0)) w in (
+        blank-is value (c .1),
+        ap₂ (λ (a b : ℕ). isNumber (part a b sheet)) (sym (c .2)) (sym (c .3)) ∙ h .number,
+        omega (arith, h .ordered, c .2, c .3),
+        omega (arith, h .inside, c .3),
+      )
+
+  part-some : (t : Time) → time ≡ t → refusalIn t .number ≡ 0 → 1 ≤ length (partIn t file sheet)
+  part-some (File from to) e n = let p = in-file from to e in omega (arith, p .2, length-part from to file (p .3))
+  part-some (Sheet from to) e n = let p = in-sheet from to e in omega (arith, p .2, length-part from to sheet (p .3))
+  part-some (Refused k d) e n = absurd (by-refusal _ _ _ _ _ _ _ _ k d (λ z. eqb-false (answer .number) 0 z) (time-is ∙ e) n)
+
+  -- a part is empty exactly on refusal
+  pub empty-when-refused : (refusalIn time .number ≡ 0 → 1 ≤ length (partIn time file sheet)) × ((refusalIn time .number ≡ 0 → ⊥) → partIn time file sheet ≡ [])
+  empty-when-refused = (part-some time refl, part-none time)
+    where
+      part-none : (t : Time) → (refusalIn t .number ≡ 0 → ⊥) → partIn t file sheet ≡ []
+      part-none (File from to) n = absurd (n refl)
+      part-none (Sheet from to) n = absurd (n refl)
+      part-none (Refused k d) n = refl
+
+-- no refusal depends on which time is asked for
+pub same-refusal : (ca ioa : ℕ) (plan file sheet : List ℕ) → refusalIn (timeOf StartUp ca ioa plan file sheet) ≡ refusalIn (timeOf Ramp ca ioa plan file sheet)
+same-refusal ca ioa plan file sheet =
+    ap refusalIn (sym (time-is StartUp ca ioa plan file sheet)) ∙ same-chosen _ _ _ _ _ _ _ _ _ _ _ ∙ ap refusalIn (time-is Ramp ca ioa plan file sheet)

@@ -1,0 +1,80 @@
+-- Start-up and ramp times. Document 01, "Times": the answer is that part of the message file which holds the value, or, where it is blank, that part of
+-- the sheet. Order: the reader's, 16, 14. A refusal gives an empty part. Reading 79: the sheet is judged even where the message has the value.
+use Prim.Native.Nat.{ℕ, _≤_}
+use Rattle.asked.specs.Values.{isFilled}
+use Rattle.brief.specs.Brief.{unitOf}
+use Rattle.layout.specs.Layouts.{labelAt}
+use Rattle.layout.specs.declared.Layout.{Layout}
+use Rattle.layout.specs.declared.Layout.the-variants.{Market, Mfrr, Revocation, Generic, Exclusion, Limitation, Secondary, VoltVar, Rejection, Reserve}
+use Rattle.reader.specs.Reader.{readOf}
+use Rattle.reader.specs.declared.Answer.{Answer}
+use Rattle.record.specs.Records.{fieldOf}
+use Rattle.text.specs.Bytes.{part}
+use Rattle.times.specs.Places.{fieldPart}
+use Rattle.times.specs.Sheet.{isFor, sheetPart}
+use Rattle.times.specs.declared.Part.{Part}
+use Rattle.times.specs.declared.Refusal.{Refusal}
+use Rattle.times.specs.declared.Time.{Time}
+use Rattle.times.specs.declared.Time.the-variants.{File, Sheet, Refused}
+use Rattle.times.specs.declared.Which.{Which}
+use Rattle.times.specs.declared.Which.the-variants.{StartUp, Ramp}
+use lib.Dec.{eqb}
+use lib.ListN.{length}
+use mathlib.Core.Bool.{Bool, true, false, cond}
+use mathlib.Core.List.{List, []}
+
+-- the field of the market layout that holds it: `Tempo di avviamento`, `Tempo di rampa`
+abbrev pub fieldNo : Which → ℕ
+fieldNo StartUp = 13
+fieldNo Ramp = 14
+
+abbrev pub isMarket : Layout → Bool
+isMarket Market = true
+isMarket Mfrr = false
+isMarket Revocation = false
+isMarket Generic = false
+isMarket Exclusion = false
+isMarket Limitation = false
+isMarket Secondary = false
+isMarket VoltVar = false
+isMarket Rejection = false
+isMarket Reserve = false
+
+abbrev pub inFile : Part → Time
+inFile p = File (p .from) (p .to)
+
+abbrev pub inSheet : Part → Time
+inSheet p = Sheet (p .from) (p .to)
+
+-- of a message that the reader answered so
+unfoldable pub timeIn : Which → Answer → List ℕ → List ℕ → Time
+timeIn w a file sheet =
+    cond (eqb (a .number) 0)
+    (cond (isMarket (a .body .layout))
+    (cond (isFor (unitOf (a .body)) sheet)
+    (cond (isFilled (fieldOf (a .body .cells) (fieldNo w))) (inFile (fieldPart (labelAt Market (fieldNo w)) file)) (inSheet (sheetPart w sheet)))
+    (Refused 14 0))
+    (Refused 16 0))
+    (Refused (a .number) (a .detail))
+
+-- THE DEFINITION: where a time stands
+unfoldable pub timeOf : Which → ℕ → ℕ → List ℕ → List ℕ → List ℕ → Time
+timeOf w ca ioa plan file sheet = timeIn w (readOf ca ioa plan file) file sheet
+
+-- that part of the file or of the sheet
+abbrev pub partIn : Time → List ℕ → List ℕ → List ℕ
+partIn (File from to) file sheet = part from to file
+partIn (Sheet from to) file sheet = part from to sheet
+partIn (Refused n d) file sheet = []
+
+-- it lies in them
+abbrev pub Within : List ℕ → List ℕ → Time → Type 0
+Within file sheet (File from to) = (from ≤ to) × (to ≤ length file)
+Within file sheet (Sheet from to) = (from ≤ to) × (to ≤ length sheet)
+Within file sheet (Refused n d) = 0 ≤ 0
+
+-- its refusal: 0 and 0 where there is none
+abbrev pub refusalIn : Time → Refusal
+refusalIn (File from to) = record { number = 0; detail = 0 }
+refusalIn (Sheet from to) = record { number = 0; detail = 0 }
+refusalIn (Refused n d) = record { number = n; detail = d }

@@ -1,0 +1,121 @@
+// Start-up and ramp times: the part of the message file that holds the value or, where the message leaves it blank, that part of the unit sheet.
+mod place;
+mod sheet;
+
+use layout::Layout;
+ghost use Rattle.times.specs.Times.{fieldNo, isMarket, timeOf, partIn, Within, refusalIn};
+ghost use mathlib.Core.Path.{_≡_};
+
+// Which of the two times is asked for.
+pub enum Which {
+    StartUp,
+    Ramp,
+}
+
+// A part of a text, by its ends.
+pub struct Part {
+    pub from: usize,
+    pub to: usize,
+}
+
+// Where the time stands: in the file or in the sheet, from and up to; or a refusal's number and detail.
+pub enum Time {
+    File(usize, usize),
+    Sheet(usize, usize),
+    Refused(u8, usize),
+}
+
+// A refusal's number and detail; 0 and 0 where there is none.
+pub struct Refusal {
+    pub number: u8,
+    pub detail: usize,
+}
+
+// The field that holds it.
+fn field_no(w: Which) -> usize
+    ensures { λ r. ⌜ r ≡ fieldNo w ⌝ }
+{
+    match w {
+        Which::StartUp => 13,
+        Which::Ramp => 14,
+    }
+}
+
+fn is_market(l: Layout) -> bool
+    ensures { λ r. ⌜ r ≡ isMarket l ⌝ }
+{
+    match l {
+        Layout::Market => true,
+        _ => false,
+    }
+}
+
+// Refusals in order: the reader's, 16, 14. The sheet is judged even where the message has the value.
+pub fn locate(w: Which, ca: u32, ioa: u32, plan: &[u8], file: &[u8], sheet: &[u8]) -> Time
+    ensures { λ r. ⌜ r ≡ timeOf w ca ioa (now (plan .entry)) (now (file .entry)) (now (sheet .entry)) ⌝ }
+{
+    let x = reader::judged(ca, ioa, plan, file);
+    if x.number != 0 {
+        return Time::Refused(x.number, x.detail);
+    }
+    let l = x.layout;
+    if !is_market(l) {
+        return Time::Refused(16, 0);
+    }
+    let places = x.places;
+    if !sheet::is_for(fill::text_at(l, file, places, 2), sheet) {
+        return Time::Refused(14, 0);
+    }
+    let k = field_no(w);
+    let c = x.cells[k - 1];
+    let value = c.value;
+    if asked::is_filled(value) {
+        let p = place::of_field(k, file);
+        return Time::File(p.from, p.to);
+    }
+    let p = sheet::part(w, sheet);
+    Time::Sheet(p.from, p.to)
+}
+
+// That part of the file or of the sheet; an empty part on refusal.
+fn part_at<'a>(t: Time, file: &'a [u8], sheet: &'a [u8]) -> &'a [u8]
+    requires { ⌜ Within (now file) (now sheet) t ⌝ }
+    ensures { λ r. ⌜ now r ≡ partIn t (now (file .entry)) (now (sheet .entry)) ⌝ }
+{
+    match t {
+        Time::File(from, to) => &file[from..to],
+        Time::Sheet(from, to) => &sheet[from..to],
+        Time::Refused(_, _) => &file[0..0],
+    }
+}
+
+// The start-up time.
+pub fn start_up<'a>(ca: u32, ioa: u32, plan: &[u8], file: &'a [u8], sheet: &'a [u8]) -> &'a [u8]
+    ensures { λ r. ⌜ now r ≡ partIn (timeOf Which.StartUp ca ioa (now (plan .entry)) (now (file .entry)) (now (sheet .entry))) (now (file .entry)) (now (sheet .entry)) ⌝ }
+{
+    part_at(
+        locate(Which::StartUp, ca, ioa, plan, file, sheet),
+        file,
+        sheet,
+    )
+}
+
+// The ramp time.
+pub fn ramp<'a>(ca: u32, ioa: u32, plan: &[u8], file: &'a [u8], sheet: &'a [u8]) -> &'a [u8]
+    ensures { λ r. ⌜ now r ≡ partIn (timeOf Which.Ramp ca ioa (now (plan .entry)) (now (file .entry)) (now (sheet .entry))) (now (file .entry)) (now (sheet .entry)) ⌝ }
+{
+    part_at(locate(Which::Ramp, ca, ioa, plan, file, sheet), file, sheet)
+}
+
+// The companion of both: why a part is empty. No refusal depends on which time is asked for.
+pub fn refusal_of(ca: u32, ioa: u32, plan: &[u8], file: &[u8], sheet: &[u8]) -> Refusal
+    ensures { λ r. ⌜ r ≡ refusalIn (timeOf Which.StartUp ca ioa (now (plan .entry)) (now (file .entry)) (now (sheet .entry))) ⌝ }
+{
+    match locate(Which::StartUp, ca, ioa, plan, file, sheet) {
+        Time::Refused(number, detail) => Refusal { number, detail },
+        _ => Refusal {
+            number: 0,
+            detail: 0,
+        },
+    }
+}

@@ -1,0 +1,63 @@
+-- The three tables are the parts of one.
+use Rattle.word.proofs.Arms.{found}
+use Rattle.word.proofs.Table.{command-is, mode-is, setting-is, none-below, none-above}
+use Rattle.word.proofs.spell.Statement.{statement}
+use Rattle.word.proofs.spell.Tie as tie
+use borrow.Author.Needs.{needs}
+use mathlib.Core.Logic.{⊎-elim}
+use native.Mathlib.Omega.{arith}
+
+command-word-requires : tie.Need-command-word-requires
+command-word-requires c κs = search needs
+
+mode-word-requires : tie.Need-mode-word-requires
+mode-word-requires c κs = search needs
+
+setting-word-requires : tie.Need-setting-word-requires
+setting-word-requires c κs = search needs
+
+no-word-requires : tie.Need-no-word-requires
+no-word-requires c κs = search needs
+
+same-length : tie.Need-same-length
+same-length c = search needs
+
+returns : tie.Need-returns
+returns c = found _ _ _ (command-is (c .before .before .before .before .before .before .before .before .args .w) (omega arith) (omega arith)) (c .before .before .command-word .ensures)
+
+same-length-2 : tie.Need-same-length-2
+same-length-2 c = search needs
+
+returns-2 : tie.Need-returns-2
+returns-2 c = found _ _ _ (mode-is (c .before .before .before .before .before .before .before .before .before .args .w) (omega arith) (omega arith)) (c .before .before .mode-word .ensures)
+
+same-length-3 : tie.Need-same-length-3
+same-length-3 c = search needs
+
+returns-3 : tie.Need-returns-3
+returns-3 c = found _ _ _ (setting-is (c .before .before .before .before .before .before .before .before .before .before .args .w) (omega arith) (omega arith)) (c .before .before .setting-word .ensures)
+
+same-length-4 : tie.Need-same-length-4
+same-length-4 c = search needs
+
+returns-4 : tie.Need-returns-4
+returns-4 c =
+    let w = c .before .before .before .before .before .before .before .args .w in
+    found _ _ _ (⊎-elim (λ h. none-below w (h .taken)) (λ h. none-above w (omega (arith, h .3 .left))) (c .before .before .before .before .if1 .came)) (c .before .before .no-word .ensures)
+
+pub spell-spec : {M : Type 1} → statement M
+spell-spec =
+    tie.close
+    (tie.spec
+    command-word-requires
+    mode-word-requires
+    setting-word-requires
+    no-word-requires
+    same-length
+    returns
+    same-length-2
+    returns-2
+    same-length-3
+    returns-3
+    same-length-4
+    returns-4)

@@ -1,0 +1,23 @@
+//! `seeds FOLDER WORDS`: writes the inputs to begin with into a folder, and the words to a libFuzzer dictionary.
+
+use std::fs;
+use std::path::Path;
+
+fn main() -> std::io::Result<()> {
+    let arguments: Vec<String> = std::env::args().skip(1).collect();
+    let [folder, words] = &arguments[..] else {
+        eprintln!("seeds FOLDER WORDS");
+        std::process::exit(2);
+    };
+    fs::create_dir_all(folder)?;
+    for (number, seed) in halimpung_fuzz::seeds().iter().enumerate() {
+        fs::write(Path::new(folder).join(format!("seed-{number:02}")), seed)?;
+    }
+    fs::write(words, halimpung_fuzz::words().iter().map(|word| entry(word)).collect::<String>())
+}
+
+/// A dictionary's line: the bytes in hex, so that none needs another escape.
+fn entry(word: &str) -> String {
+    let bytes: String = word.bytes().map(|byte| format!("\\x{byte:02X}")).collect();
+    format!("\"{bytes}\"\n")
+}

@@ -1,0 +1,108 @@
+//! What libFuzzer calls: one input to one entry, on both sides. The reference is instrumented, so its branches guide the search; the library is
+//! not, and is judged by its answers and by every byte of its output.
+
+use halimpung_compare::check::check;
+use halimpung_compare::input::{Input, Room, MOST_ROOM};
+use halimpung_compare::samples::{Sample, SAMPLES};
+use halimpung_compare::{ours, Entry};
+use halimpung_reference::{normalise_entry, read_entry};
+
+/// The byte between plan and file where an input has both.
+pub const BETWEEN: u8 = 0xff;
+
+/// The first byte of an input that has a plan of its own.
+pub const OWN_PLAN: u8 = 0x80;
+
+const ADDRESS: (u32, u32) = (7, 300);
+
+/// The entry that an input is for, its plan, its file and its room: the first byte says which sample's type the address has, or that the plan
+/// follows, and which entry; the second says the room.
+fn input(data: &[u8]) -> Option<(Input, Entry, Entry)> {
+    let (&[which, room], rest) = data.split_first_chunk::<2>()?;
+    let sample = &SAMPLES[usize::from(which >> 1) % SAMPLES.len()];
+    let (plan, file) = if which < OWN_PLAN { (sample.plan(1).into_bytes(), rest.to_vec()) } else { divided(rest) };
+    let (ours, theirs) = if which % 2 == 0 {
+        (ours::read as Entry, read_entry as Entry)
+    } else {
+        (ours::normalise as Entry, normalise_entry as Entry)
+    };
+    let (ca, ioa) = ADDRESS;
+    Some((Input { sample, ca, ioa, plan, file, room: room_of(room) }, ours, theirs))
+}
+
+fn divided(rest: &[u8]) -> (Vec<u8>, Vec<u8>) {
+    match rest.iter().position(|&byte| byte == BETWEEN) {
+        Some(place) => (rest[..place].to_vec(), rest[place + 1..].to_vec()),
+        None => (rest.to_vec(), Vec::new()),
+    }
+}
+
+fn room_of(byte: u8) -> Room {
+    match byte {
+        0 => Room::Exact,
+        1 => Room::OneLess,
+        2 => Room::Of(0),
+        3..=99 => Room::Of(usize::from(byte)),
+        _ => Room::Of(MOST_ROOM),
+    }
+}
+
+/// An input that both sides answer differently ends the process, and libFuzzer keeps it.
+///
+/// # Safety
+/// `data` points to `size` bytes, as libFuzzer gives them.
+#[no_mangle]
+pub unsafe extern "C" fn LLVMFuzzerTestOneInput(data: *const u8, size: usize) -> i32 {
+    let data = if size == 0 { &[] } else { std::slice::from_raw_parts(data, size) };
+    if let Some((input, ours, theirs)) = input(data) {
+        if let Err(difference) = check(ours, theirs, &input) {
+            eprintln!(
+                "ours {}, reference {}, room {}, first byte that differs {:?}",
+                difference.ours, difference.theirs, difference.room, difference.byte
+            );
+            eprintln!("plan {:?}", String::from_utf8_lossy(&input.plan));
+            eprintln!("file {:?}", String::from_utf8_lossy(&input.file));
+            std::process::abort();
+        }
+    }
+    0
+}
+
+/// The inputs to begin with: every sample at its own address, for both entries, and with its plan written out.
+pub fn seeds() -> Vec<Vec<u8>> {
+    SAMPLES.iter().enumerate().flat_map(|(place, sample)| seeds_of(place, sample)).collect()
+}
+
+fn seeds_of(place: usize, sample: &Sample) -> Vec<Vec<u8>> {
+    let which = (place as u8) << 1;
+    let file = sample.file.as_bytes();
+    let mut seeds: Vec<Vec<u8>> = [which, which + 1].iter().map(|&first| [&[first, 255], file].concat()).collect();
+    seeds.push([&[OWN_PLAN, 255], sample.plan(2).as_bytes(), &[BETWEEN], file].concat());
+    seeds
+}
+
+/// Words to put in: each line's label and value of the samples, and the plan's keys.
+pub fn words() -> Vec<String> {
+    let mut words: Vec<String> = ["ca=", "ioa=", "unit=", "type=", "+++++", "\r\n"].map(String::from).to_vec();
+    for sample in &SAMPLES {
+        words.extend(sample.file.lines().flat_map(|line| line.splitn(2, '=')).map(|part| part.trim().to_string()));
+    }
+    words.retain(|word| !word.is_empty() && word.len() <= 60);
+    words.sort();
+    words.dedup();
+    words
+}
+
+#[cfg(test)]
+mod tests {
+    use super::*;
+
+    #[test]
+    fn every_seed_is_accepted_by_both() {
+        for seed in seeds() {
+            let (input, ours, theirs) = input(&seed).expect("an input");
+            let answer = check(ours, theirs, &input).unwrap_or_else(|_| panic!("a difference"));
+            assert!(answer < 65_536, "{answer}");
+        }
+    }
+}
