@@ -5,6 +5,8 @@
 # make test-reference: the reference, a second implementation in Rust, tried alone. make compare COUNT=.. SEED=..: the library against it,
 # over many inputs. make bench: both timed, the book's calls too, and the library's stack. (These three need cargo, and no network.)
 # make fuzz SECONDS=..: the library against the reference under libFuzzer, from the corpus of target/fuzz (needs clang with its runtime besides).
+# The library is x86-64 code. On another processor all of these build and run it with what the Rattle kit has there (tools/x86); make test-host
+# then goes without sanitizers and make bench without times.
 .PHONY: test check run read values fmt lib host install test-host test-host-valgrind test-reference compare bench fuzz
 
 FILE ?= examples/rc.txt
@@ -18,6 +20,21 @@ LIB = target/staticlib/libgateway.a
 PACE = target/staticlib/libpace.a
 CFLAGS ?= -O2
 STRICT = -std=c11 -pedantic -Wall -Wextra -Werror
+
+# builds and runs C programs that call the library
+X86 = CC='$(CC)' tools/x86
+MACHINE := $(shell uname -m)
+# OURS is what a Rust program needs to call the library: the library, or the program that calls it in its place. TIMED is what is timed.
+# EAGER binds all symbols before the program begins. (The kit has no sanitizers and no static C library.)
+ifeq ($(MACHINE),x86_64)
+OURS = $(LIB)
+TIMED = $(PACE)
+SANITIZED = -fsanitize=address,undefined -fno-sanitize-recover=all
+EAGER = -static
+else
+OURS = target/host/far
+EAGER = -Wl,-z,now
+endif
 
 test:
 	.ci/run
@@ -57,7 +74,7 @@ target/host/refusals.inc: host/refusal-words host/include/halimpung.h docs/REFUS
 	@mv $@.new $@
 
 target/host/halimpung-read: $(wildcard host/c/*.c host/c/*.h) host/include/halimpung.h target/host/refusals.inc $(LIB)
-	$(CC) $(STRICT) $(CFLAGS) -Ihost/include -Itarget/host -o $@ $(filter %.c,$^) $(LIB) $(LDFLAGS)
+	$(X86) cc $(STRICT) $(CFLAGS) -Ihost/include -Itarget/host -o $@ $(filter %.c,$^) $(LIB) $(LDFLAGS)
 
 install: $(LIB)
 	install -d '$(DESTDIR)$(PREFIX)/include' '$(DESTDIR)$(PREFIX)/lib/pkgconfig'
@@ -70,22 +87,24 @@ TESTS = $(wildcard host/test/*.c host/test/*.h) host/include/halimpung.h $(LIB)
 
 target/host/entries-test: $(TESTS)
 	@mkdir -p target/host
-	$(CC) $(STRICT) -g -O1 -fsanitize=address,undefined -fno-sanitize-recover=all -Ihost/include -o $@ $(filter %.c,$^) $(LIB)
+	$(X86) cc $(STRICT) -g -O1 $(SANITIZED) -Ihost/include -o $@ $(filter %.c,$^) $(LIB)
 
 target/host/entries-plain: $(TESTS)
 	@mkdir -p target/host
-	$(CC) $(STRICT) -g -O1 -Ihost/include -o $@ $(filter %.c,$^) $(LIB)
+	$(X86) cc $(STRICT) -g -O1 -Ihost/include -o $@ $(filter %.c,$^) $(LIB)
 
 test-host: target/host/halimpung-read target/host/entries-test
 	$(CC) $(STRICT) -fsyntax-only host/include/halimpung.h
 	$(CXX) -pedantic -Wall -Wextra -Werror -x c++ -fsyntax-only host/include/halimpung.h
-	@target/host/entries-test examples
+	@$(if $(SANITIZED),,echo 'on $(MACHINE): under an emulator, without sanitizers')
+	@$(X86) run target/host/entries-test examples
 	@host/test/program target/host/halimpung-read
 	@host/test/words
 	@CC='$(CC)' CXX='$(CXX)' host/test/install '$(LIB)'
 
 # the library is not instrumented, so valgrind sees in it what AddressSanitizer does not
 test-host-valgrind: target/host/entries-plain
+	@[ $(MACHINE) = x86_64 ] || { echo 'make test-host-valgrind needs an x86-64 machine: valgrind sees nothing through an emulator'; exit 1; }
 	valgrind -q --error-exitcode=1 target/host/entries-plain examples
 
 COUNT ?= 200000
@@ -97,18 +116,27 @@ CARGO = CARGO_TARGET_DIR='$(CURDIR)/target/cargo' HALIMPUNG_LIB='$(abspath $(LIB
 test-reference:
 	cd host/reference && $(CARGO) test --release --offline -q
 
+# with the guards of the C tests about its slices
+target/host/far: host/compare/far.c host/test/place.c host/test/check.c $(wildcard host/test/*.h) host/include/halimpung.h $(LIB)
+	@mkdir -p target/host
+	$(X86) cc $(STRICT) $(CFLAGS) -Ihost/include -Ihost/test -o $@ $(filter %.c,$^) $(LIB)
+
 # first that the comparison itself sees a wrong side
-compare: $(LIB)
+compare: $(OURS)
 	cd host/compare && $(CARGO) test --release --offline -q --lib
 	cd host/compare && $(CARGO) run --release --offline -q --bin compare -- $(COUNT) $(SEED)
 
-# static: else the first call through the dynamic linker would be counted in the stack
+# eager: else the first call through the dynamic linker would be counted in the stack
 target/host/stack: tools/stack.c $(LIB)
 	@mkdir -p target/host
-	$(CC) $(CFLAGS) -static -o $@ tools/stack.c $(LIB)
+	$(X86) cc $(CFLAGS) $(EAGER) -o $@ tools/stack.c $(LIB)
 
-bench: $(PACE) target/host/stack
+bench: $(TIMED) target/host/stack
+ifdef TIMED
 	cd host/compare && HALIMPUNG_PACE_LIB='$(abspath $(PACE))' $(CARGO) run --release --offline -q --features pace --bin bench
+else
+	@echo 'no times: they need an x86-64 machine. Here, on $(MACHINE), the library runs under an emulator, and its times are no ratio'
+endif
 	@host/compare/stack target/host/stack host/reference/samples target/host/stack-plan.txt
 
 SECONDS ?= 60
@@ -117,7 +145,7 @@ RUST_HOST = $(shell rustc -vV | sed -n 's/^host: //p')
 # the branches and comparisons of the reference guide the search; a target is named so that cargo's build scripts go without these flags
 GUIDED = -Cpasses=sancov-module -Ccodegen-units=1 $(addprefix -Cllvm-args=-sanitizer-coverage-,level=3 inline-8bit-counters pc-table trace-compares)
 
-fuzz: $(LIB)
+fuzz: $(OURS)
 	@command -v clang > /dev/null || { echo "make fuzz needs clang and libFuzzer: Debian's clang and libclang-rt-14-dev"; exit 1; }
 	cd host/fuzz && $(CARGO) run --release --offline -q --bin seeds -- '$(CURDIR)/$(FUZZ)/corpus' '$(CURDIR)/$(FUZZ)/words'
 	cd host/fuzz && RUSTFLAGS='$(GUIDED)' $(CARGO) build --release --offline -q --lib --target $(RUST_HOST) --target-dir '$(CURDIR)/$(FUZZ)/cargo'

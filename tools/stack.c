@@ -1,5 +1,6 @@
 /* How much stack each entry takes: it runs on a stack of its own that was painted before, for each message file named on the command line.
    stack PLAN FILE CA IOA [FILE CA IOA ..] */
+#include <stddef.h>
 #include <stdint.h>
 #include <stdio.h>
 #include <stdlib.h>
@@ -12,6 +13,9 @@ uint32_t halimpung_normalise(uint32_t ca, uint32_t ioa, const uint8_t *plan, siz
                              uint8_t *out, size_t out_len);
 
 enum { STACK = 1 << 18, PAINT = 0xA5 };
+
+/* Another machine's headers may be in use (tools/x86): the parts named here are where x86-64's are, and there is room for the others. */
+_Static_assert(offsetof(ucontext_t, uc_link) == 8 && offsetof(ucontext_t, uc_stack) == 16 && sizeof(ucontext_t) >= 968, "x86-64's context");
 
 static ucontext_t home, away;
 static uint8_t plan[65536], file[65536], out[8192];

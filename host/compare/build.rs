@@ -1,9 +1,12 @@
 //! Links the proved library, and for the feature `pace` the book's loops: for each the archive that its variable names,
-//! else the one that make leaves.
+//! else the one that make leaves. They are x86-64 code; elsewhere nothing is linked (src/far.rs).
 
 use std::path::PathBuf;
 
 fn main() {
+    if std::env::var("CARGO_CFG_TARGET_ARCH").as_deref() != Ok("x86_64") {
+        return;
+    }
     link("HALIMPUNG_LIB", "../../target/staticlib/libgateway.a");
     if std::env::var_os("CARGO_FEATURE_PACE").is_some() {
         link("HALIMPUNG_PACE_LIB", "../../target/staticlib/libpace.a");

@@ -4,15 +4,16 @@ use Rattle.book.proofs.Formed.{malformed, refused, done, with-book, ask
 use Rattle.book.proofs.Holding.{Holding, holds-none}
 use Rattle.book.proofs.Leading.{ascending-rising}
 use Rattle.book.proofs.Placing.{put-packed, strike-packed}
-use Rattle.book.proofs.Ranks.{held-at, struck-at}
+use Rattle.book.proofs.Ranks.{seat-inside, held-seat, struck-seat}
 use Rattle.book.proofs.fitness.Tally.{the-type}
 use Rattle.book.specs.Answers.{outcome, outcomeOf, found, askedOf}
 use Rattle.book.specs.Places.{packed, bookOf, shelf}
-use Rattle.book.specs.Steps.{tallyOf, unfitOf, rankOf, putIn, withOrders, orderAt, struckIn}
+use Rattle.book.specs.Steps.{tallyOf, unfitOf, seatOf, putIn, withOrders, struckIn}
 use Rattle.book.specs.declared.Book.{Book}
 use Rattle.book.specs.declared.InForce.{InForce}
 use Rattle.book.specs.declared.InForce.the-variants.{Refused}
 use Rattle.book.specs.declared.fitness.Tally.{Tally}
+use Rattle.book.specs.declared.places.Seat.{Seat}
 use Rattle.asked.specs.Values.{instantIn}
 use Rattle.brief.specs.Brief.{unitOf, startOf, endOf}
 use Rattle.given.proofs.Comes.{instants-fit}
@@ -24,15 +25,14 @@ use Rattle.order.specs.Messages.{isCommand, isRevocation, orderOf, strikeOf}
 use Rattle.order.specs.Orders.{number, nameOf, named, live, pastEnd, strikeAt, already}
 use Rattle.order.specs.declared.Order.{Order}
 use Rattle.record.specs.declared.Record.{Record}
-use Rattle.text.proofs.Tests.{and-parts}
 use Rattle.text.specs.Bytes.{any, same}
 use Rattle.validity.specs.Validity.{isValid}
-use borrow.Author.Tests.{le-leb, lt-leb, lt-ltb, le-ltb, ltb-true, ne-eqb, eqb-false}
+use borrow.Author.Tests.{le-leb, lt-leb, lt-ltb, le-ltb, ne-eqb, eqb-false}
 use denote.Enum.Declared.{tagOf}
-use lib.Dec.{eqb, leb, ltb}
+use lib.Dec.{eqb, leb}
 use lib.ListN.{length, take}
 use lib.Seq.{length-take-le}
-use mathlib.Core.Bool.{Bool, true, false, not, _&&_}
+use mathlib.Core.Bool.{Bool, true, false, not}
 use mathlib.Core.List.{List, [], _∷_, map}
 use mathlib.Core.Path.{_≡_, refl, sym, ap, _∙_}
 use native.Mathlib.Omega.{arith}
@@ -106,10 +106,8 @@ module _ (b : Book) (count : ℕ) (h : Holding b count) where
   pub ascends : Ascending number (take count (b .orders))
   ascends = ascending-rising 0 (take count (b .orders)) (h .rising)
 
-  pub at-inside : (at n : ℕ) (test : Bool) → test ≡ (ltb at count && eqb (orderAt at (b .orders) .number) n) → test ≡ true → at < 96
-  at-inside at n test e t =
-      let w = ltb-true at count (and-parts (ltb at count) (eqb (orderAt at (b .orders) .number) n) (sym e ∙ t) .0) in
-      omega (arith, w, h .few)
+  pub at-inside : (n : ℕ) (seat : Seat) → seat ≡ seatOf n (take count (b .orders)) → seat .held ≡ true → seat .at < 96
+  at-inside n seat seated t = omega (arith, h .few, seat-inside n count (b .orders) seat seated t)
 
   -- a refusal's number other than 20
   refusal : (k : Call) (n : ℕ) → answer k (shelf b) ≡ n → eqb n 0 ≡ false → outcome n b ≡ outcomeOf k b
@@ -138,28 +136,29 @@ module _ (b : Book) (count : ℕ) (h : Holding b count) where
       pub command-late : o .end ≤ b .floor → outcome 23 b ≡ outcomeOf (command r) b
       command-late k = refusal (command r) 23 (command-rest ∙ rw (le-leb (o .end) (b .floor) k)) refl
 
-      module _ (timely : b .floor < o .end) (at : ℕ) (ranked : at ≡ rankOf (o .number) (take count (b .orders)))
-          (test : Bool) (tested : test ≡ (ltb at count && eqb (orderAt at (b .orders) .number) (o .number))) where
-        command-test : any (named (nameOf o)) (take count (b .orders)) ≡ test
-        command-test = held-at count at (b .orders) fits (h .rising) (nameOf o) ranked ∙ sym tested
+      module _ (timely : b .floor < o .end) (seat : Seat) (seated : seat ≡ seatOf (o .number) (take count (b .orders))) where
+        command-test : any (named (nameOf o)) (take count (b .orders)) ≡ seat .held
+        command-test = held-seat (take count (b .orders)) (h .rising) (nameOf o) ∙ ap (λ (s : Seat). s .held) (sym seated)
 
-        pub command-held : test ≡ true → outcome 22 b ≡ outcomeOf (command r) b
+        pub command-held : seat .held ≡ true → outcome 22 b ≡ outcomeOf (command r) b
         command-held t = refusal (command r) 22 (command-rest ∙ rw (lt-leb (o .end) (b .floor) timely, command-test ∙ t)) refl
 
-        module _ (t : test ≡ false) where
+        module _ (t : seat .held ≡ false) where
           command-last : answer (command r) (shelf b) ≡ firstOf ((leb 96 count, 24) ∷ [])
           command-last = command-rest ∙ rw (lt-leb (o .end) (b .floor) timely, command-test ∙ t, length-take-le count (b .orders) fits)
 
           pub command-full : count ≡ 96 → outcome 24 b ≡ outcomeOf (command r) b
           command-full e = refusal (command r) 24 (command-last ∙ rw e) refl
 
-          pub command-done : (count ≡ 96 → ⊥) → (next : Book) → next ≡ withOrders b (b .floor) (putIn at count o (b .orders)) → outcome 0 next ≡ outcomeOf (command r) b
+          pub command-done : (count ≡ 96 → ⊥) → (next : Book) → next ≡ withOrders b (b .floor) (putIn (seat .at) count o (b .orders))
+              → outcome 0 next ≡ outcomeOf (command r) b
           unfolding shelf
           command-done e next m =
               let c : count < 96 = omega (arith, h .few, e) in
-              makes (command r) (b .floor) (putIn at count o (b .orders)) (insert number o (take count (b .orders))) next
+              makes (command r) (b .floor) (putIn (seat .at) count o (b .orders)) (insert number o (take count (b .orders))) next
               (command-last ∙ rw (lt-leb 96 count c)) m
-              (put-packed count at o (b .orders) (h .size .long) (h .places) c ranked (sym tested ∙ t))
+              (ap (λ (s : Seat). putIn (s .at) count o (b .orders)) seated
+              ∙ put-packed count o (b .orders) (h .size .long) (h .places) c (ap (λ (s : Seat). s .held) (sym seated) ∙ t))
               (rw (h .held, brought))
 
   -- ---- revocation
@@ -169,39 +168,40 @@ module _ (b : Book) (count : ℕ) (h : Holding b count) where
     unfolding shelf
     revoke-unfit z = refusal (revoke r) n (unfit-some isRevocation (take (b .size) (b .unit)) r (unheld r (shelf b .orders)) right which n u z) (ne-eqb n 0 z)
 
-    module _ (z : n ≡ 0) (m : ℕ) (names : m ≡ strikeOf r .name .number) (at : ℕ) (ranked : at ≡ rankOf m (take count (b .orders)))
-        (test : Bool) (tested : test ≡ (ltb at count && eqb (orderAt at (b .orders) .number) m)) where
+    module _ (z : n ≡ 0) (m : ℕ) (names : m ≡ strikeOf r .name .number) (seat : Seat) (seated : seat ≡ seatOf m (take count (b .orders))) where
       revoke-rest : answer (revoke r) (shelf b) ≡ firstOf (unheld r (take count (b .orders)))
       unfolding shelf
       revoke-rest =
           unfit-none isRevocation (take (b .size) (b .unit)) r (unheld r (shelf b .orders)) right which n u z
           ∙ rw (h .held)
 
-      its-rank : at ≡ rankOf (strikeOf r .name .number) (take count (b .orders))
-      its-rank = ranked ∙ ap (λ (k : ℕ). rankOf k (take count (b .orders))) names
+      its-seat : seatOf (strikeOf r .name .number) (take count (b .orders)) ≡ seat
+      its-seat = ap (λ (k : ℕ). seatOf k (take count (b .orders))) (sym names) ∙ sym seated
 
-      its-test : (ltb at count && eqb (orderAt at (b .orders) .number) (strikeOf r .name .number)) ≡ test
-      its-test = ap (λ (k : ℕ). ltb at count && eqb (orderAt at (b .orders) .number) k) (sym names) ∙ sym tested
+      revoke-test : any (named (strikeOf r .name)) (take count (b .orders)) ≡ seat .held
+      revoke-test = held-seat (take count (b .orders)) (h .rising) (strikeOf r .name) ∙ ap (λ (s : Seat). s .held) its-seat
 
-      revoke-test : any (named (strikeOf r .name)) (take count (b .orders)) ≡ test
-      revoke-test = held-at count at (b .orders) fits (h .rising) (strikeOf r .name) its-rank ∙ its-test
+      revoke-already : any (already (strikeOf r)) (take count (b .orders)) ≡ seat .struck
+      revoke-already = struck-seat (take count (b .orders)) (h .rising) (strikeOf r) ∙ ap (λ (s : Seat). s .struck) its-seat
 
-      pub revoke-unheld : test ≡ false → outcome 25 b ≡ outcomeOf (revoke r) b
+      pub revoke-unheld : seat .held ≡ false → outcome 25 b ≡ outcomeOf (revoke r) b
       revoke-unheld t = refusal (revoke r) 25 (revoke-rest ∙ rw (revoke-test ∙ t)) refl
 
-      module _ (t : test ≡ true) (struck : Bool) (is-struck : struck ≡ orderAt at (b .orders) .struck) where
-        revoke-last : answer (revoke r) (shelf b) ≡ firstOf ((struck, 26) ∷ [])
-        revoke-last = revoke-rest ∙ rw (revoke-test ∙ t, struck-at count at (b .orders) fits (h .rising) (strikeOf r) its-rank (its-test ∙ t), is-struck)
+      module _ (t : seat .held ≡ true) where
+        revoke-last : answer (revoke r) (shelf b) ≡ firstOf ((seat .struck, 26) ∷ [])
+        revoke-last = revoke-rest ∙ rw (revoke-test ∙ t, revoke-already)
 
-        pub revoke-struck : struck ≡ true → outcome 26 b ≡ outcomeOf (revoke r) b
+        pub revoke-struck : seat .struck ≡ true → outcome 26 b ≡ outcomeOf (revoke r) b
         revoke-struck e = refusal (revoke r) 26 (revoke-last ∙ rw e) refl
 
-        pub revoke-done : struck ≡ false → (next : Book) → next ≡ withOrders b (b .floor) (struckIn at (b .orders)) → outcome 0 next ≡ outcomeOf (revoke r) b
+        pub revoke-done : seat .struck ≡ false → (next : Book) → next ≡ withOrders b (b .floor) (struckIn (seat .at) (b .orders))
+            → outcome 0 next ≡ outcomeOf (revoke r) b
         unfolding shelf
         revoke-done e next q =
-            makes (revoke r) (b .floor) (struckIn at (b .orders)) (map (strikeAt (strikeOf r)) (take count (b .orders))) next
+            makes (revoke r) (b .floor) (struckIn (seat .at) (b .orders)) (map (strikeAt (strikeOf r)) (take count (b .orders))) next
             (revoke-last ∙ rw e) q
-            (strike-packed (strikeOf r) count at (b .orders) (h .size .long) (h .places) (h .few) (h .rising) its-rank (its-test ∙ t))
+            (ap (λ (s : Seat). struckIn (s .at) (b .orders)) (sym its-seat)
+            ∙ strike-packed (strikeOf r) count (b .orders) (h .size .long) (h .places) (h .few) (h .rising) (ap (λ (s : Seat). s .held) its-seat ∙ t))
             (rw (h .held))
 
   -- ---- close

@@ -3,17 +3,17 @@ use Prim.Native.Nat.{ℕ, zero, suc, max, _+_, _-_, _≤_, _<_}
 use Rattle.keyed.proofs.Keeping.{keep-append, length-keep}
 use Rattle.keyed.proofs.Sorting.{length-insert}
 use Rattle.book.proofs.Leading.{Rising}
-use Rattle.book.proofs.Ranks.{rank-within, at-front}
+use Rattle.book.proofs.Ranks.{rank-within, seat-inside}
 use Rattle.book.specs.Answers.{found}
 use Rattle.book.specs.Places.{packed}
-use Rattle.book.specs.Steps.{rankOf, putIn, orderAt, struckIn}
+use Rattle.book.specs.Steps.{rankOf, putIn, orderAt, isHeldAt, seatOf, struckIn}
 use Rattle.book.specs.declared.InForce.the-variants.{Nothing, Number}
 use Rattle.keyed.specs.Keyed.{keep, insert, greatest, Above, Ascending}
 use Rattle.order.specs.Orders.{Strike, number, live, pastEnd, struckOut, strikeAt, emptyOrder}
 use Rattle.order.specs.declared.Order.{Order}
-use Rattle.text.proofs.Tests.{by-test, and-parts}
+use Rattle.text.proofs.Tests.{by-test}
 use Rattle.text.specs.Bytes.{upto}
-use borrow.Author.Tests.{leb-true, leb-false, ltb-true, le-ltb, lt-ltb, ne-eqb, eqb-false}
+use borrow.Author.Tests.{leb-true, leb-false, le-ltb, lt-ltb, ne-eqb, eqb-false}
 use lib.Dec.{eqb, leb, ltb, leb·suc-suc}
 use lib.ListN.{length, take, drop, set, replicate, length-append, length-take, length-map, take-append-drop, List·getD-append}
 use lib.Seq.{take-suc, drop-cons, drop-drop, length-take-le, append-snoc, set-split, set-at, drop-at, drop-append-le, take-take, getD-take, slice-empty, slice-cons}
@@ -46,20 +46,18 @@ rest-packed count l c e =
     let s : length (take count l) ≡ count = length-take-le count l c in
     ap (drop count) e ∙ rw s (drop-at (take count l) (replicate (96 - count) emptyOrder) count s)
 
--- put in at its rank, where it is not held and there is room, it stands among the others
-pub put-packed : (count at : ℕ) (o : Order) (l : List Order) → length l ≡ 96 → l ≡ packed (take count l) → count < 96 → at ≡ rankOf (o .number) (take count l)
-    → (ltb at count && eqb (orderAt at l .number) (o .number)) ≡ false → putIn at count o l ≡ packed (insert number o (take count l))
-unfolding putIn
-put-packed count at o l w e c r t =
+-- put in at its number's seat, where it is not held and there is room, it stands among the others
+pub put-packed : (count : ℕ) (o : Order) (l : List Order) → length l ≡ 96 → l ≡ packed (take count l) → count < 96
+    → seatOf (o .number) (take count l) .held ≡ false → putIn (seatOf (o .number) (take count l) .at) count o l ≡ packed (insert number o (take count l))
+unfolding putIn seatOf isHeldAt
+put-packed count o l w e c t =
     let c′ : count ≤ length l = omega (arith, w) in
-    let a : at ≤ count = rank-within (o .number) count at l r in
+    let at : ℕ = rankOf (o .number) (take count l) in
     let s : length (take count l) ≡ count = length-take-le count l c′ in
-    let z = at-front (λ (x : Order). eqb (x .number) (o .number)) count at l c′ ∙ t in
-    let i : insert number o (take count l) ≡ take at (take count l) ++ (o ∷ drop at (take count l)) = rw (← r) at (insert-ranked o (take count l) (rw (← r) z)) in
     let n : 96 - count ≡ suc (96 - suc count) = omega (arith, c) in
     let d : drop (suc count) l ≡ replicate (96 - suc count) emptyOrder =
     sym (ap (λ (k : ℕ). drop k l) (add-one count)) ∙ sym (drop-drop 1 count l) ∙ ap (drop 1) (rest-packed count l c′ e) ∙ ap (λ (k : ℕ). drop 1 (replicate k emptyOrder)) n in
-    rw (length-insert number o (take count l), s, i, take-take at count l a, d)
+    rw (length-insert number o (take count l), s, insert-ranked o (take count l) t, take-take at count l (rank-within (o .number) count l), d)
     (sym (append-assoc (take at l) (o ∷ drop at (take count l)) (replicate (96 - suc count) emptyOrder)))
 
 -- ---- the loop of put_in: the places from `count` down to i hold those from before them, and the place i still what stood there
@@ -134,18 +132,18 @@ module _ (s : Strike) where
       let z : (ltb (rankOf its h) (length h) && eqb (orderAt (rankOf its h) h .number) its) ≡ true = rw (q, leb·suc-suc (suc (rankOf its h)) (length h)) at e in
       rw (q, ne-eqb (o .number) its (λ n. omega (arith, leb-false its (o .number) q, n))) (ap (λ (m : List Order). o ∷ m) (strike-ranked (suc (o .number)) h (r .1) z)))
 
-  pub strike-packed : (count at : ℕ) (l : List Order) → length l ≡ 96 → l ≡ packed (take count l) → count ≤ 96 → Rising 0 (take count l) → at ≡ rankOf its (take count l)
-      → (ltb at count && eqb (orderAt at l .number) its) ≡ true → struckIn at l ≡ packed (map (strikeAt s) (take count l))
-  unfolding struckIn
-  strike-packed count at l w e c r a t =
+  pub strike-packed : (count : ℕ) (l : List Order) → length l ≡ 96 → l ≡ packed (take count l) → count ≤ 96 → Rising 0 (take count l)
+      → seatOf its (take count l) .held ≡ true → struckIn (seatOf its (take count l) .at) l ≡ packed (map (strikeAt s) (take count l))
+  unfolding struckIn seatOf isHeldAt
+  strike-packed count l w e c r t =
       let c′ : count ≤ length l = omega (arith, w, c) in
-      let k : at < count = ltb-true at count (and-parts (ltb at count) _ t .0) in
+      let at : ℕ = rankOf its (take count l) in
+      let k : at < count = seat-inside its count l (seatOf its (take count l)) refl t in
       let n : length (take count l) ≡ count = length-take-le count l c′ in
-      let z = at-front (λ (x : Order). eqb (x .number) its) count at l c′ ∙ t in
-      let i : map (strikeAt s) (take count l) ≡ take at (take count l) ++ (struckOut (orderAt at (take count l)) ∷ drop (suc at) (take count l)) = rw (← a) at (strike-ranked 0 (take count l) r (rw (← a) z)) in
       let d : drop (suc at) l ≡ drop (suc at) (take count l) ++ replicate (96 - count) emptyOrder =
       ap (drop (suc at)) e ∙ rw n (drop-append-le (suc at) (take count l) (replicate (96 - count) emptyOrder) (omega (arith, k, n))) in
-      rw (length-map (take count l) (strikeAt s), n, i, take-take at count l (omega (arith, k)), getD-take count l at emptyOrder k, d)
+      let before : take at (take count l) ≡ take at l = take-take at count l (omega (arith, k)) in
+      rw (length-map (take count l) (strikeAt s), n, strike-ranked 0 (take count l) r t, before, getD-take count l at emptyOrder k, d)
       (sym (append-assoc (take at l) (struckOut (orderAt at l) ∷ drop (suc at) (take count l)) (replicate (96 - count) emptyOrder)))
 
 -- ---- the loop of close: the orders passed so far that end past t, in the first places

@@ -4,14 +4,15 @@ use Rattle.book.specs.Places.{shelf, fitsAfter, formedBook}
 use Rattle.book.specs.declared.Book.{Book}
 use Rattle.book.specs.declared.fitness.Tally.{Tally}
 use Rattle.book.specs.declared.fitness.Tally.the-variants.{Malformed, Holds}
+use Rattle.book.specs.declared.places.Seat.{Seat}
 use Rattle.ledger.specs.Calls.{firstOf, unfit}
 use Rattle.order.specs.declared.Order.{Order}
 use Rattle.record.specs.declared.Record.{Record}
 use Rattle.order.specs.Orders.{emptyOrder, struckOut}
 use Rattle.text.specs.Bytes.{upto}
-use lib.Dec.{leb}
+use lib.Dec.{leb, ltb, eqb}
 use lib.ListN.{length, getD, take, drop}
-use mathlib.Core.Bool.{Bool, cond}
+use mathlib.Core.Bool.{Bool, _&&_, cond}
 use mathlib.Core.List.{List, [], _∷_, _++_}
 
 -- how many of the first places hold orders, by ascending number from lo on, that fit a book with the floor f
@@ -42,6 +43,17 @@ withOrders b floor orders = record { size = b .size; unit = b .unit; floor = flo
 -- the order at a place
 abbrev pub orderAt : ℕ → List Order → Order
 orderAt i l = getD l i emptyOrder
+
+-- where the number n stands or would stand, whether an order has it, and whether that order is struck
+unfoldable pub isHeldAt : ℕ → ℕ → List Order → Bool
+isHeldAt n at l = ltb at (length l) && eqb (orderAt at l .number) n
+
+unfoldable pub seatOf : ℕ → List Order → Seat
+seatOf n l = record {
+  at = rankOf n l;
+  held = isHeldAt n (rankOf n l) l;
+  struck = isHeldAt n (rankOf n l) l && orderAt (rankOf n l) l .struck;
+}
 
 -- the order at a place struck
 unfoldable pub struckIn : ℕ → List Order → List Order

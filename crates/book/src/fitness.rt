@@ -6,7 +6,7 @@ use text::scan;
 ghost use Rattle.book.specs.Places.{fitsAfter, formedUnit};
 ghost use Rattle.book.specs.Steps.{leading, tallyOf, unfitOf};
 ghost use Rattle.order.specs.Orders.{isEmpty};
-ghost use Rattle.text.specs.Bytes.{all, is};
+ghost use Rattle.text.specs.Bytes.{all};
 ghost use lib.ListN.{take, drop};
 ghost use mathlib.Core.Path.{_≡_};
 
@@ -16,20 +16,6 @@ pub enum Tally {
     Holds(usize),
 }
 
-// The bytes are all zero.
-fn are_zero(s: &[u8]) -> bool
-    ensures { λ r. ⌜ r ≡ all (is 0) (now (s .entry)) ⌝ }
-{
-    let mut i = 0;
-    while i < s.len() {
-        if s[i] != 0 {
-            return false;
-        }
-        i += 1;
-    }
-    true
-}
-
 // The unit's code is good, and its unused room is zero.
 fn is_formed_unit(size: usize, unit: &[u8]) -> bool
     ensures { λ r. ⌜ r ≡ formedUnit size (now (unit .entry)) ⌝ }
@@ -37,7 +23,7 @@ fn is_formed_unit(size: usize, unit: &[u8]) -> bool
     if 16 < size {
         return false;
     }
-    name::unit::is_unit(scan::front(unit, size)) & are_zero(scan::rest(unit, size))
+    name::unit::is_unit(scan::front(unit, size)) & scan::are_zero(scan::rest(unit, size))
 }
 
 // Whether an order may stand after numbers below `least`, in a book with this floor.

@@ -97,8 +97,9 @@ impl Book {
         if o.end <= self.floor {
             return answered(23, self);
         }
-        let at = places::rank(self, count, o.number);
-        if places::is_at(self, count, at, o.number) {
+        let seat = places::seat_of(self, count, o.number);
+        let at = seat.at;
+        if seat.held {
             return answered(22, self);
         }
         if count == 96 {
@@ -120,11 +121,12 @@ impl Book {
             return answered(unfit, self);
         }
         let n = order::named_by(r);
-        let at = places::rank(self, count, n);
-        if !places::is_at(self, count, at, n) {
+        let seat = places::seat_of(self, count, n);
+        let at = seat.at;
+        if !seat.held {
             return answered(25, self);
         }
-        if places::is_struck(self, at) {
+        if seat.struck {
             return answered(26, self);
         }
         answered(0, places::strike(self, at))

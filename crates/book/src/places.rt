@@ -5,38 +5,42 @@ use order::Order;
 ghost use Prim.Native.Nat.{_≤_, _<_};
 ghost use Rattle.book.specs.Answers.{found};
 ghost use Rattle.book.specs.Places.{packed};
-ghost use Rattle.book.specs.Steps.{rankOf, orderAt, putIn, struckIn, withOrders};
+ghost use Rattle.book.specs.Steps.{seatOf, putIn, struckIn, withOrders};
 ghost use Rattle.keyed.specs.Keyed.{keep, greatest, Ascending};
 ghost use Rattle.order.specs.Orders.{number, live, pastEnd};
-ghost use lib.Dec.{eqb, ltb};
 ghost use lib.ListN.{take};
-ghost use mathlib.Core.Bool.{_&&_};
 ghost use mathlib.Core.Path.{_≡_};
 
-// Of the first `count` orders, how many stand before the first whose number is n or more.
-pub fn rank(b: Book, count: usize, n: u64) -> usize
+// Where a number stands among the held orders or would stand: how many are before it, whether an order has it, and whether that one is struck.
+pub struct Seat {
+    pub at: usize,
+    pub held: bool,
+    pub struck: bool,
+}
+
+// The seat of a number among the first `count` orders. One look for all three, since each look by a function of its own copies the book.
+pub fn seat_of(b: Book, count: usize, n: u64) -> Seat
     requires { ⌜ count ≤ 96 ⌝ }
-    ensures { λ r. ⌜ r ≡ rankOf n (take count (b .orders)) ⌝ }
+    ensures { λ r. ⌜ r ≡ seatOf n (take count (b .orders)) ⌝ }
 {
     let mut i = 0;
     while i < count {
-        if n <= b.orders[i].number {
-            return i;
+        let o = b.orders[i];
+        if n <= o.number {
+            let held = o.number == n;
+            return Seat {
+                at: i,
+                held,
+                struck: held & o.struck,
+            };
         }
         i += 1;
     }
-    i
-}
-
-// Whether the place `at` is one of the first `count` and its order has the number n.
-pub fn is_at(b: Book, count: usize, at: usize, n: u64) -> bool
-    requires { ⌜ count ≤ 96 ⌝ }
-    ensures { λ r. ⌜ r ≡ (ltb at count && eqb (orderAt at (b .orders) .number) n) ⌝ }
-{
-    if count <= at {
-        return false;
+    Seat {
+        at: i,
+        held: false,
+        struck: false,
     }
-    b.orders[at].number == n
 }
 
 // The book with one order more, put in at a place: those from there on move up by one.
@@ -52,13 +56,6 @@ pub fn put_in(b: Book, at: usize, count: usize, o: Order) -> Book
     }
     next.orders[at] = o;
     next
-}
-
-pub fn is_struck(b: Book, at: usize) -> bool
-    requires { ⌜ at < 96 ⌝ }
-    ensures { λ r. ⌜ r ≡ orderAt at (b .orders) .struck ⌝ }
-{
-    b.orders[at].struck
 }
 
 // The book with the order at a place struck.

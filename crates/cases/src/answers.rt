@@ -294,33 +294,21 @@ fn answer(line: &mut [u8]) {
     let is_time = (f.count == 7) & scan::same(key, b"time");
     if is_read {
         run_read(line, places);
-        return;
-    }
-    if is_norm {
+    } else if is_norm {
         run_roomed(Roomed::Norm, line, places);
-        return;
-    }
-    if is_cread {
+    } else if is_cread {
         run_roomed(Roomed::Cread, line, places);
-        return;
-    }
-    if is_cnorm {
+    } else if is_cnorm {
         run_roomed(Roomed::Cnorm, line, places);
-        return;
-    }
-    if is_prog {
+    } else if is_prog {
         run_prog(line, places);
-        return;
-    }
-    if is_book {
+    } else if is_book {
         calls::run(line, places[1], places[2]);
-        return;
-    }
-    if is_time {
+    } else if is_time {
         run_time(line, places);
-        return;
+    } else {
+        say_unknown();
     }
-    say_unknown();
 }
 
 // Answers the request on a line, which is without its end, by one line.

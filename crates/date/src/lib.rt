@@ -4,7 +4,7 @@ use text::digits::Digits;
 use text::put;
 ghost use Prim.Native.Nat.{_+_, _-_, _*_, _≤_, _<_};
 ghost use Rattle.date.specs.Date.{fitsByte, shaped, dateShape, fieldAt, fieldsOf, daysIn, isReal, dateOf, daysOf, ahead, clockOf, instantOf, before, dayText, timeText, letter, letterText, dateText};
-ghost use Rattle.text.specs.Bytes.{all, isDigit, within};
+ghost use Rattle.text.specs.Bytes.{all, isDigit};
 ghost use Rattle.text.specs.Digits.{digitsText};
 ghost use Rattle.text.specs.Puts.{limit};
 ghost use lib.ListN.{length, take, drop};
@@ -13,9 +13,10 @@ ghost use mathlib.Core.Bool.{true};
 ghost use mathlib.Core.List.{_∷_};
 ghost use mathlib.Core.Path.{_≡_};
 
-// A date as it is written, kept whole: eight bytes.
+// A date as it is written, kept whole. The year has four bytes, so that no number of a date lies across two words of a value that holds it: else each
+// value read would take a way through memory.
 pub struct Date {
-    pub year: u16,
+    pub year: u32,
     pub month: u8,
     pub day: u8,
     pub hour: u8,
@@ -88,7 +89,7 @@ fn fields(s: &[u8]) -> Date
 {
     let day = pair(s, 0);
     let month = pair(s, 3);
-    let year = field(s, 6, 4) as u16;
+    let year = field(s, 6, 4) as u32;
     let hour = pair(s, 11);
     let minute = pair(s, 14);
     let second = pair(s, 17);
@@ -104,7 +105,7 @@ fn fields(s: &[u8]) -> Date
     }
 }
 
-fn days_in(year: u16, month: u8) -> u8
+fn days_in(year: u32, month: u8) -> u8
     ensures { λ r. ⌜ r ≡ daysIn year month ⌝ }
 {
     match month {
@@ -140,7 +141,7 @@ pub fn read(s: &[u8]) -> Dated
 }
 
 // The days of the first months of a year.
-fn days_of(year: u16, months: u8) -> u64
+fn days_of(year: u32, months: u8) -> u64
     ensures { λ r. ⌜ (r ≡ daysOf year months) × (r ≤ 31 * months) ⌝ }
 {
     let mut days: u64 = 0;

@@ -5,7 +5,8 @@ use Rattle.brief.specs.Brief.{sixLines}
 use Rattle.demands.specs.Demand1.{isReaders, Leaves}
 use Rattle.gateway.specs.Entry.{lengthOr11, codeOf, outOf}
 use Rattle.plan.specs.Rows.{planOf, soughtOf}
-use Rattle.reader.proofs.Firsts.{Given, given-first, numbers}
+use Rattle.reader.proofs.Firsts.{given-first, numbers}
+use Rattle.reader.specs.Refusals.{Given}
 use Rattle.reader.specs.Reader.{valued, labelled, reading, bodyIn, planned, answerAt, readOf}
 use Rattle.reader.specs.Refusals.{Refusal, answer}
 use Rattle.reader.specs.declared.Answer.{Answer}

@@ -1,17 +1,17 @@
 -- What demand 2 says of files, at any address of any plan. Assumes nothing.
 use Prim.Native.Nat.{ℕ, _+_, _≤_}
 use Rattle.demands.specs.Demand2.{address}
-use Rattle.lines.proofs.Order.{Perm}
+use Rattle.lines.specs.Order.{Perm}
 use Rattle.lines.specs.Entries.{again}
 use Rattle.name.specs.declared.MessageType.{MessageType}
 use Rattle.plan.specs.declared.Sought.{Sought}
 use Rattle.reader.proofs.Firsts.{NoneHolds, none, next, none-given, accepted-none, numbers}
 use Rattle.reader.specs.Messages.{given, rowIn, entriesIn}
-use Rattle.reader.specs.Reader.{bodyIn, messageOf, unitIn, planned, answerAt, readOf}
+use Rattle.reader.specs.Reader.{Sound, bodyIn, messageOf, unitIn, planned, answerAt, readOf}
 use Rattle.reader.specs.Refusals.{Refusal, refused, answer}
 use Rattle.reader.specs.declared.Answer.{Answer}
 use Rattle.reading.proofs.Agreed.{Accepted, accepted}
-use Rattle.reading.proofs.Alike.{Sound, reordered}
+use Rattle.reading.proofs.Alike.{reordered}
 use Rattle.record.specs.declared.Record.{Record}
 use Rattle.roundtrip.proofs.RoundTrip.{planned-back, small-file}
 use Rattle.text.proofs.Tests.{or-parts}

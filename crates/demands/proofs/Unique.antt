@@ -86,6 +86,7 @@ within =
       text-scan-starts = (λ κs a. tt, λ κs a. equation _);
       text-scan-first = (λ κs a. tt, λ κs a. equation _);
       text-scan-lead = (λ κs a. tt, λ κs a. equation _);
+      text-scan-are-zero = (λ κs a. tt, λ κs a. equation _);
       text-scan-body = (λ κs a. tt, λ κs a. equation _);
       text-scan-trim = (λ κs a. tt, λ κs a. text-equation _ _);
       text-scan-front = (λ κs a. tt, λ κs a. text-equation _ _);

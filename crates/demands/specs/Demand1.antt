@@ -9,7 +9,7 @@ use Rattle.demands.specs.Contracts.{Contracts}
 use Rattle.gateway.specs.Entry.{codeOf, outOf}
 use Rattle.ledger.specs.Calls.{Call}
 use Rattle.plan.specs.Rows.{planOf, soughtOf}
-use Rattle.reader.proofs.Firsts.{Given}
+use Rattle.reader.specs.Refusals.{Given}
 use Rattle.reader.specs.Reader.{planned, readOf}
 use Rattle.record.specs.Records.{zeroRecord}
 use Rattle.record.specs.declared.Record.{Record}

@@ -2,16 +2,14 @@
 -- reading/proofs/Alike.antt; `Perm`, another order, in lines/proofs/Order.antt; `bodyColumn`, the body's values, in reading/proofs/Agreed.antt)
 use Prim.Native.Nat.{ℕ, _≤_}
 use Rattle.layout.specs.Rows.{rowOf}
-use Rattle.lines.proofs.Order.{Perm}
+use Rattle.lines.specs.Order.{Perm}
 use Rattle.lines.specs.Entries.{again}
 use Rattle.lines.specs.Lines.{texts}
 use Rattle.plan.specs.Rows.{planOf, soughtOf}
 use Rattle.plan.specs.declared.Sought.{Sought}
 use Rattle.reader.specs.Messages.{given, rowIn, layoutIn, entriesIn}
-use Rattle.reader.specs.Reader.{bodyIn, planned, readOf}
+use Rattle.reader.specs.Reader.{Clean, Sound, bodyColumn, bodyIn, planned, readOf}
 use Rattle.reader.specs.Refusals.{Refusal, accepted}
-use Rattle.reading.proofs.Agreed.{bodyColumn}
-use Rattle.reading.proofs.Alike.{Clean, Sound}
 use Rattle.record.specs.declared.Record.{Record}
 use Rattle.roundtrip.specs.Own.{OwnAddress}
 use Rattle.text.specs.Bytes.{any}

@@ -46,6 +46,7 @@ pub record Within : Type 0 where
   pub text-scan-starts : Answers text.scan.starts.ended text.scan.starts.Reads.Asked text.scan.starts.Reads.Learnt
   pub text-scan-first : Answers text.scan.first.ended text.scan.first.Reads.Asked text.scan.first.Reads.Learnt
   pub text-scan-lead : Answers text.scan.lead.ended text.scan.lead.Reads.Asked text.scan.lead.Reads.Learnt
+  pub text-scan-are-zero : Answers text.scan.are_zero.ended text.scan.are_zero.Reads.Asked text.scan.are_zero.Reads.Learnt
   pub text-scan-body : Answers text.scan.body.ended text.scan.body.Reads.Asked text.scan.body.Reads.Learnt
   pub text-scan-trim : Lends text.scan.trim.ended (λ κs z. z .now) text.scan.trim.Reads.Asked text.scan.trim.Reads.Learnt
   pub text-scan-front : Lends text.scan.front.ended (λ κs z. z .now) text.scan.front.Reads.Asked text.scan.front.Reads.Learnt

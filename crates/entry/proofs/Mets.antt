@@ -7,7 +7,7 @@ use lib.Dec.{eqb, eqb·zero-suc, eqb·suc-suc}
 use lib.ListN.{length}
 use mathlib.Core.Bool.{_&&_, and-assoc}
 use mathlib.Core.List.{List, [], _∷_}
-use mathlib.Core.Path.{_≡_, refl, ap, _∙_}
+use mathlib.Core.Path.{_≡_, refl, ap}
 
 module _ (m : Met) (label s : List ℕ) (e : m ≡ metOf label s) where
   pub size-is : m .size ≡ length label

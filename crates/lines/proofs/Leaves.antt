@@ -4,15 +4,14 @@ use Prim.Native.Nat.{ℕ, _+_, _-_, _≤_, _<_}
 use Rattle.lines.specs.Lines.{isSep}
 use Rattle.lines.specs.Places.{Holds, notPlain, plainRun, breakOf}
 use Rattle.lines.specs.declared.Break.the-variants.{After, Bad}
-use Rattle.text.proofs.Cuts.{drop-step, part-from, part-front, length-part, upto-here, upto-on, upto-end, upto-append, all-none, skip-drop}
+use Rattle.text.proofs.Cuts.{drop-step, part-from, part-front, length-part, upto-here, upto-on, upto-over, upto-end, all-none, skip-drop}
 use Rattle.text.proofs.Trims.{end-take, end-length}
-use Rattle.text.specs.Bytes.{part, any, all, upto, is, isBlank, isPlain, skip, skipEnd, trim}
+use Rattle.text.specs.Bytes.{part, all, is, isBlank, isPlain, skip, skipEnd, trim}
 use borrow.Author.Tests.{ne-eqb, le-leb, lt-leb}
 use lib.Dec.{eqb, leb}
-use lib.ListN.{length, getD, take, drop, length-append, length-take, length-drop, take-append-drop, drop-of-length-le}
-use lib.Seq.{drop-drop}
+use lib.ListN.{length, getD, take, drop, drop-of-length-le}
 use mathlib.Core.Bool.{true, false, _&&_, and-false}
-use mathlib.Core.List.{List, [], _∷_, _++_}
+use mathlib.Core.List.{List, [], _∷_}
 use mathlib.Core.Path.{_≡_, sym, ap, _∙_}
 use native.Mathlib.Omega.{arith}
 
@@ -27,13 +26,7 @@ module _ (s : List ℕ) (i : ℕ) (e : plainRun s ≡ i + plainRun (drop i s)) w
 
   -- k at a time
   pub plain-over : (k : ℕ) → i + k ≤ length s → all isPlain (part i (i + k) s) ≡ true → plainRun s ≡ (i + k) + plainRun (drop (i + k) s)
-  plain-over k h t =
-      let n : i + k - i ≡ k = omega arith in
-      let a : List ℕ = take k (drop i s) in
-      let none : any notPlain a ≡ false = all-none notPlain isPlain (λ x p. rw p) a (rw n at t) in
-      let cut : upto notPlain (drop i s) ≡ a ++ upto notPlain (drop (i + k) s) =
-      ap (upto notPlain) (sym (take-append-drop k (drop i s))) ∙ upto-append notPlain a (drop k (drop i s)) none ∙ rw (drop-drop k i s) in
-      omega (arith, ap length cut, length-append a (upto notPlain (drop (i + k) s)), length-take k (drop i s), length-drop i s)
+  plain-over k h t = omega (arith, upto-over notPlain s i k h (all-none notPlain isPlain (λ x p. rw p) (part i (i + k) s) t))
 
   pub plain-end : length s ≤ i → i ≡ plainRun s
   plain-end h = omega (arith, ap length (upto-end notPlain s i h))

@@ -2,6 +2,7 @@
 -- Assumes nothing.
 use Prim.Native.Nat.{ℕ, suc, _+_}
 use Rattle.lines.specs.Entries.{Entry, stands, again, missing, valueAt, column}
+use Rattle.lines.specs.Order.{Perm, done, keep, swap, both}
 use Rattle.text.proofs.Tests.{or-parts}
 use Rattle.text.specs.Lists.{onto, sift}
 use borrow.Author.Tests.{eqb-true, eqb-false, ne-eqb}
@@ -10,13 +11,6 @@ use mathlib.Core.Bool.{Bool, true, false, _||_, cond}
 use mathlib.Core.List.{List, [], _∷_}
 use mathlib.Core.Option.{Option, none, some}
 use mathlib.Core.Path.{_≡_, refl, sym, ap, ap₂, _∙_}
-
--- ys is xs in another order
-pub data Perm {A : Type 0} : List A → List A → Type 0 where
-  done : Perm [] []
-  keep : (x : A) {xs ys : List A} → Perm xs ys → Perm (x ∷ xs) (x ∷ ys)
-  swap : (x y : A) (xs : List A) → Perm (x ∷ y ∷ xs) (y ∷ x ∷ xs)
-  both : {xs ys zs : List A} → Perm xs ys → Perm ys zs → Perm xs zs
 
 -- ---- entries
 

@@ -1,4 +1,5 @@
 pub mod Lines
 pub mod Entries
+pub mod Order
 pub mod Places
 pub mod Mask

@@ -12,7 +12,6 @@ ghost use Prim.Native.Nat.{_+_, _<_, min};
 ghost use Rattle.list.specs.Forms.{oneIn, noTriple, gradientsIn, tripleText, gradientsText};
 ghost use Rattle.text.specs.Bytes.{trim};
 ghost use Rattle.text.specs.Puts.{limit};
-ghost use lib.IntN.{pos};
 ghost use lib.ListN.{length, replicate};
 ghost use lib.Seq.{sets};
 ghost use mathlib.Core.Bool.{true, false};

@@ -90,37 +90,28 @@ fn close(held: Book, rounds: u32) -> u32 {
     sum
 }
 
-// Commands with odd numbers for the middle of a book, which is the same each time.
-fn put_in(held: Book, command: Record, rounds: u32) -> u32 {
+// Numbers that are held, or odd ones, which are not and stand in the middle of the book.
+fn number(i: u32, is_held: bool) -> u64 {
+    if is_held {
+        (i % 96) as u64 * 2 + 2
+    } else {
+        (i % 16) as u64 * 2 + 81
+    }
+}
+
+// Commands to a book that is the same each time.
+fn give(held: Book, order: Record, rounds: u32, is_held: bool) -> u32 {
     let mut b = held;
-    let mut r = command;
+    let mut r = order;
     let mut sum: u32 = 0;
     let mut i: u32 = 0;
     while i < rounds {
-        let c = id((i % 16) as u64 * 2 + 81);
+        let c = id(number(i, is_held));
         r.cells[0] = c;
         b.floor = i % 1024;
         let o = b.command(r);
         let next = o.book;
         sum = num::wrapping_add_u32(sum, said(o.number, next.orders[(i % 96) as usize]));
-        i += 1;
-    }
-    sum
-}
-
-// Commands with numbers that are held.
-fn repeat(held: Book, command: Record, rounds: u32) -> u32 {
-    let mut b = held;
-    let mut r = command;
-    let mut sum: u32 = 0;
-    let mut i: u32 = 0;
-    while i < rounds {
-        let c = id((i % 96) as u64 * 2 + 2);
-        r.cells[0] = c;
-        b.floor = i % 1024;
-        let o = b.command(r);
-        b = o.book;
-        sum = num::wrapping_add_u32(sum, said(o.number, b.orders[(i % 96) as usize]));
         i += 1;
     }
     sum
@@ -167,8 +158,8 @@ pub extern "C" fn halimpung_pace(
     let sum = match call {
         0 => ask(b, rounds),
         1 => close(b, rounds),
-        2 => put_in(b, order, rounds),
-        3 => repeat(b, order, rounds),
+        2 => give(b, order, rounds, false),
+        3 => give(b, order, rounds, true),
         _ => revoke(b, strike, rounds),
     };
     sum % 65536

@@ -4,8 +4,7 @@ use Prim.Native.Nat.{ℕ}
 use Rattle.name.specs.declared.MessageType.{MessageType}
 use Rattle.plan.specs.declared.Sought.{Sought}
 use Rattle.reader.specs.Reader.{valued, labelled, reading, planned}
-use Rattle.reader.specs.Refusals.{Refusal, refusal, refused, accepted, answer}
-use Rattle.reader.specs.declared.Answer.{Answer}
+use Rattle.reader.specs.Refusals.{Refusal, refusal, refused, accepted, answer, First, here, later, Given}
 use Rattle.record.specs.declared.Record.{Record}
 use Rattle.text.proofs.Tests.{by-test, and-parts}
 use Rattle.text.specs.Bytes.{all}
@@ -16,12 +15,7 @@ use mathlib.Core.List.{List, [], _∷_}
 use mathlib.Core.Path.{_≡_, refl}
 use native.Mathlib.Omega.{arith}
 
--- ---- the first that holds, and none that does
-
--- x holds, and none above it
-pub data First : List Refusal → Refusal → Type 0 where
-  here : {x : Refusal} {xs : List Refusal} → x .holds ≡ true → First (x ∷ xs) x
-  later : {x y : Refusal} {xs : List Refusal} → y .holds ≡ false → First xs x → First (y ∷ xs) x
+-- ---- none holds
 
 pub data NoneHolds : List Refusal → Type 0 where
   none : NoneHolds []
@@ -54,12 +48,6 @@ none-given r (next e f) = rw e (none-given r f)
 
 abbrev pub numbered : Refusal → Bool
 numbered x = leb 1 (x .number)
-
--- an answer that is the refusal of the first that holds
-pub record Given (rs : List Refusal) (a : Answer) : Type 0 where
-  pub which : Refusal
-  pub first : First rs which
-  pub says : a ≡ refused (which .number) (which .detail)
 
 pub given-first : (rs : List Refusal) (r : Record) → all numbered rs ≡ true → (answer rs r .number ≡ 0 → ⊥) → Given rs (answer rs r)
 unfolding answer all

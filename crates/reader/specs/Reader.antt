@@ -1,5 +1,5 @@
 -- The reader. Document 01, "Refusal numbers": 13, then 1 to 10 in number order, each with its detail; else the record.
-use Prim.Native.Nat.{ℕ}
+use Prim.Native.Nat.{ℕ, _≤_}
 use Rattle.layout.specs.Layouts.{labelsOf}
 use Rattle.layout.specs.Rows.{textAt, rowOf}
 use Rattle.layout.specs.declared.Layout.{Layout}
@@ -20,6 +20,7 @@ use lib.ListN.{length, take}
 use mathlib.Core.Bool.{Bool, true, false, not}
 use mathlib.Core.List.{List, [], _∷_}
 use mathlib.Core.Option.{Option, none, some}
+use mathlib.Core.Path.{_≡_}
 
 -- ---- 7 to 10, on the column of the body's values
 
@@ -59,13 +60,32 @@ reading t unit file =
     ∷ refusal 4 (seps (texts file)) (not (framed (texts file)))
     ∷ labelled (layoutIn t (given file)) unit (rowIn file) (entriesIn t file)
 
+-- the column of the body's values
+abbrev pub bodyColumn : MessageType → List ℕ → List (List ℕ)
+bodyColumn t file = column 1 (labelsOf (layoutIn t (given file))) (entriesIn t file)
+
 -- the record of a file
 unfoldable pub bodyIn : MessageType → List ℕ → Record
-bodyIn t file = bodyOf (layoutIn t (given file)) (column 1 (labelsOf (layoutIn t (given file))) (entriesIn t file))
+bodyIn t file = bodyOf (layoutIn t (given file)) (bodyColumn t file)
 
 -- a file read as a message of a type for a unit
 unfoldable pub messageOf : MessageType → List ℕ → List ℕ → Answer
 messageOf t unit file = answer (reading t unit file) (bodyIn t file)
+
+-- ---- files that no refusal of 2 to 4 meets
+
+-- of an allowed size, and of allowed bytes
+pub record Clean (file : List ℕ) : Type 0 where
+  pub some-bytes : 1 ≤ length file
+  pub not-long : length file ≤ 8192
+  pub clean : allowedUpto file ≡ length file
+
+-- and with one row between two separators
+pub record Sound (file : List ℕ) : Type 0 where
+  pub some-bytes : 1 ≤ length file
+  pub not-long : length file ≤ 8192
+  pub clean : allowedUpto file ≡ length file
+  pub frame : framed (texts file) ≡ true
 
 -- ---- 13 and 1, on the plan
 

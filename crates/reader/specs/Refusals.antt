@@ -4,8 +4,9 @@ use Prim.Native.Nat.{ℕ}
 use Rattle.reader.specs.declared.Answer.{Answer}
 use Rattle.record.specs.Records.{zeroRecord}
 use Rattle.record.specs.declared.Record.{Record}
-use mathlib.Core.Bool.{Bool, cond}
+use mathlib.Core.Bool.{Bool, true, false, cond}
 use mathlib.Core.List.{List, [], _∷_}
+use mathlib.Core.Path.{_≡_}
 
 pub record Refusal : Type 0 where
   pub number : ℕ
@@ -26,3 +27,16 @@ accepted r = record { number = 0; detail = 0; body = r }
 unfoldable pub answer : List Refusal → Record → Answer
 answer [] r = accepted r
 answer (x ∷ xs) r = cond (x .holds) (refused (x .number) (x .detail)) (answer xs r)
+
+-- ---- the same in other words
+
+-- x holds, and none above it
+pub data First : List Refusal → Refusal → Type 0 where
+  here : {x : Refusal} {xs : List Refusal} → x .holds ≡ true → First (x ∷ xs) x
+  later : {x y : Refusal} {xs : List Refusal} → y .holds ≡ false → First xs x → First (y ∷ xs) x
+
+-- an answer that is the refusal of the first that holds
+pub record Given (rs : List Refusal) (a : Answer) : Type 0 where
+  pub which : Refusal
+  pub first : First rs which
+  pub says : a ≡ refused (which .number) (which .detail)

@@ -4,12 +4,12 @@ use Prim.Native.Nat.{ℕ, _≤_}
 use Rattle.layout.specs.Layouts.{labelsOf}
 use Rattle.layout.specs.Rows.{textAt, rowOf}
 use Rattle.lines.proofs.Steps.{allowed-length}
-use Rattle.lines.specs.Entries.{again, missing, column}
+use Rattle.lines.specs.Entries.{again, missing}
 use Rattle.lines.specs.Lines.{allowedUpto, texts, framed}
 use Rattle.name.specs.declared.MessageType.{MessageType}
 use Rattle.reader.proofs.Firsts.{NoneHolds, next, none-given, accepted-none, reading-numbered}
 use Rattle.reader.specs.Messages.{given, rowIn, layoutIn, entriesIn, valuesOf, isBad}
-use Rattle.reader.specs.Reader.{isThere, valued, labelled, reading, bodyIn, messageOf}
+use Rattle.reader.specs.Reader.{isThere, valued, labelled, reading, bodyColumn, bodyIn, messageOf}
 use Rattle.reader.specs.Refusals.{Refusal, accepted as taken}
 use Rattle.rules.specs.Rules.{brokenIn}
 use Rattle.text.proofs.Cuts.{same-true}
@@ -23,10 +23,6 @@ use mathlib.Core.List.{List, [], _∷_}
 use mathlib.Core.Option.{Option, none, some}
 use mathlib.Core.Path.{_≡_, refl}
 use native.Mathlib.Omega.{arith}
-
--- the column of the body's values
-abbrev pub bodyColumn : MessageType → List ℕ → List (List ℕ)
-bodyColumn t file = column 1 (labelsOf (layoutIn t (given file))) (entriesIn t file)
 
 pub record Accepted (t : MessageType) (unit file : List ℕ) : Type 0 where
   pub some-bytes : 1 ≤ length file

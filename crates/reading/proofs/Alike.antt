@@ -5,15 +5,16 @@ use Prim.Native.Nat.{ℕ, suc, _≤_, _<_}
 use Rattle.layout.specs.Layouts.{labelsOf}
 use Rattle.layout.specs.declared.Layout.{Layout}
 use Rattle.layout.specs.declared.Layout.the-variants.{Market, Mfrr}
-use Rattle.lines.proofs.Order.{Perm, done, keep, swap, both, agree, missing-same, column-same, sift-perm}
+use Rattle.lines.proofs.Order.{agree, missing-same, column-same, sift-perm}
 use Rattle.lines.proofs.Params.{no-param}
 use Rattle.lines.proofs.Steps.{lines-step}
 use Rattle.lines.specs.Entries.{Entry, placeOf, entryOf, entries, again, column}
+use Rattle.lines.specs.Order.{Perm, done, keep, swap, both}
 use Rattle.lines.specs.Lines.{Param, allowed, allowedUpto, lines, textOf, texts, seps, inside, outside, framed, paramOf, params}
 use Rattle.name.specs.declared.MessageType.{MessageType}
 use Rattle.name.specs.declared.MessageType.the-variants.{Cb, Rc, Mg, Eb, Lb, Sr, Vq, Ri, Qr}
 use Rattle.reader.specs.Messages.{given, rowIn, isKindOfCommand, layoutIn, entriesIn, bodyOf}
-use Rattle.reader.specs.Reader.{labelled, reading, bodyIn, messageOf}
+use Rattle.reader.specs.Reader.{Clean, Sound, labelled, reading, bodyIn, messageOf}
 use Rattle.reader.specs.Refusals.{refusal, answer}
 use Rattle.reader.specs.declared.Answer.{Answer}
 use Rattle.text.proofs.Cuts.{upto-seam, past-seam, upto-all, any-append, all-none}
@@ -31,19 +32,6 @@ use native.Mathlib.Nat.{le-refl}
 use native.Mathlib.Omega.{arith}
 
 -- ---- files that no refusal of 2 to 4 meets
-
--- of an allowed size, and of allowed bytes
-pub record Clean (file : List ℕ) : Type 0 where
-  pub some-bytes : 1 ≤ length file
-  pub not-long : length file ≤ 8192
-  pub clean : allowedUpto file ≡ length file
-
--- and with one row between two separators
-pub record Sound (file : List ℕ) : Type 0 where
-  pub some-bytes : 1 ≤ length file
-  pub not-long : length file ≤ 8192
-  pub clean : allowedUpto file ≡ length file
-  pub frame : framed (texts file) ≡ true
 
 pub clean-of : {file : List ℕ} → Sound file → Clean file
 clean-of s = record { some-bytes = s .some-bytes; not-long = s .not-long; clean = s .clean }

@@ -7,11 +7,11 @@ use Rattle.lines.specs.Lines.{allowedUpto}
 use Rattle.name.specs.declared.MessageType.{MessageType}
 use Rattle.plan.specs.Rows.{planOf, soughtOf}
 use Rattle.plan.specs.declared.Sought.{Sought}
-use Rattle.reading.proofs.Agreed.{Accepted, bodyColumn, accepted}
+use Rattle.reading.proofs.Agreed.{Accepted, accepted}
 use Rattle.reader.proofs.Firsts.{NoneHolds, next, accepted-none, numbers, answer-no}
 use Rattle.reading.proofs.Held.{record-valid}
 use Rattle.reader.specs.Messages.{given, layoutIn, entriesIn, valuesOf, isBad, goodOf, bodyOf}
-use Rattle.reader.specs.Reader.{bodyIn, messageOf, planned, answerAt, readOf, unitIn}
+use Rattle.reader.specs.Reader.{bodyColumn, bodyIn, messageOf, planned, answerAt, readOf, unitIn}
 use Rattle.reader.specs.declared.Answer.{Answer}
 use Rattle.record.specs.Records.{Typed}
 use Rattle.record.specs.Records.Typed.{bad, good}

@@ -12,10 +12,10 @@ use Rattle.plan.specs.Rows.{planOf, soughtOf}
 use Rattle.plan.specs.declared.Sought.{Sought}
 use Rattle.reader.proofs.Firsts.{NoneHolds, next, accepted-none, numbers}
 use Rattle.reader.specs.Messages.{given, isKindOfCommand, layoutIn, valuesOf, bodyOf, goodOf}
-use Rattle.reader.specs.Reader.{bodyIn, messageOf, unitIn, planned, answerAt, readOf}
+use Rattle.reader.specs.Reader.{bodyColumn, bodyIn, messageOf, unitIn, planned, answerAt, readOf}
 use Rattle.reader.specs.Refusals.{accepted as taken}
 use Rattle.reader.specs.declared.Answer.{Answer}
-use Rattle.reading.proofs.Agreed.{Accepted, accepted, bodyColumn}
+use Rattle.reading.proofs.Agreed.{Accepted, accepted}
 use Rattle.reading.proofs.Held.{unit-text, record-valid}
 use Rattle.reading.proofs.Validity.{good-of, tidy-body}
 use Rattle.record.specs.Records.{recordOf}

@@ -8,10 +8,9 @@ use Rattle.lines.specs.Lines.{texts, framed, allowedUpto}
 use Rattle.name.specs.declared.MessageType.{MessageType}
 use Rattle.plan.specs.Rows.{planOf, soughtOf}
 use Rattle.plan.specs.declared.Sought.{Sought}
-use Rattle.reading.proofs.Agreed.{bodyColumn}
 use Rattle.reader.proofs.Firsts.{NoneHolds, none, next, answer-no, none-given}
 use Rattle.reader.specs.Messages.{given, rowIn, layoutIn, entriesIn, valuesOf, isBad, bodyOf, goodOf}
-use Rattle.reader.specs.Reader.{isThere, valued, labelled, reading, bodyIn, messageOf, unitIn, planned, answerAt, readOf}
+use Rattle.reader.specs.Reader.{isThere, valued, labelled, reading, bodyColumn, bodyIn, messageOf, unitIn, planned, answerAt, readOf}
 use Rattle.reader.specs.Refusals.{accepted}
 use Rattle.record.specs.Records.{Typed, recordOf, roomsOf}
 use Rattle.record.specs.declared.Record.{Record}

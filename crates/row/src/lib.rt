@@ -5,7 +5,7 @@ use text::scan;
 ghost use Prim.Native.Nat.{_+_, _≤_};
 ghost use Rattle.layout.specs.Layouts.{sizeOf};
 ghost use Rattle.layout.specs.Rows.{rowFields, textAt, bandsIn, tailText, rowText, rowOf};
-ghost use Rattle.lines.specs.Places.{partOf, columnIn, Placed, Holds};
+ghost use Rattle.lines.specs.Places.{partOf, columnIn, Placed};
 ghost use Rattle.row.specs.Steps.{stepOf};
 ghost use Rattle.text.specs.Bytes.{same, is, upto, past, trim};
 ghost use lib.ListN.{length};

@@ -5,9 +5,9 @@ use Rattle.text.proofs.Tests.{by-test, and-parts, or-parts, or-right}
 use Rattle.text.specs.Bytes.{part, same, upto, past, any, all, skip, starts}
 use borrow.Author.Tests.{eq-eqb, ne-eqb, eqb-true}
 use lib.Dec.{eqb}
-use lib.ListN.{length, getD, take, drop, length-drop, length-take, drop-of-length-le, take-append-drop}
+use lib.ListN.{length, getD, take, drop, length-append, length-drop, length-take, drop-of-length-le, take-append-drop}
 use lib.Seq.{drop-cons, getD-take, take-all, drop-drop, take-take, take-nil}
-use mathlib.Core.Bool.{Bool, true, false, _&&_, and-assoc, and-true, and-false, false≢true}
+use mathlib.Core.Bool.{Bool, true, false, _&&_, _||_, and-assoc, and-true, and-false, or-assoc, or-false, false≢true}
 use mathlib.Core.List.{List, [], _∷_, _++_, append-nil}
 use mathlib.Core.Path.{_≡_, refl, sym, ap, ap₂, _∙_}
 use native.Mathlib.Nat.{le-refl, add-zero, sub-zero, suc-sub-suc, zero-sub}
@@ -46,6 +46,12 @@ pub part-front : {A : Type 0} (s : List A) (at end e : ℕ) → at + e ≤ end �
 part-front s at end e h =
     let n : e ≡ at + e - at = omega arith in
     take-take e (end - at) (drop at s) (omega arith) ∙ ap (λ (k : ℕ). take k (drop at s)) n
+
+-- what stands from i on is its next k elements and what follows those
+drop-over : {A : Type 0} (s : List A) (i k : ℕ) → drop i s ≡ part i (i + k) s ++ drop (i + k) s
+drop-over s i k =
+    let n : i + k - i ≡ k = omega arith in
+    rw (n, ← drop-drop k i s) (sym (take-append-drop k (drop i s)))
 
 -- n elements from i + k on, one by one
 module _ {A : Type 0} (d : A) (s : List A) (i : ℕ) where
@@ -118,6 +124,19 @@ pub all-eight : {A : Type 0} (p : A → Bool) (d : A) (s : List A) (i : ℕ) →
 unfolding all
 all-eight p d s i h = rw (eight d s i h) (simp (and-assoc, and-true))
 
+pub any-eight : {A : Type 0} (p : A → Bool) (d : A) (s : List A) (i : ℕ) → i + 8 ≤ length s
+    → (p (getD s i d)
+    || p (getD s (i + 1) d)
+    || p (getD s (i + 2) d)
+    || p (getD s (i + 3) d)
+    || p (getD s (i + 4) d)
+    || p (getD s (i + 5) d)
+    || p (getD s (i + 6) d)
+    || p (getD s (i + 7) d))
+    ≡ any p (part i (i + 8) s)
+unfolding any
+any-eight p d s i h = rw (eight d s i h) (simp (or-assoc, or-false))
+
 -- ---- the first n of a list, one by one
 
 module _ {A : Type 0} (p : A → Bool) (d : A) (n : ℕ) (s : List A) (i : ℕ) (h : i < length s) (k : i < n) where
@@ -180,9 +199,7 @@ module _ {A : Type 0} (p : A → Bool) where
 
   -- k at a time
   pub skip-over : (s : List A) (i k : ℕ) → all p (part i (i + k) s) ≡ true → skip p (drop i s) ≡ skip p (drop (i + k) s)
-  skip-over s i k h =
-      let n : i + k - i ≡ k = omega arith in
-      ap (skip p) (sym (take-append-drop k (drop i s))) ∙ skip-append (take k (drop i s)) (drop k (drop i s)) (rw n at h) ∙ rw (drop-drop k i s)
+  skip-over s i k h = ap (skip p) (drop-over s i k) ∙ skip-append (part i (i + k) s) (drop (i + k) s) h
 
   -- past what p never is
   pub upto-append : (a b : List A) → any p a ≡ false → upto p (a ++ b) ≡ a ++ upto p b
@@ -191,6 +208,13 @@ module _ {A : Type 0} (p : A → Bool) where
   upto-append (x ∷ a) b n =
       let o = or-parts (p x) (any p a) n in
       rw (o .0) (ap (λ (l : List A). x ∷ l) (upto-append a b (o .1)))
+
+  -- k at a time, by the count
+  pub upto-over : (s : List A) (i k : ℕ) → i + k ≤ length s → any p (part i (i + k) s) ≡ false
+      → length (upto p (drop i s)) ≡ k + length (upto p (drop (i + k) s))
+  upto-over s i k h n =
+      let e = ap (upto p) (drop-over s i k) ∙ upto-append (part i (i + k) s) (drop (i + k) s) n in
+      omega (arith, ap length e, length-append (part i (i + k) s) (upto p (drop (i + k) s)), length-part i (i + k) s h)
 
   pub upto-seam : (a : List A) (c : A) (v : List A) → any p a ≡ false → p c ≡ true → upto p (a ++ c ∷ v) ≡ a
   unfolding upto
@@ -216,10 +240,23 @@ module _ {A : Type 0} (p : A → Bool) where
   any-append [] b h k = k
   any-append (x ∷ a) b h k = let o = or-parts (p x) (any p a) h in rw (o .0) (any-append a b (o .1) k)
 
-  pub all-append : (a b : List A) → all p a ≡ true → all p b ≡ true → all p (a ++ b) ≡ true
+  all-cut : (a b : List A) → all p (a ++ b) ≡ (all p a && all p b)
   unfolding all
-  all-append [] b h k = k
-  all-append (x ∷ a) b h k = let o = and-parts (p x) (all p a) h in rw (o .0) (all-append a b (o .1) k)
+  all-cut [] b = refl
+  all-cut (x ∷ a) b = by-test (p x) (λ e. rw e (all-cut a b)) (λ e. rw e)
+
+  pub all-append : (a b : List A) → all p a ≡ true → all p b ≡ true → all p (a ++ b) ≡ true
+  all-append a b h k = all-cut a b ∙ rw (h, k)
+
+  -- k at a time
+  all-next : (s : List A) (i k : ℕ) → all p (drop i s) ≡ (all p (part i (i + k) s) && all p (drop (i + k) s))
+  all-next s i k = ap (all p) (drop-over s i k) ∙ all-cut (part i (i + k) s) (drop (i + k) s)
+
+  pub all-stop : (s : List A) (i k : ℕ) → all p (part i (i + k) s) ≡ false → all p (drop i s) ≡ false
+  all-stop s i k h = all-next s i k ∙ rw h
+
+  pub all-over : (s : List A) (i k : ℕ) → all p (part i (i + k) s) ≡ true → all p (drop i s) ≡ all p (drop (i + k) s)
+  all-over s i k h = all-next s i k ∙ rw h
 
   -- all of q, which p never is, so none of p
   pub all-none : (q : A → Bool) → ((x : A) → q x ≡ true → p x ≡ false) → (a : List A) → all q a ≡ true → any p a ≡ false

@@ -1,6 +1,6 @@
 // Looking at bytes and handing on parts of them.
 ghost use Prim.Native.Nat.{_+_, _≤_};
-ghost use Rattle.text.specs.Bytes.{part, same, starts, all, runOf, skipEnd, firstOf, trim, isBlank};
+ghost use Rattle.text.specs.Bytes.{part, same, starts, all, any, is, runOf, skipEnd, firstOf, trim, isBlank};
 ghost use lib.ListN.{length, take, drop};
 ghost use mathlib.Core.Path.{_≡_};
 
@@ -73,11 +73,32 @@ pub fn starts(t: &[u8], s: &[u8]) -> bool
     alike(t, s, t.len())
 }
 
+// Whether one of the eight bytes from i on is b, tested without a branch between them.
+fn eight_have(s: &[u8], i: usize, b: u8) -> bool
+    requires { ⌜ i + 8 ≤ length (now s) ⌝ }
+    ensures { λ r. ⌜ r ≡ any (is b) (part i (i + 8) (now (s .entry))) ⌝ }
+{
+    (s[i] == b)
+        | (s[i + 1] == b)
+        | (s[i + 2] == b)
+        | (s[i + 3] == b)
+        | (s[i + 4] == b)
+        | (s[i + 5] == b)
+        | (s[i + 6] == b)
+        | (s[i + 7] == b)
+}
+
 // How many bytes stand before the first b: all where there is none.
 pub fn first(s: &[u8], b: u8) -> usize
     ensures { λ r. ⌜ r ≡ firstOf b (now (s .entry)) ⌝ }
 {
     let mut i = 0;
+    while 8 <= s.len() - i {
+        if eight_have(s, i, b) {
+            break;
+        }
+        i += 8;
+    }
     while i < s.len() {
         if s[i] == b {
             return i;
@@ -120,6 +141,41 @@ pub fn lead(s: &[u8]) -> usize
         n += 1;
     }
     n
+}
+
+// Eight bytes from i on, tested without a branch between them.
+fn eight_zero(s: &[u8], i: usize) -> bool
+    requires { ⌜ i + 8 ≤ length (now s) ⌝ }
+    ensures { λ r. ⌜ r ≡ all (is 0) (part i (i + 8) (now (s .entry))) ⌝ }
+{
+    (s[i] == 0)
+        & (s[i + 1] == 0)
+        & (s[i + 2] == 0)
+        & (s[i + 3] == 0)
+        & (s[i + 4] == 0)
+        & (s[i + 5] == 0)
+        & (s[i + 6] == 0)
+        & (s[i + 7] == 0)
+}
+
+// Whether all bytes are zero: unused room is long.
+pub fn are_zero(s: &[u8]) -> bool
+    ensures { λ r. ⌜ r ≡ all (is 0) (now (s .entry)) ⌝ }
+{
+    let mut i = 0;
+    while 8 <= s.len() - i {
+        if !eight_zero(s, i) {
+            return false;
+        }
+        i += 8;
+    }
+    while i < s.len() {
+        if s[i] != 0 {
+            return false;
+        }
+        i += 1;
+    }
+    true
 }
 
 // How long it is without the blanks that it ends with.

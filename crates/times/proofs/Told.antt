@@ -10,12 +10,11 @@ use Rattle.layout.specs.Rows.{textAt}
 use Rattle.layout.specs.declared.Layout.the-variants.{Market}
 use Rattle.reader.proofs.Concluding.{concluded-no, concluded-yes}
 use Rattle.reader.specs.Messages.{given, layoutIn, bodyOf}
-use Rattle.reader.specs.Reader.{bodyIn, readOf}
+use Rattle.reader.specs.Reader.{bodyColumn, bodyIn, readOf}
 use Rattle.reader.specs.Refusals.{refused, accepted}
 use Rattle.reader.specs.State.{columnAt, Reads}
 use Rattle.reader.specs.declared.Answer.{Answer}
 use Rattle.reader.specs.declared.Reading.{Reading}
-use Rattle.reading.proofs.Agreed.{bodyColumn}
 use Rattle.record.proofs.Fields.{field-at}
 use Rattle.record.specs.Records.{cell, fieldOf}
 use Rattle.record.specs.declared.Record.{Record}

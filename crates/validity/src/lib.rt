@@ -5,7 +5,6 @@ use layout::Layout;
 use list::Triple;
 use record::Cell;
 use record::Record;
-ghost use Prim.Native.Nat.{_≤_};
 ghost use Rattle.layout.specs.Layouts.{kindsOf, typeOf};
 ghost use Rattle.text.specs.Bytes.{all};
 ghost use Rattle.validity.specs.Validity.{isBlankCell, holdsAll, isValid};

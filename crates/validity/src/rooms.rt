@@ -2,6 +2,7 @@
 use layout::Layout;
 use list::Triple;
 use record::Cell;
+use text::scan;
 use value::Value;
 ghost use Prim.Native.Nat.{_≤_};
 ghost use Rattle.text.specs.Bytes.{all, is};
@@ -14,14 +15,7 @@ ghost use mathlib.Core.Path.{_≡_};
 fn is_clear(room: &[u8], n: usize) -> bool
     ensures { λ r. ⌜ r ≡ all (is 0) (drop n (now (room .entry))) ⌝ }
 {
-    let mut i = n;
-    while i < room.len() {
-        if room[i] != 0 {
-            return false;
-        }
-        i += 1;
-    }
-    true
+    scan::are_zero(scan::rest(room, n))
 }
 
 // The value of the field k, where 0 is none.

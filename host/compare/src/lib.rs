@@ -5,6 +5,7 @@
 //! answered. The files come from [`samples`], by way of [`layout_noise`] (which leaves the
 //! record as it is), [`values`] and [`together`] (other values, the summary row mended),
 //! [`damage`] and [`random`]; the plans from [`plans`]. Each choice is a throw of [`dice`].
+//! The library is called by [`ours`], which links it on x86-64 and is [`far`] elsewhere.
 //! With the feature `pace`, `pace` is the reference's side of the book's calls that are timed.
 #![deny(unsafe_code)]
 
@@ -12,10 +13,12 @@ pub mod body;
 pub mod check;
 pub mod damage;
 pub mod dice;
+pub mod far;
 pub mod input;
 pub mod kinds;
 pub mod layout_noise;
 pub mod lines;
+#[cfg(target_arch = "x86_64")]
 pub mod ours;
 #[cfg(feature = "pace")]
 pub mod pace;
@@ -26,6 +29,9 @@ pub mod tally;
 pub mod together;
 pub mod values;
 pub mod words;
+
+#[cfg(not(target_arch = "x86_64"))]
+pub use far as ours;
 
 /// One of the two entries, on either side.
 pub type Entry = fn(u32, u32, &[u8], &[u8], &mut [u8]) -> u32;

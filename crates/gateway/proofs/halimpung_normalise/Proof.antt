@@ -1,5 +1,4 @@
 -- Each answer of the normaliser as one number; every length and every detail fits.
-use Prim.Native.Nat.{_-_}
 use Rattle.gateway.proofs.Normal.{length-fair, refused-fair, length-end, refused-end}
 use Rattle.gateway.proofs.halimpung_normalise.Statement.{statement}
 use Rattle.gateway.proofs.halimpung_normalise.Tie as tie

@@ -1,5 +1,4 @@
 -- Written at once, or after its length was asked on an empty part: then there is no room for it, or there is.
-use Prim.Native.Nat.{_-_}
 use Rattle.writer.proofs.Ends.{put-end, full-end, roomy-end}
 use Rattle.writer.proofs.put_file.Statement.{statement}
 use Rattle.writer.proofs.put_file.Tie as tie

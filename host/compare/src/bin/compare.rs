@@ -4,7 +4,7 @@
 use halimpung_compare::check::{check, Difference};
 use halimpung_compare::input::{input, Input};
 use halimpung_compare::tally::Tally;
-use halimpung_compare::{ours, Entry};
+use halimpung_compare::{far, ours, Entry};
 use halimpung_reference::{normalise_entry, read_entry};
 use std::process::ExitCode;
 
@@ -63,6 +63,7 @@ fn report(name: &str, input: &Input, difference: &Difference) -> String {
 
 fn said(answer: u32) -> String {
     match answer >> 16 {
+        _ if answer == far::NO_ANSWER => "no answer".into(),
         0 => format!("{answer}: length"),
         number => format!("{answer}: refusal {number}, detail {}", answer & 0xffff),
     }

@@ -2,11 +2,20 @@
 use Rattle.book.proofs.Book.revoke.Statement.{statement}
 use Rattle.book.proofs.Book.revoke.Tie as tie
 use Rattle.book.proofs.Calls.{call-malformed, revoke-unfit, revoke-unheld, revoke-struck, revoke-done, at-inside}
-use Rattle.book.proofs.Holding.{holds}
+use Rattle.book.proofs.Holding.{Holding, holds}
 use Rattle.book.proofs.Sizes.{sized}
 use borrow.Author.Needs.{needs}
 use borrow.Author.Tests.{not-true, not-false}
 use mathlib.Core.Path.{_∙_}
+
+-- what is known of the book where its orders are counted
+abbrev start : tie.After-known-told → tie.Start
+start k = k .before .before .before .before
+
+holding : (k : tie.After-known-told) → Holding (start k .args .self) (k .before .count .given .0 .0)
+holding k =
+    let s = start k in
+    holds (s .args .self) _ (k .before .before .before .count-held .ensures) _ (sized (s .args .self) _ (s .good .0)) (k .before .count .given .1)
 
 count-held-requires : tie.Need-count-held-requires
 count-held-requires c κs = search needs
@@ -33,40 +42,62 @@ answered-requires-2 : tie.Need-answered-requires-2
 answered-requires-2 c κs = search needs
 
 returns-2 : tie.Need-returns-2
-returns-2 c = c .answered2 .ensures ∙ revoke-unfit (c .before .before .before .before .before .before .before .before .args .self) _ (holds (c .before .before .before .before .before .before .before .before .args .self) _ (c .before .before .before .before .before .before .before .count-held .ensures) _ (sized (c .before .before .before .before .before .before .before .before .args .self) _ (c .before .before .before .before .before .before .before .before .good .0)) (c .before .before .before .before .before .count .given .1)) (c .before .before .before .before .before .before .before .before .args .r) _ (c .before .before .before .is-revocation .ensures) _ (c .before .before .unfit .ensures) (c .before .if1 .taken)
+returns-2 c =
+    let u = c .before .before in
+    let k = u .before .before in
+    c .answered2 .ensures
+    ∙ revoke-unfit (start k .args .self) _ (holding k) (start k .args .r) _ (u .before .is-revocation .ensures) _ (u .unfit .ensures)
+    (c .before .if1 .taken)
 
 named-by-requires : tie.Need-named-by-requires
 named-by-requires c κs = search needs
 
-rank-requires : tie.Need-rank-requires
-rank-requires c κs = (holds (c .before .before .before .before .before .before .before .before .args .self) _ (c .before .before .before .before .before .before .before .count-held .ensures) _ (sized (c .before .before .before .before .before .before .before .before .args .self) _ (c .before .before .before .before .before .before .before .before .good .0)) (c .before .before .before .before .before .count .given .1)) .few
-
-is-at-requires : tie.Need-is-at-requires
-is-at-requires c κs = (holds (c .before .before .before .before .before .before .before .before .before .args .self) _ (c .before .before .before .before .before .before .before .before .count-held .ensures) _ (sized (c .before .before .before .before .before .before .before .before .before .args .self) _ (c .before .before .before .before .before .before .before .before .before .good .0)) (c .before .before .before .before .before .before .count .given .1)) .few
+seat-of-requires : tie.Need-seat-of-requires
+seat-of-requires c κs = holding (c .before .before .before .before) .few
 
 answered-requires-3 : tie.Need-answered-requires-3
 answered-requires-3 c κs = search needs
 
 returns-3 : tie.Need-returns-3
-returns-3 c = c .answered3 .ensures ∙ revoke-unheld (c .before .before .before .before .before .before .before .before .before .before .before .before .args .self) _ (holds (c .before .before .before .before .before .before .before .before .before .before .before .before .args .self) _ (c .before .before .before .before .before .before .before .before .before .before .before .count-held .ensures) _ (sized (c .before .before .before .before .before .before .before .before .before .before .before .before .args .self) _ (c .before .before .before .before .before .before .before .before .before .before .before .before .good .0)) (c .before .before .before .before .before .before .before .before .before .count .given .1)) (c .before .before .before .before .before .before .before .before .before .before .before .before .args .r) _ (c .before .before .before .before .before .before .before .is-revocation .ensures) _ (c .before .before .before .before .before .before .unfit .ensures) (c .before .before .before .before .before .if1 .left) _ (c .before .before .before .before .named-by .ensures) _ (c .before .before .before .rank .ensures) _ (c .before .before .is-at .ensures) (not-true _ (c .before .if2 .taken))
-
-is-struck-requires : tie.Need-is-struck-requires
-is-struck-requires c κs = at-inside (c .before .before .before .before .before .before .before .before .before .before .before .args .self) _ (holds (c .before .before .before .before .before .before .before .before .before .before .before .args .self) _ (c .before .before .before .before .before .before .before .before .before .before .count-held .ensures) _ (sized (c .before .before .before .before .before .before .before .before .before .before .before .args .self) _ (c .before .before .before .before .before .before .before .before .before .before .before .good .0)) (c .before .before .before .before .before .before .before .before .count .given .1)) _ _ _ (c .before .is-at .ensures) (not-false _ (c .if2 .left))
+returns-3 c =
+    let s = c .before .before .before in
+    let u = s .before .before .before in
+    let k = u .before .before in
+    c .answered3 .ensures
+    ∙ revoke-unheld (start k .args .self) _ (holding k) (start k .args .r) _ (u .before .is-revocation .ensures) _ (u .unfit .ensures)
+    (s .before .before .if1 .left) _ (s .before .named-by .ensures) _ (s .seat-of .ensures) (not-true _ (c .before .if2 .taken))
 
 answered-requires-4 : tie.Need-answered-requires-4
 answered-requires-4 c κs = search needs
 
 returns-4 : tie.Need-returns-4
-returns-4 c = c .answered4 .ensures ∙ revoke-struck (c .before .before .before .before .before .before .before .before .before .before .before .before .before .before .args .self) _ (holds (c .before .before .before .before .before .before .before .before .before .before .before .before .before .before .args .self) _ (c .before .before .before .before .before .before .before .before .before .before .before .before .before .count-held .ensures) _ (sized (c .before .before .before .before .before .before .before .before .before .before .before .before .before .before .args .self) _ (c .before .before .before .before .before .before .before .before .before .before .before .before .before .before .good .0)) (c .before .before .before .before .before .before .before .before .before .before .before .count .given .1)) (c .before .before .before .before .before .before .before .before .before .before .before .before .before .before .args .r) _ (c .before .before .before .before .before .before .before .before .before .is-revocation .ensures) _ (c .before .before .before .before .before .before .before .before .unfit .ensures) (c .before .before .before .before .before .before .before .if1 .left) _ (c .before .before .before .before .before .before .named-by .ensures) _ (c .before .before .before .before .before .rank .ensures) _ (c .before .before .before .before .is-at .ensures) (not-false _ (c .before .before .before .if2 .left)) _ (c .before .before .is-struck .ensures) (c .before .if3 .taken)
+returns-4 c =
+    let s = c .before .before .before .before in
+    let u = s .before .before .before in
+    let k = u .before .before in
+    c .answered4 .ensures
+    ∙ revoke-struck (start k .args .self) _ (holding k) (start k .args .r) _ (u .before .is-revocation .ensures) _ (u .unfit .ensures)
+    (s .before .before .if1 .left) _ (s .before .named-by .ensures) _ (s .seat-of .ensures)
+    (not-false _ (c .before .before .if2 .left)) (c .before .if3 .taken)
 
 strike-requires : tie.Need-strike-requires
-strike-requires c κs = at-inside (c .before .before .before .before .before .before .before .before .before .before .before .before .before .args .self) _ (holds (c .before .before .before .before .before .before .before .before .before .before .before .before .before .args .self) _ (c .before .before .before .before .before .before .before .before .before .before .before .before .count-held .ensures) _ (sized (c .before .before .before .before .before .before .before .before .before .before .before .before .before .args .self) _ (c .before .before .before .before .before .before .before .before .before .before .before .before .before .good .0)) (c .before .before .before .before .before .before .before .before .before .before .count .given .1)) _ _ _ (c .before .before .before .is-at .ensures) (not-false _ (c .before .before .if2 .left))
+strike-requires c κs =
+    let s = c .before .before .before in
+    let k = s .before .before .before .before .before in
+    at-inside (start k .args .self) _ (holding k) _ _ (s .seat-of .ensures) (not-false _ (c .before .if2 .left))
 
 answered-requires-5 : tie.Need-answered-requires-5
 answered-requires-5 c κs = search needs
 
 returns-5 : tie.Need-returns-5
-returns-5 c = c .answered5 .ensures ∙ revoke-done (c .before .before .before .before .before .before .before .before .before .before .before .before .before .before .before .args .self) _ (holds (c .before .before .before .before .before .before .before .before .before .before .before .before .before .before .before .args .self) _ (c .before .before .before .before .before .before .before .before .before .before .before .before .before .before .count-held .ensures) _ (sized (c .before .before .before .before .before .before .before .before .before .before .before .before .before .before .before .args .self) _ (c .before .before .before .before .before .before .before .before .before .before .before .before .before .before .before .good .0)) (c .before .before .before .before .before .before .before .before .before .before .before .before .count .given .1)) (c .before .before .before .before .before .before .before .before .before .before .before .before .before .before .before .args .r) _ (c .before .before .before .before .before .before .before .before .before .before .is-revocation .ensures) _ (c .before .before .before .before .before .before .before .before .before .unfit .ensures) (c .before .before .before .before .before .before .before .before .if1 .left) _ (c .before .before .before .before .before .before .before .named-by .ensures) _ (c .before .before .before .before .before .before .rank .ensures) _ (c .before .before .before .before .before .is-at .ensures) (not-false _ (c .before .before .before .before .if2 .left)) _ (c .before .before .before .is-struck .ensures) (c .before .before .if3 .left) _ (c .before .strike .ensures)
+returns-5 c =
+    let s = c .before .before .before .before .before in
+    let u = s .before .before .before in
+    let k = u .before .before in
+    c .answered5 .ensures
+    ∙ revoke-done (start k .args .self) _ (holding k) (start k .args .r) _ (u .before .is-revocation .ensures) _ (u .unfit .ensures)
+    (s .before .before .if1 .left) _ (s .before .named-by .ensures) _ (s .seat-of .ensures)
+    (not-false _ (c .before .before .before .if2 .left)) (c .before .before .if3 .left) _ (c .before .strike .ensures)
 
 pub revoke-spec : {M : Type 1} → statement M
 revoke-spec =
@@ -82,11 +113,9 @@ revoke-spec =
     answered-requires-2
     returns-2
     named-by-requires
-    rank-requires
-    is-at-requires
+    seat-of-requires
     answered-requires-3
     returns-3
-    is-struck-requires
     answered-requires-4
     returns-4
     strike-requires

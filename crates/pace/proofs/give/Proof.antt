@@ -1,26 +1,20 @@
 -- Each round is one fewer.
 use Prim.Native.Nat.{_-_, _≤_}
-use Rattle.pace.proofs.put_in.Statement.{statement}
-use Rattle.pace.proofs.put_in.Tie as tie
+use Rattle.pace.proofs.give.Statement.{statement}
+use Rattle.pace.proofs.give.Tie as tie
 use borrow.Author.Needs.{needs}
 
 abbrev Inv-loop : tie.InvT-loop
-Inv-loop rounds b₀ r₀ sum₀ i₀ b r sum i = i ≤ rounds
+Inv-loop rounds held b₀ r₀ sum₀ i₀ b r sum i = i ≤ rounds
 
 abbrev μ-loop : tie.MeasureT-loop
-μ-loop rounds b₀ r₀ sum₀ i₀ b r sum i = rounds - i
+μ-loop rounds held b₀ r₀ sum₀ i₀ b r sum i = rounds - i
 
 loop-holds : tie.Need-loop-holds Inv-loop μ-loop
 loop-holds c = search needs
 
-cast-id : tie.Need-cast-id Inv-loop μ-loop
-cast-id c = search needs
-
-mul-id : tie.Need-mul-id Inv-loop μ-loop
-mul-id c = search needs
-
-add-id : tie.Need-add-id Inv-loop μ-loop
-add-id c = search needs
+number-requires : tie.Need-number-requires Inv-loop μ-loop
+number-requires c κs = search needs
 
 id-requires : tie.Need-id-requires Inv-loop μ-loop
 id-requires c κs = search needs
@@ -58,16 +52,14 @@ loop-again c = search needs
 returns : tie.Need-returns Inv-loop μ-loop
 returns c = search needs
 
-pub put-in-spec : {M : Type 1} → statement M
-put-in-spec =
+pub give-spec : {M : Type 1} → statement M
+give-spec =
     tie.close
     (tie.spec
     Inv-loop
     μ-loop
     loop-holds
-    cast-id
-    mul-id
-    add-id
+    number-requires
     id-requires
     element-set-from-c
     command-requires
