@@ -4,13 +4,16 @@ use book::Book;
 use book::InForce;
 use book::Outcome;
 use reader::Answer;
+use record::Record;
 use request::Part;
-use request::hex;
-use request::hex::Decoded;
+use request::call;
+use request::call::Act;
+use request::call::Call;
+use request::parts::text_of;
 use said::say;
+use said::say_blank;
 use said::say_number;
 use said::say_unknown;
-use text::digits::Digits;
 use text::put;
 use text::scan;
 
@@ -26,10 +29,8 @@ fn handed(o: Outcome) -> Book {
     o.book
 }
 
-fn ask(b: Book, t: u32) -> Book {
-    let asked = b.in_force(t);
-    let answer = asked.answer;
-    match answer {
+fn say_in_force(a: InForce) {
+    match a {
         InForce::Refused(number, detail) => say_code(number, detail),
         InForce::Nothing => say(b"f:none"),
         InForce::Number(n) => {
@@ -37,89 +38,80 @@ fn ask(b: Book, t: u32) -> Book {
             say_number(n);
         }
     }
+}
+
+// `Q:t`
+fn ask(b: Book, t: u32) -> Book {
+    let asked = b.in_force(t);
+    let answer = asked.answer;
+    say_in_force(answer);
     asked.book
 }
 
-// The file read at a plan of the one row ca=1, ioa=1, the unit and the type.
-fn read_alone(kind: &[u8], unit: &[u8], file: &[u8]) -> Answer {
-    let mut plan = [0u8; 64];
-    let a = put::put_text(&mut plan, 0, b"ca=1\nioa=1\nunit=");
-    let b = put::put_text(&mut plan, a, scan::front(unit, 17));
-    let c = put::put_text(&mut plan, b, b"\ntype=");
-    let d = put::put_text(&mut plan, c, scan::front(kind, 3));
-    let n = put::put_byte(&mut plan, d, b'\n');
-    reader::read(1, 1, scan::front(&plan, n), file)
+// `X:t`
+fn close(b: Book, t: u32) -> Book {
+    handed(b.close(t))
+}
+
+// A plan of the one row ca=1, ioa=1, the unit and the type; how long it is.
+fn put_plan(plan: &mut [u8; 64], kind: &[u8], unit: &[u8]) -> usize {
+    let a = put::put_text(plan, 0, b"ca=1\nioa=1\nunit=");
+    let b = put::put_text(plan, a, scan::front(unit, 17));
+    let c = put::put_text(plan, b, b"\ntype=");
+    let d = put::put_text(plan, c, scan::front(kind, 3));
+    put::put_byte(plan, d, b'\n')
+}
+
+fn give_record(b: Book, act: Act, r: Record) -> Book {
+    if let Act::Revoke = act {
+        return handed(b.revoke(r));
+    }
+    handed(b.command(r))
+}
+
+fn unread(b: Book) -> Book {
+    say(b"unread");
+    b
 }
 
 // The record of the file is given to the command or to the revocation.
-fn give_read(b: Book, is_command: bool, kind: &[u8], unit: &[u8], file: &[u8]) -> Book {
-    let read = read_alone(kind, unit, file);
+fn give_answer(b: Book, act: Act, read: Answer) -> Book {
     if read.number != 0 {
-        say(b"unread");
-        return b;
+        return unread(b);
     }
     let body = read.body;
-    if is_command {
-        return handed(b.command(body));
-    }
-    handed(b.revoke(body))
+    give_record(b, act, body)
+}
+
+fn give_read(b: Book, act: Act, plan: &[u8; 64], n: usize, file: &[u8]) -> Book {
+    give_answer(b, act, reader::read(1, 1, scan::front(plan, n), file))
 }
 
 // `C:TYPE:UNIT:FILE` and `V:..`
-fn give(b: Book, is_command: bool, line: &mut [u8], p: Part) -> Book {
-    let kind = request::piece(line, p, b':');
-    let rest = request::past(p, kind);
-    let unit = request::piece(line, rest, b':');
-    let Decoded::At(file) = hex::decode(line, request::past(rest, unit)) else {
-        say_unknown();
-        return b;
-    };
-    give_read(
-        b,
-        is_command,
-        request::text_of(line, kind),
-        request::text_of(line, unit),
-        request::text_of(line, file),
-    )
+fn give(b: Book, act: Act, line: &[u8], c: Call) -> Book {
+    let mut plan = [0u8; 64];
+    let n = put_plan(&mut plan, text_of(line, c.kind), text_of(line, c.unit));
+    give_read(b, act, &plan, n, text_of(line, c.file))
 }
 
-// `X:t` and `Q:t`
-fn name_instant(b: Book, is_close: bool, line: &[u8], p: Part) -> Book {
-    let Digits::Are(t) = request::number_of(line, p) else {
-        say_unknown();
-        return b;
-    };
-    if 4294967295 < t {
-        say_unknown();
-        return b;
-    }
-    if is_close {
-        return handed(b.close(t as u32));
-    }
-    ask(b, t as u32)
-}
-
-// One call.
-fn call(b: Book, line: &mut [u8], p: Part) -> Book {
-    let key = request::piece(line, p, b':');
-    let rest = request::past(p, key);
-    let name = request::text_of(line, key);
-    let is_command = scan::same(name, b"C");
-    let is_revocation = scan::same(name, b"V");
-    let is_close = scan::same(name, b"X");
-    let is_question = scan::same(name, b"Q");
-    if is_command | is_revocation {
-        return give(b, is_command, line, rest);
-    }
-    if is_close | is_question {
-        return name_instant(b, is_close, line, rest);
-    }
+fn not_called(b: Book) -> Book {
     say_unknown();
     b
 }
 
+// One call.
+fn answer(b: Book, line: &[u8], c: Call) -> Book {
+    let act = c.act;
+    match act {
+        Act::Command | Act::Revoke => give(b, act, line, c),
+        Act::Close => close(b, c.t),
+        Act::Ask => ask(b, c.t),
+        Act::Unknown => not_called(b),
+    }
+}
+
 // Calls joined by commas; no part of a line has more of them than the line has bytes.
-fn call_all(fresh: Book, line: &mut [u8], calls: Part) {
+fn answer_all(fresh: Book, line: &mut [u8], calls: Part) {
     let mut b = fresh;
     let mut rest = calls;
     let mut turns = line.len();
@@ -127,23 +119,19 @@ fn call_all(fresh: Book, line: &mut [u8], calls: Part) {
         if rest.to <= rest.from {
             return;
         }
-        let p = request::piece(line, rest, b',');
-        say(b" ");
-        b = call(b, line, p);
-        rest = request::past(rest, p);
+        let c = call::next(line, rest);
+        say_blank();
+        b = answer(b, line, c);
+        rest = c.rest;
         turns -= 1;
     }
 }
 
-// `-` is no calls.
+fn fresh(unit: &[u8]) -> Book {
+    handed(book::fresh(unit))
+}
+
 pub fn run(line: &mut [u8], unit: Part, calls: Part) {
-    let Decoded::At(code) = hex::decode(line, unit) else {
-        say_unknown();
-        return;
-    };
-    let fresh = handed(book::fresh(request::text_of(line, code)));
-    if scan::same(request::text_of(line, calls), b"-") {
-        return;
-    }
-    call_all(fresh, line, calls);
+    let b = fresh(text_of(line, unit));
+    answer_all(b, line, calls);
 }

@@ -1,26 +1,11 @@
 // `time a PLAN CA IOA FILE SHEET` and `time r ..`: where the start-up or the ramp time stands.
 use crate::said::say;
+use crate::said::say_blank;
 use crate::said::say_number;
 use crate::said::say_refusal;
+use sheet::Which;
 use text::scan;
 use times::Time;
-use times::Which;
-
-// Which time is asked for, or that it is neither.
-pub enum Sought {
-    One(Which),
-    Neither,
-}
-
-pub fn which(s: &[u8]) -> Sought {
-    if scan::same(s, b"a") {
-        return Sought::One(Which::StartUp);
-    }
-    if scan::same(s, b"r") {
-        return Sought::One(Which::Ramp);
-    }
-    Sought::Neither
-}
 
 // The part that the time's own call hands back.
 fn part<'a>(w: Which, ca: u32, ioa: u32, plan: &[u8], file: &'a [u8], sheet: &'a [u8]) -> &'a [u8] {
@@ -33,7 +18,7 @@ fn part<'a>(w: Which, ca: u32, ioa: u32, plan: &[u8], file: &'a [u8], sheet: &'a
 // A place, and whether the call's part is the bytes there.
 fn say_place(text: &[u8], from: usize, to: usize, part: &[u8]) {
     say_number(from as u64);
-    say(b" ");
+    say_blank();
     say_number(to as u64);
     if !scan::same(scan::rest(scan::front(text, to), from), part) {
         say(b" and another part");

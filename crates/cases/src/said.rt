@@ -10,16 +10,25 @@ pub fn say_number(n: u64) {
     io::print_decimal(STDOUT_FILENO, n);
 }
 
+pub fn say_blank() {
+    say(b" ");
+}
+
 pub fn say_refusal(number: u8, detail: usize) {
     say(b"R ");
     say_number(number as u64);
-    say(b" ");
+    say_blank();
     say_number(detail as u64);
 }
 
 // A request that is not of the form.
 pub fn say_unknown() {
     say(b"?");
+}
+
+// No bytes, and no instant.
+pub fn say_nothing() {
+    say(b"-");
 }
 
 fn hex_digit(n: u8) -> u8 {
@@ -33,7 +42,7 @@ fn hex_digit(n: u8) -> u8 {
 // Bytes as lowercase hex, '-' for none.
 pub fn say_hex(s: &[u8]) {
     if s.len() == 0 {
-        say(b"-");
+        say_nothing();
         return;
     }
     let mut at = 0;

@@ -1,6 +1,1 @@
-pub mod Joins
-pub mod Values
-pub mod Lines
-pub mod Halves
-pub mod Rows
 pub mod Message

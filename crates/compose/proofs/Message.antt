@@ -1,8 +1,6 @@
 -- A message is put as its banner, an empty line, its parameter lines, and its row between separators. Assumes nothing.
 use Prim.Native.Nat.{ℕ, _+_, _≤_}
-use Rattle.compose.proofs.Joins.{Was}
-use Rattle.compose.proofs.Lines.{linesOf}
-use Rattle.compose.proofs.Values.{columnOf}
+use Rattle.body.proofs.Lines.{linesOf}
 use Rattle.layout.specs.Banners.{bannerOf}
 use Rattle.layout.specs.Rows.{rowOf}
 use Rattle.layout.specs.declared.Layout.{Layout}
@@ -10,6 +8,8 @@ use Rattle.layout.specs.declared.Layout.the-variants.{Market, Mfrr, Revocation,
 use Rattle.record.specs.declared.Cell.{Cell}
 use Rattle.text.proofs.Runs.{puts, puts-of, then, same-puts}
 use Rattle.value.specs.Texts.{Rooms}
+use Rattle.written.proofs.Columns.{columnOf}
+use Rattle.written.proofs.Joins.{Was}
 use Rattle.written.specs.Written.{linesText, plusLine, block, writtenOf, messageText}
 use borrow.Author.Tests.{leb-true}
 use lib.ListN.{length}

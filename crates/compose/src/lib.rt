@@ -1,15 +1,12 @@
 // The written form of a message, put into a lent buffer: what there is room for is written, and the answer is the place past it.
-mod line;
-mod row;
-
 use layout::Layout;
 use list::Triple;
 use record::Cell;
 use text::put;
 ghost use Prim.Native.Nat.{_+_, _<_};
-ghost use Rattle.compose.specs.Held.{Held};
 ghost use Rattle.text.specs.Puts.{limit};
 ghost use Rattle.value.specs.Texts.{rooms};
+ghost use Rattle.written.specs.Held.{Held};
 ghost use Rattle.written.specs.Written.{messageText};
 ghost use lib.ListN.{length};
 ghost use lib.Seq.{sets};
@@ -32,8 +29,8 @@ pub fn put_message(
 {
     let head = banner::put(out, at, l);
     let body = put::put_byte(out, head, b'\n');
-    let above = line::put_lines(out, body, l, cells, unit, reason, note, gradients);
+    let above = body::put_lines(out, body, l, cells, unit, reason, note, gradients);
     let from = put::put_text(out, above, b"+++++\n");
-    let to = row::put_row(out, from, l, cells, unit, reason, note, gradients);
+    let to = summary::put_row(out, from, l, cells, unit, reason, note, gradients);
     put::put_text(out, to, b"\n+++++\n")
 }

@@ -4,7 +4,7 @@ use Rattle.brief.proofs.Sizes.{six-length}
 use Rattle.brief.specs.Brief.{sixLines}
 use Rattle.demands.specs.Demand1.{isReaders, Leaves}
 use Rattle.gateway.specs.Entry.{lengthOr11, codeOf, outOf}
-use Rattle.plan.specs.Rows.{planOf, soughtOf}
+use Rattle.plan.specs.Plans.{planOf, soughtOf}
 use Rattle.reader.proofs.Firsts.{given-first, numbers}
 use Rattle.reader.specs.Refusals.{Given}
 use Rattle.reader.specs.Reader.{valued, labelled, reading, bodyIn, planned, answerAt, readOf}

@@ -8,7 +8,7 @@ use Rattle.demands.specs.Calls.{Calls, Meets}
 use Rattle.demands.specs.Contracts.{Contracts}
 use Rattle.gateway.specs.Entry.{codeOf, outOf}
 use Rattle.ledger.specs.Calls.{Call}
-use Rattle.plan.specs.Rows.{planOf, soughtOf}
+use Rattle.plan.specs.Plans.{planOf, soughtOf}
 use Rattle.reader.specs.Refusals.{Given}
 use Rattle.reader.specs.Reader.{planned, readOf}
 use Rattle.record.specs.Records.{zeroRecord}

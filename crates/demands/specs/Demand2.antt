@@ -5,7 +5,7 @@ use Rattle.layout.specs.Rows.{rowOf}
 use Rattle.lines.specs.Order.{Perm}
 use Rattle.lines.specs.Entries.{again}
 use Rattle.lines.specs.Lines.{texts}
-use Rattle.plan.specs.Rows.{planOf, soughtOf}
+use Rattle.plan.specs.Plans.{planOf, soughtOf}
 use Rattle.plan.specs.declared.Sought.{Sought}
 use Rattle.reader.specs.Messages.{given, rowIn, layoutIn, entriesIn}
 use Rattle.reader.specs.Reader.{Clean, Sound, bodyColumn, bodyIn, planned, readOf}

@@ -2,14 +2,18 @@
 -- in docs/DECISIONS.md, D10; the others ask nothing (`Answers`, `Writes`, `Lends`).
 -- Not here are four whose contract leaves open where things stand in a file (an empty text stands in many places), since no answer of the reader depends on
 -- it (reader/specs/State.antt): `lines::trim_span`, `entry::line_of`, `walk::walk` and `reader::judged`.
+use Rattle.address.proofs as address
 use Rattle.asked.proofs as asked
 use Rattle.banner.proofs as banner
+use Rattle.body.proofs as body
 use Rattle.brief.proofs as brief
 use Rattle.compose.proofs as compose
 use Rattle.date.proofs as date
+use Rattle.demands.specs.Shapes.{Answers, Lends, OneOutput, OneResult, OneText}
 use Rattle.entry.proofs as entry
 use Rattle.fill.proofs as fill
 use Rattle.fit.proofs as fit
+use Rattle.keyline.proofs as keyline
 use Rattle.kind.proofs as kind
 use Rattle.label.proofs as label
 use Rattle.layout.proofs as layout
@@ -18,7 +22,6 @@ use Rattle.list.proofs as list
 use Rattle.name.proofs as name
 use Rattle.number.proofs as number
 use Rattle.order.proofs as order
-use Rattle.plan.proofs as plan
 use Rattle.reader.proofs as reader
 use Rattle.record.proofs as records
 use Rattle.render.proofs as render
@@ -26,10 +29,11 @@ use Rattle.report.proofs as report
 use Rattle.room.proofs as room
 use Rattle.row.proofs as row
 use Rattle.rules.proofs as rules
+use Rattle.sheet.proofs as sheet
+use Rattle.summary.proofs as summary
 use Rattle.text.proofs as text
 use Rattle.voltvar.proofs as voltvar
 use Rattle.word.proofs as word
-use Rattle.demands.specs.Shapes.{Answers, Lends, OneOutput, OneResult, OneText}
 
 pub record Within : Type 0 where
   -- text
@@ -72,12 +76,18 @@ pub record Within : Type 0 where
   pub list-few-read : OneResult list.few.read.ended list.few.read.Reads.Learnt
   pub list-few-put : OneOutput list.few.put.ended (λ κs e. e .0 .now) list.few.put.Reads.Learnt
   pub list-triples-put : OneOutput list.triples.put.ended (λ κs e. e .0 .now) list.triples.put.Reads.Learnt
-  -- plan
-  pub plan-keyed-line-of : Answers plan.keyed.line_of.ended plan.keyed.line_of.Reads.Asked plan.keyed.line_of.Reads.Learnt
-  pub plan-keyed-value : Lends plan.keyed.value.ended (λ κs z. z .now) plan.keyed.value.Reads.Asked plan.keyed.value.Reads.Learnt
-  pub plan-keyed-below : Lends plan.keyed.below.ended (λ κs z. z .now) plan.keyed.below.Reads.Asked plan.keyed.below.Reads.Learnt
-  pub plan-keyed-whole : Answers plan.keyed.whole.ended plan.keyed.whole.Reads.Asked plan.keyed.whole.Reads.Learnt
-  pub plan-keyed-number : Answers plan.keyed.number.ended plan.keyed.number.Reads.Asked plan.keyed.number.Reads.Learnt
+  -- keyline
+  pub keyline-line-of : Answers keyline.line_of.ended keyline.line_of.Reads.Asked keyline.line_of.Reads.Learnt
+  pub keyline-value : Lends keyline.value.ended (λ κs z. z .now) keyline.value.Reads.Asked keyline.value.Reads.Learnt
+  pub keyline-below : Lends keyline.below.ended (λ κs z. z .now) keyline.below.Reads.Asked keyline.below.Reads.Learnt
+  pub keyline-whole : Answers keyline.whole.ended keyline.whole.Reads.Asked keyline.whole.Reads.Learnt
+  pub keyline-number : Answers keyline.number.ended keyline.number.Reads.Asked keyline.number.Reads.Learnt
+  -- address
+  pub address-sought-key : Answers address.sought_key.ended address.sought_key.Reads.Asked address.sought_key.Reads.Learnt
+  pub address-row-at : Answers address.row_at.ended address.row_at.Reads.Asked address.row_at.Reads.Learnt
+  -- sheet
+  pub sheet-is-for : Answers sheet.is_for.ended sheet.is_for.Reads.Asked sheet.is_for.Reads.Learnt
+  pub sheet-time-part : OneResult sheet.time_part.ended sheet.time_part.Reads.Learnt
   -- render
   pub render-put-value : OneOutput render.put_value.ended (λ κs e. e .0 .now) render.put_value.Reads.Learnt
   -- layout
@@ -144,5 +154,9 @@ pub record Within : Type 0 where
   pub report-put-record : OneOutput report.put_record.ended (λ κs e. e .0 .now) report.put_record.Reads.Learnt
   pub report-put-refusal : OneOutput report.put_refusal.ended (λ κs e. e .0 .now) report.put_refusal.Reads.Learnt
   pub report-put-answer : OneOutput report.put_answer.ended (λ κs e. e .0 .now) report.put_answer.Reads.Learnt
+  -- body
+  pub body-put-lines : OneOutput body.put_lines.ended (λ κs e. e .0 .now) body.put_lines.Reads.Learnt
+  -- summary
+  pub summary-put-row : OneOutput summary.put_row.ended (λ κs e. e .0 .now) summary.put_row.Reads.Learnt
   -- compose
   pub compose-put-message : OneOutput compose.put_message.ended (λ κs e. e .0 .now) compose.put_message.Reads.Learnt

@@ -1,4 +1,3 @@
-pub mod Rooms
 pub mod Steps
 pub mod Records
 pub mod Stored

@@ -3,14 +3,13 @@ use layout::Layout;
 use text::put;
 use text::scan;
 ghost use Prim.Native.Nat.{_+_, _≤_, _<_};
-ghost use Rattle.layout.specs.Fields.{command, technical, Field};
 ghost use Rattle.label.specs.Labels.{metOf, Meets};
 ghost use Rattle.layout.specs.Layouts.{labelAt};
 ghost use Rattle.text.specs.Bytes.{bytes};
 ghost use Rattle.text.specs.Puts.{limit};
-ghost use lib.ListN.{getD, take};
+ghost use lib.ListN.{take};
 ghost use lib.Seq.{sets};
-ghost use mathlib.Core.List.{[], map};
+ghost use mathlib.Core.List.{[]};
 ghost use mathlib.Core.Path.{_≡_};
 
 // A label against a text: how long the label is, and whether the text begins with it.
@@ -86,60 +85,104 @@ fn created(s: &[u8], out: &mut [u8], at: usize) -> Met
     labelled(18, *b"Data Creazione Msg                  ", s, out, at)
 }
 
-// 2.3.1, fields 1 to 12 of the market layout, from 0.
-fn command_label(k: usize, s: &[u8], out: &mut [u8], at: usize) -> Met
-    requires { ⌜ at + 36 < limit ⌝ }
-    ensures { λ r. ⌜ Meets (getD (map (λ (f : Field). f .label) command) k []) (now (s .entry)) (now (out .entry)) at (now (out .exit)) r ⌝ }
+// 2.3.1, fields 1 to 6 of the market layout: what is ordered, and when.
+fn order_label(k: usize, s: &[u8], out: &mut [u8], at: usize) -> Met
+    requires { ⌜ (at + 36 < limit) × (1 ≤ k) × (k ≤ 6) ⌝ }
+    ensures { λ r. ⌜ Meets (labelAt Layout.Market k) (now (s .entry)) (now (out .entry)) at (now (out .exit)) r ⌝ }
 {
     match k {
-        0 => identifier(s, out, at),
-        1 => unit(s, out, at),
-        2 => labelled(23, *b"Data Ora Inizio Comando             ", s, out, at),
-        3 => labelled(21, *b"Data Ora Fine Comando               ", s, out, at),
-        4 => labelled(35, *b"Variazione potenza Prog Vinc (TINI) ", s, out, at),
-        5 => labelled(35, *b"Variazione potenza Prog Vinc (TFIN) ", s, out, at),
-        6 => labelled(23, *b"Stato Gradiente Comando             ", s, out, at),
-        7 => labelled(27, *b"Stato Continuazione Comando         ", s, out, at),
-        8 => labelled(22, *b"Richiesta SuperMassimo              ", s, out, at),
-        9 => labelled(27, *b"PV(Data ora Inizio Comando)         ", s, out, at),
-        10 => labelled(25, *b"PV(Data ora Fine Comando)           ", s, out, at),
-        11 => labelled(18, *b"Ordine di Raccordo                  ", s, out, at),
-        _ => no_label(s, out, at),
+        1 => identifier(s, out, at),
+        2 => unit(s, out, at),
+        3 => labelled(23, *b"Data Ora Inizio Comando             ", s, out, at),
+        4 => labelled(21, *b"Data Ora Fine Comando               ", s, out, at),
+        5 => labelled(35, *b"Variazione potenza Prog Vinc (TINI) ", s, out, at),
+        _ => labelled(35, *b"Variazione potenza Prog Vinc (TFIN) ", s, out, at),
     }
 }
 
-// 2.3.1, fields 13 to 26, from 0.
+// Fields 7 to 12: how it is followed.
+fn manner_label(k: usize, s: &[u8], out: &mut [u8], at: usize) -> Met
+    requires { ⌜ (at + 36 < limit) × (7 ≤ k) × (k ≤ 12) ⌝ }
+    ensures { λ r. ⌜ Meets (labelAt Layout.Market k) (now (s .entry)) (now (out .entry)) at (now (out .exit)) r ⌝ }
+{
+    match k {
+        7 => labelled(23, *b"Stato Gradiente Comando             ", s, out, at),
+        8 => labelled(27, *b"Stato Continuazione Comando         ", s, out, at),
+        9 => labelled(22, *b"Richiesta SuperMassimo              ", s, out, at),
+        10 => labelled(27, *b"PV(Data ora Inizio Comando)         ", s, out, at),
+        11 => labelled(25, *b"PV(Data ora Fine Comando)           ", s, out, at),
+        _ => labelled(18, *b"Ordine di Raccordo                  ", s, out, at),
+    }
+}
+
+// Fields 13 to 19: times and technical data.
 fn technical_label(k: usize, s: &[u8], out: &mut [u8], at: usize) -> Met
-    requires { ⌜ at + 36 < limit ⌝ }
-    ensures { λ r. ⌜ Meets (getD (map (λ (f : Field). f .label) technical) k []) (now (s .entry)) (now (out .entry)) at (now (out .exit)) r ⌝ }
+    requires { ⌜ (at + 36 < limit) × (13 ≤ k) × (k ≤ 19) ⌝ }
+    ensures { λ r. ⌜ Meets (labelAt Layout.Market k) (now (s .entry)) (now (out .entry)) at (now (out .exit)) r ⌝ }
 {
     match k {
-        0 => labelled(19, *b"Tempo di avviamento                 ", s, out, at),
-        1 => labelled(14, *b"Tempo di rampa                      ", s, out, at),
-        2 => labelled(15, *b"PV finale(TINI)                     ", s, out, at),
-        3 => labelled(15, *b"PV finale(TFIN)                     ", s, out, at),
-        4 => labelled(32, *b"Data Ora Riferimento Dati (Trif)    ", s, out, at),
-        5 => labelled(27, *b"Origine Dati Tecnici a Trif         ", s, out, at),
-        6 => labelled(34, *b"Data Ora Aggiornamento Dati a Trif  ", s, out, at),
-        7 => labelled(32, *b"Profilo normalizzato di rampa h1    ", s, out, at),
-        8 => labelled(32, *b"Profilo normalizzato di rampa h2    ", s, out, at),
-        9 => labelled(32, *b"Profilo normalizzato di rampa h3    ", s, out, at),
-        10 => labelled(32, *b"Profilo normalizzato di rampa h4    ", s, out, at),
-        11 => labelled(32, *b"Profilo normalizzato di rampa h5    ", s, out, at),
-        12 => labelled(32, *b"Profilo normalizzato di rampa h6    ", s, out, at),
-        13 => labelled(26, *b"Gradienti (Pmin,Pmax,Grad)          ", s, out, at),
-        _ => no_label(s, out, at),
+        13 => labelled(19, *b"Tempo di avviamento                 ", s, out, at),
+        14 => labelled(14, *b"Tempo di rampa                      ", s, out, at),
+        15 => labelled(15, *b"PV finale(TINI)                     ", s, out, at),
+        16 => labelled(15, *b"PV finale(TFIN)                     ", s, out, at),
+        17 => labelled(32, *b"Data Ora Riferimento Dati (Trif)    ", s, out, at),
+        18 => labelled(27, *b"Origine Dati Tecnici a Trif         ", s, out, at),
+        _ => labelled(34, *b"Data Ora Aggiornamento Dati a Trif  ", s, out, at),
     }
 }
 
+// Fields 20 to 25: the profile's lines h1 to h6.
+fn profile_label(k: usize, s: &[u8], out: &mut [u8], at: usize) -> Met
+    requires { ⌜ (at + 36 < limit) × (20 ≤ k) × (k ≤ 25) ⌝ }
+    ensures { λ r. ⌜ Meets (labelAt Layout.Market k) (now (s .entry)) (now (out .entry)) at (now (out .exit)) r ⌝ }
+{
+    let mut text = *b"Profilo normalizzato di rampa h1    ";
+    text[31] = b'1' + (k - 20) as u8;
+    labelled(32, text, s, out, at)
+}
+
+// 2.3.1, the market layout.
 fn market_label(k: usize, s: &[u8], out: &mut [u8], at: usize) -> Met
     requires { ⌜ at + 36 < limit ⌝ }
     ensures { λ r. ⌜ Meets (labelAt Layout.Market k) (now (s .entry)) (now (out .entry)) at (now (out .exit)) r ⌝ }
 {
     match k {
-        0 => no_label(s, out, at),
-        1..=12 => command_label(k - 1, s, out, at),
-        _ => technical_label(k - 13, s, out, at),
+        1..=6 => order_label(k, s, out, at),
+        7..=12 => manner_label(k, s, out, at),
+        13..=19 => technical_label(k, s, out, at),
+        20..=25 => profile_label(k, s, out, at),
+        26 => labelled(26, *b"Gradienti (Pmin,Pmax,Grad)          ", s, out, at),
+        _ => no_label(s, out, at),
+    }
+}
+
+// 2.3.2, fields 1 to 6 of the mFRR layout: its instants.
+fn ramp_label(k: usize, s: &[u8], out: &mut [u8], at: usize) -> Met
+    requires { ⌜ (at + 36 < limit) × (1 ≤ k) × (k ≤ 6) ⌝ }
+    ensures { λ r. ⌜ Meets (labelAt Layout.Mfrr k) (now (s .entry)) (now (out .entry)) at (now (out .exit)) r ⌝ }
+{
+    match k {
+        1 => identifier(s, out, at),
+        2 => unit(s, out, at),
+        3 => labelled(28, *b"Data Ora Inizio Rampa1 TINI1        ", s, out, at),
+        4 => labelled(26, *b"Data Ora Fine Rampa1 TFIN1          ", s, out, at),
+        5 => labelled(28, *b"Data Ora Inizio Rampa2 TINI2        ", s, out, at),
+        _ => labelled(26, *b"Data Ora Fine Rampa2 TFIN2          ", s, out, at),
+    }
+}
+
+// Fields 7 to 12: its powers.
+fn power_label(k: usize, s: &[u8], out: &mut [u8], at: usize) -> Met
+    requires { ⌜ (at + 36 < limit) × (7 ≤ k) × (k ≤ 12) ⌝ }
+    ensures { λ r. ⌜ Meets (labelAt Layout.Mfrr k) (now (s .entry)) (now (out .entry)) at (now (out .exit)) r ⌝ }
+{
+    match k {
+        7 => labelled(27, *b"Variazione potenza al TFIN1         ", s, out, at),
+        8 => labelled(12, *b"Tipo Comando                        ", s, out, at),
+        9 => labelled(15, *b"Prifbil (TINI1)                     ", s, out, at),
+        10 => labelled(15, *b"Prifbil (TFIN1)                     ", s, out, at),
+        11 => labelled(15, *b"Prifbil (TINI2)                     ", s, out, at),
+        _ => labelled(15, *b"Prifbil (TFIN2)                     ", s, out, at),
     }
 }
 
@@ -149,18 +192,8 @@ fn mfrr_label(k: usize, s: &[u8], out: &mut [u8], at: usize) -> Met
     ensures { λ r. ⌜ Meets (labelAt Layout.Mfrr k) (now (s .entry)) (now (out .entry)) at (now (out .exit)) r ⌝ }
 {
     match k {
-        1 => identifier(s, out, at),
-        2 => unit(s, out, at),
-        3 => labelled(28, *b"Data Ora Inizio Rampa1 TINI1        ", s, out, at),
-        4 => labelled(26, *b"Data Ora Fine Rampa1 TFIN1          ", s, out, at),
-        5 => labelled(28, *b"Data Ora Inizio Rampa2 TINI2        ", s, out, at),
-        6 => labelled(26, *b"Data Ora Fine Rampa2 TFIN2          ", s, out, at),
-        7 => labelled(27, *b"Variazione potenza al TFIN1         ", s, out, at),
-        8 => labelled(12, *b"Tipo Comando                        ", s, out, at),
-        9 => labelled(15, *b"Prifbil (TINI1)                     ", s, out, at),
-        10 => labelled(15, *b"Prifbil (TFIN1)                     ", s, out, at),
-        11 => labelled(15, *b"Prifbil (TINI2)                     ", s, out, at),
-        12 => labelled(15, *b"Prifbil (TFIN2)                     ", s, out, at),
+        1..=6 => ramp_label(k, s, out, at),
+        7..=12 => power_label(k, s, out, at),
         _ => no_label(s, out, at),
     }
 }
@@ -180,10 +213,10 @@ fn rc_label(k: usize, s: &[u8], out: &mut [u8], at: usize) -> Met
     }
 }
 
-// 2.5, MG.
-fn mg_label(k: usize, s: &[u8], out: &mut [u8], at: usize) -> Met
+// 2.10, RI. The layouts below have its first four fields, MG and EB all of them.
+fn ri_label(k: usize, s: &[u8], out: &mut [u8], at: usize) -> Met
     requires { ⌜ at + 36 < limit ⌝ }
-    ensures { λ r. ⌜ Meets (labelAt Layout.Generic k) (now (s .entry)) (now (out .entry)) at (now (out .exit)) r ⌝ }
+    ensures { λ r. ⌜ Meets (labelAt Layout.Rejection k) (now (s .entry)) (now (out .entry)) at (now (out .exit)) r ⌝ }
 {
     match k {
         1 => identifier(s, out, at),
@@ -192,8 +225,18 @@ fn mg_label(k: usize, s: &[u8], out: &mut [u8], at: usize) -> Met
         4 => end(s, out, at),
         5 => reason(s, out, at),
         6 => note(s, out, at),
-        7 => created(s, out, at),
         _ => no_label(s, out, at),
+    }
+}
+
+// 2.5, MG.
+fn mg_label(k: usize, s: &[u8], out: &mut [u8], at: usize) -> Met
+    requires { ⌜ at + 36 < limit ⌝ }
+    ensures { λ r. ⌜ Meets (labelAt Layout.Generic k) (now (s .entry)) (now (out .entry)) at (now (out .exit)) r ⌝ }
+{
+    match k {
+        7 => created(s, out, at),
+        _ => ri_label(k, s, out, at),
     }
 }
 
@@ -203,15 +246,9 @@ fn eb_label(k: usize, s: &[u8], out: &mut [u8], at: usize) -> Met
     ensures { λ r. ⌜ Meets (labelAt Layout.Exclusion k) (now (s .entry)) (now (out .entry)) at (now (out .exit)) r ⌝ }
 {
     match k {
-        1 => identifier(s, out, at),
-        2 => unit(s, out, at),
-        3 => start(s, out, at),
-        4 => end(s, out, at),
-        5 => reason(s, out, at),
-        6 => note(s, out, at),
         7 => labelled(12, *b"Riammissione                        ", s, out, at),
         8 => created(s, out, at),
-        _ => no_label(s, out, at),
+        _ => ri_label(k, s, out, at),
     }
 }
 
@@ -221,10 +258,7 @@ fn lb_label(k: usize, s: &[u8], out: &mut [u8], at: usize) -> Met
     ensures { λ r. ⌜ Meets (labelAt Layout.Limitation k) (now (s .entry)) (now (out .entry)) at (now (out .exit)) r ⌝ }
 {
     match k {
-        1 => identifier(s, out, at),
-        2 => unit(s, out, at),
-        3 => start(s, out, at),
-        4 => end(s, out, at),
+        1..=4 => ri_label(k, s, out, at),
         5 => labelled(22, *b"Limite Potenza massima              ", s, out, at),
         6 => labelled(21, *b"Limite Potenza Minima               ", s, out, at),
         7 => reason(s, out, at),
@@ -241,10 +275,7 @@ fn sr_label(k: usize, s: &[u8], out: &mut [u8], at: usize) -> Met
     ensures { λ r. ⌜ Meets (labelAt Layout.Secondary k) (now (s .entry)) (now (out .entry)) at (now (out .exit)) r ⌝ }
 {
     match k {
-        1 => identifier(s, out, at),
-        2 => unit(s, out, at),
-        3 => start(s, out, at),
-        4 => end(s, out, at),
+        1..=4 => ri_label(k, s, out, at),
         5 => labelled(15, *b"Tipo Operazione                     ", s, out, at),
         6 => labelled(9, *b"Semibande                           ", s, out, at),
         7 => reason(s, out, at),
@@ -254,41 +285,32 @@ fn sr_label(k: usize, s: &[u8], out: &mut [u8], at: usize) -> Met
     }
 }
 
-// 2.9, VQ.
-fn vq_label(k: usize, s: &[u8], out: &mut [u8], at: usize) -> Met
-    requires { ⌜ at + 36 < limit ⌝ }
+// 2.9, fields 5 to 11 of VQ: states and settings.
+fn setting_label(k: usize, s: &[u8], out: &mut [u8], at: usize) -> Met
+    requires { ⌜ (at + 36 < limit) × (5 ≤ k) × (k ≤ 11) ⌝ }
     ensures { λ r. ⌜ Meets (labelAt Layout.VoltVar k) (now (s .entry)) (now (out .entry)) at (now (out .exit)) r ⌝ }
 {
     match k {
-        1 => identifier(s, out, at),
-        2 => unit(s, out, at),
-        3 => start(s, out, at),
-        4 => end(s, out, at),
         5 => labelled(17, *b"Stato Sart/Report                   ", s, out, at),
         6 => labelled(22, *b"Modalita funzionamento              ", s, out, at),
         7 => labelled(11, *b"Regolazione                         ", s, out, at),
         8 => labelled(24, *b"Impostazione Sart/Report            ", s, out, at),
         9 => labelled(16, *b"Impostazione RAT                    ", s, out, at),
         10 => labelled(10, *b"Variazione                          ", s, out, at),
-        11 => labelled(16, *b"Potenza reattiva                    ", s, out, at),
-        12 => note(s, out, at),
-        13 => created(s, out, at),
-        _ => no_label(s, out, at),
+        _ => labelled(16, *b"Potenza reattiva                    ", s, out, at),
     }
 }
 
-// 2.10, RI.
-fn ri_label(k: usize, s: &[u8], out: &mut [u8], at: usize) -> Met
+// 2.9, VQ.
+fn vq_label(k: usize, s: &[u8], out: &mut [u8], at: usize) -> Met
     requires { ⌜ at + 36 < limit ⌝ }
-    ensures { λ r. ⌜ Meets (labelAt Layout.Rejection k) (now (s .entry)) (now (out .entry)) at (now (out .exit)) r ⌝ }
+    ensures { λ r. ⌜ Meets (labelAt Layout.VoltVar k) (now (s .entry)) (now (out .entry)) at (now (out .exit)) r ⌝ }
 {
     match k {
-        1 => identifier(s, out, at),
-        2 => unit(s, out, at),
-        3 => start(s, out, at),
-        4 => end(s, out, at),
-        5 => reason(s, out, at),
-        6 => note(s, out, at),
+        1..=4 => ri_label(k, s, out, at),
+        5..=11 => setting_label(k, s, out, at),
+        12 => note(s, out, at),
+        13 => created(s, out, at),
         _ => no_label(s, out, at),
     }
 }
@@ -299,10 +321,7 @@ fn qr_label(k: usize, s: &[u8], out: &mut [u8], at: usize) -> Met
     ensures { λ r. ⌜ Meets (labelAt Layout.Reserve k) (now (s .entry)) (now (out .entry)) at (now (out .exit)) r ⌝ }
 {
     match k {
-        1 => identifier(s, out, at),
-        2 => unit(s, out, at),
-        3 => start(s, out, at),
-        4 => end(s, out, at),
+        1..=4 => ri_label(k, s, out, at),
         5 => labelled(12, *b"Tipo Riserva                        ", s, out, at),
         6 => labelled(23, *b"Quantita Riservata (MW)             ", s, out, at),
         7 => labelled(18, *b"Quantita Riservata                  ", s, out, at),

@@ -1,10 +1,10 @@
--- The rows: most are in the body's order, and every field of a row is a field of its layout. Assumes nothing.
+-- The rows: most are in the body's order, every field of a row is a field of its layout, and a row is its fields and then its half-bands. Assumes nothing.
 use Prim.Native.Nat.{ℕ, zero, suc, _+_, _≤_, _<_}
 use Rattle.layout.proofs.Labels.{all-in}
 use Rattle.layout.proofs.Layout.{the-type}
 use Rattle.layout.specs.Fields.{command, technical, market, mfrr, rc, mg, eb, lb, sr, vq, ri, qr}
 use Rattle.layout.specs.Layouts.{fieldsOf, sizeOf}
-use Rattle.layout.specs.Rows.{rowFields}
+use Rattle.layout.specs.Rows.{rowFields, textAt, bandsIn, piecesOf, tailText, rowText, rowOf}
 use Rattle.layout.specs.declared.Layout.{Layout}
 use Rattle.layout.specs.declared.Layout.the-variants.{Market, Mfrr, Revocation, Generic, Exclusion, Limitation, Secondary, VoltVar, Rejection, Reserve}
 use Rattle.text.proofs.Tests.{and-parts, within-tells}
@@ -12,10 +12,10 @@ use Rattle.text.specs.Bytes.{all, within}
 use borrow.Author.Tests.{leb-true, eqb-true}
 use denote.Enum.Declared.{tagOf}
 use lib.Dec.{eqb}
-use lib.ListN.{length, getD}
+use lib.ListN.{length, getD, length-map}
 use mathlib.Core.Bool.{Bool, true, _&&_}
-use mathlib.Core.List.{List, [], _∷_, _++_}
-use mathlib.Core.Path.{_≡_, refl, _∙_}
+use mathlib.Core.List.{List, [], _∷_, _++_, map, append-assoc}
+use mathlib.Core.Path.{_≡_, refl, sym, ap, _∙_}
 use native.Mathlib.Omega.{arith}
 use types.Run.{OneOf, miss}
 
@@ -120,3 +120,19 @@ eb-order i h n = front (1 ∷ 2 ∷ 3 ∷ 4 ∷ []) (7 ∷ []) i refl (omega ari
 pub lb-order : (i : ℕ) → i < length (rowFields Limitation) → (i ≡ 4 → ⊥) → (i ≡ 5 → ⊥) → (i ≡ 6 → ⊥) → i + 1 ≡ getD (rowFields Limitation) i 0
 unfolding runs rowFields
 lb-order i h n m o = front (1 ∷ 2 ∷ 3 ∷ 4 ∷ []) (6 ∷ 5 ∷ 9 ∷ []) i refl (omega arith)
+
+-- ---- the row of a layout: the fields, and then the half-bands
+
+tail-join : (xs ys : List (List ℕ)) → tailText (xs ++ ys) ≡ tailText xs ++ tailText ys
+unfolding tailText
+tail-join [] ys = refl
+tail-join (x ∷ xs) ys = ap (λ (t : List ℕ). (59 ∷ x) ++ t) (tail-join xs ys) ∙ sym (append-assoc (59 ∷ x) (tailText xs) (tailText ys))
+
+row-join : (xs ys : List (List ℕ)) → 1 ≤ length xs → rowText (xs ++ ys) ≡ rowText xs ++ tailText ys
+unfolding rowText
+row-join [] ys h = absurd (omega arith)
+row-join (x ∷ xs) ys h = ap (λ (t : List ℕ). x ++ t) (tail-join xs ys) ∙ sym (append-assoc x (tailText xs) (tailText ys))
+
+pub row-cut : (l : Layout) (col : List (List ℕ)) → rowOf l col ≡ rowText (map (textAt col) (rowFields l)) ++ tailText (bandsIn l col)
+unfolding rowOf piecesOf
+row-cut l col = row-join (map (textAt col) (rowFields l)) (bandsIn l col) (omega (arith, row-some l, length-map (rowFields l) (textAt col)))

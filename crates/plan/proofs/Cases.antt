@@ -2,10 +2,11 @@
 -- Assumes nothing.
 use Prim.Native.Nat.{ℕ}
 use Prim.Native.String.{String}
+use Rattle.address.specs.Rows.{row, unitAt, typeFrom, typeAt, rowOf}
+use Rattle.keyline.specs.Keylines.{lineOf, wholeUpto, numberAt}
 use Rattle.name.specs.Names.{isUnit, sequenceOf}
 use Rattle.name.specs.declared.MessageType.the-variants.{Rc, Vq}
-use Rattle.plan.specs.Keyed.{lineOf, wholeUpto, numberAt}
-use Rattle.plan.specs.Rows.{row, unitAt, typeFrom, typeAt, rowOf, Plan, rows, wrong, planFrom, planOf}
+use Rattle.plan.specs.Plans.{Plan, rows, wrong, planFrom, planOf}
 use Rattle.text.specs.Bytes.{bytes, same, starts, upto, past, any, all}
 use Rattle.text.specs.Digits.{numberFrom, digitsOf}
 use mathlib.Core.List.{List, [], _∷_, _++_, map}

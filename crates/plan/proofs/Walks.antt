@@ -1,24 +1,26 @@
 -- The plan row by row: what is read so far, and what the rest gives below it, is the plan.
 -- Assumes nothing.
 use Prim.Native.Nat.{ℕ, zero, suc, _+_, _-_, _*_, _≤_, _<_}
+use Rattle.address.proofs.Addresses.{kept-row, any-kept, key-place, key-sought}
+use Rattle.address.proofs.Codes.{type-told}
+use Rattle.address.proofs.Lines.{unit-told}
+use Rattle.address.proofs.Readers.{At, at-length, next-line, second-line}
+use Rattle.address.specs.Kept.{soughtKey, rowsOf, thirdOf, entryOf, rowAtOf}
+use Rattle.address.specs.Rows.{Row, row, unitAt, caAt, ioaAt, typeAt, isAt, RowRead, good, bad, named, begun, rowOf}
+use Rattle.address.specs.declared.Entry.{Entry}
+use Rattle.address.specs.declared.RowAt.the-variants.{Good, Bad}
+use Rattle.address.specs.declared.RowAt.{RowAt}
+use Rattle.keyline.proofs.Values.{number-told}
+use Rattle.keyline.specs.Keylines.{valueIn, below}
 use Rattle.name.specs.declared.MessageType.{MessageType}
-use Rattle.plan.proofs.Addresses.{kept-row, any-kept, key-place, key-sought}
-use Rattle.plan.proofs.Codes.{type-told}
-use Rattle.plan.proofs.Lines.{unit-told}
-use Rattle.plan.proofs.Readers.{At, at-length, next-line, second-line}
-use Rattle.plan.proofs.Values.{number-told}
-use Rattle.plan.specs.Kept.{soughtKey, rowsOf, thirdOf, entryOf, rowAtOf, foundIn}
-use Rattle.plan.specs.Keyed.{valueIn, below}
-use Rattle.plan.specs.Rows.{Row, row, unitAt, caAt, ioaAt, typeAt, isAt, RowRead, good, bad, named, begun, rowOf, rows, wrong, after, planFrom, planOf, refusal, lookUp, soughtOf}
+use Rattle.plan.specs.Kept.{foundIn}
+use Rattle.plan.specs.Plans.{rows, wrong, after, planFrom, planOf, refusal, lookUp, soughtOf}
 use Rattle.plan.specs.declared.Sought.{Sought}
-use Rattle.plan.specs.declared.row.Entry.{Entry}
-use Rattle.plan.specs.declared.row.RowAt.{RowAt}
-use Rattle.plan.specs.declared.row.RowAt.the-variants.{Good, Bad}
 use Rattle.room.specs.Rooms.{keptIn}
 use Rattle.text.proofs.Cuts.{tail, part-from, upto-take}
 use Rattle.text.specs.Bytes.{bytes, part, is, any, firstOf}
-use Rattle.text.specs.declared.digits.Digits.{Digits}
 use Rattle.text.specs.declared.digits.Digits.the-variants.{Are, Not}
+use Rattle.text.specs.declared.digits.Digits.{Digits}
 use borrow.Author.Tests.{eq-eqb, ne-eqb}
 use lib.Dec.{eqb}
 use lib.ListN.{length, take, drop, set}

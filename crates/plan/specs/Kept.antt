@@ -1,75 +1,11 @@
--- What the private functions keep of the rows and answer for one, by the definitions of the plan. No part of what a plan means.
-use Prim.Native.Nat.{ℕ, _+_, _-_, _*_, _/_, _%_}
-use Rattle.name.specs.declared.MessageType.{MessageType}
-use Rattle.name.specs.declared.MessageType.the-variants.{Cb}
-use Rattle.plan.specs.Keyed.{below}
-use Rattle.plan.specs.Rows.{Row, row, unitAt, RowRead, good, bad}
+-- What the search answers for a row that it found, by what is kept of the row. No part of what a plan means.
+use Prim.Native.Nat.{ℕ}
+use Rattle.address.specs.declared.Entry.{Entry}
 use Rattle.plan.specs.declared.Sought.{Sought}
-use Rattle.plan.specs.declared.row.Entry.{Entry}
-use Rattle.plan.specs.declared.row.Named.{Named}
-use Rattle.plan.specs.declared.row.Named.the-variants.{To, Not as NotNamed}
-use Rattle.plan.specs.declared.row.Numbered.{Numbered}
-use Rattle.plan.specs.declared.row.Numbered.the-variants.{Is as IsNumbered, Not as NotNumbered}
-use Rattle.plan.specs.declared.row.RowAt.{RowAt}
-use Rattle.plan.specs.declared.row.RowAt.the-variants.{Good, Bad}
-use Rattle.plan.specs.declared.row.TypeRead.{TypeRead}
-use Rattle.plan.specs.declared.row.TypeRead.the-variants.{Is, Not}
 use Rattle.room.specs.Rooms.{keptIn}
-use Rattle.text.specs.Bytes.{firstOf, part}
-use Rattle.text.specs.declared.digits.Digits.{Digits}
-use Rattle.text.specs.declared.digits.Digits.the-variants.{Are, Not as NoDigits}
-use lib.Dec.{leb}
+use Rattle.text.specs.Bytes.{part}
 use lib.ListN.{length}
-use mathlib.Core.Bool.{cond}
-use mathlib.Core.List.{List, [], map}
-use mathlib.Core.Option.{Option, none, some}
-
--- ---- the rows above: of each only its address is kept, in one number
-
-abbrev pub keyOf : ℕ → ℕ → ℕ
-keyOf c i = c * 16777216 + i
-
--- 0 is no row's number
-abbrev pub soughtKey : ℕ → ℕ → ℕ
-soughtKey c i = cond (leb i 16777215) (keyOf c i) 0
-
-abbrev pub rowsOf : List ℕ → List Row
-rowsOf keys = map (λ (k : ℕ). row (k / 16777216) (k % 16777216) [] Cb) keys
-
--- ---- what is answered for a line and for a row
-
--- a number's line ends at its LF
-abbrev pub numberedOf : Digits → List ℕ → Numbered
-numberedOf (Are n) s = IsNumbered n (firstOf 10 s)
-numberedOf NoDigits s = NotNumbered
-
-abbrev pub ifNamed : Option (List ℕ) → List ℕ → Named
-ifNamed none s = NotNamed
-ifNamed (some u) s = To (firstOf 10 s)
-
-abbrev pub namedTo : List ℕ → Named
-namedTo s = ifNamed (unitAt s) s
-
-abbrev pub typeReadOf : Option MessageType → TypeRead
-typeReadOf none = Not
-typeReadOf (some t) = Is t
-
--- where the third line of a text begins
-abbrev pub thirdOf : List ℕ → ℕ
-thirdOf s = length s - length (below (below s))
-
-abbrev pub entryOf : List ℕ → Row → Entry
-entryOf s r = record {
-  key = keyOf (r .ca) (r .ioa);
-  kind = r .kind;
-  from = thirdOf s + 5;
-  to = thirdOf s + firstOf 10 (below (below s));
-  end = length s - length (below (below (below (below s))));
-}
-
-abbrev pub rowAtOf : List ℕ → RowRead → RowAt
-rowAtOf s (good r) = Good (entryOf s r)
-rowAtOf s (bad k) = Bad k
+use mathlib.Core.List.{List}
 
 -- what a row with the address gives
 abbrev pub foundIn : List ℕ → Entry → Sought

@@ -1,3 +1,2 @@
-pub mod Keyed
-pub mod Rows
+pub mod Plans
 pub mod Kept

@@ -1,13 +1,10 @@
 // The address plan: which unit and type of message an address (CA, IOA) has. The type comes from here alone, never from the message.
-pub mod keyed;
-mod row;
-
-use crate::row::Entry;
-use crate::row::RowAt;
+use address::Entry;
+use address::RowAt;
 use name::MessageType;
 ghost use Prim.Native.Nat.{_≤_};
 ghost use Rattle.plan.specs.Kept.{foundIn};
-ghost use Rattle.plan.specs.Rows.{planOf, refusal, soughtOf};
+ghost use Rattle.plan.specs.Plans.{planOf, refusal, soughtOf};
 ghost use lib.ListN.{length};
 ghost use mathlib.Core.Path.{_≡_};
 
@@ -59,7 +56,7 @@ pub fn seek(plan: &[u8], ca: u32, ioa: u32) -> Sought
     if plan.len() == 0 {
         return refused(13, 0);
     }
-    let sought = row::sought_key(ca, ioa);
+    let sought = address::sought_key(ca, ioa);
     let mut keys = [0u64; 64];
     let mut count = 0;
     let mut found = refused(1, 0);
@@ -69,7 +66,7 @@ pub fn seek(plan: &[u8], ca: u32, ioa: u32) -> Sought
         if count == 64 {
             return refused(13, line);
         }
-        match row::row_at(rest, &keys[0..count]) {
+        match address::row_at(rest, &keys[0..count]) {
             RowAt::Bad(k) => {
                 return refused(13, line + k as usize);
             }

@@ -1,7 +1,8 @@
 -- Refusals 13 and 1 as the code meets them: what the plan gave, and what its unit's file leads to. Assumes nothing.
 use Prim.Native.Nat.{ℕ}
-use Rattle.plan.specs.Rows.{Row, Plan, isAt, lookUp, planOf, soughtOf}
-use Rattle.plan.specs.Rows.Plan.{rows, wrong}
+use Rattle.address.specs.Rows.{Row, isAt}
+use Rattle.plan.specs.Plans.{Plan, lookUp, planOf, soughtOf}
+use Rattle.plan.specs.Plans.Plan.{rows, wrong}
 use Rattle.plan.specs.declared.Sought.{Sought}
 use Rattle.reader.proofs.Firsts.{answer-yes, answer-no}
 use Rattle.reader.specs.Reader.{messageOf, planned, answerAt, unitIn, readOf}

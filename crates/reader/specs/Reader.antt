@@ -6,7 +6,7 @@ use Rattle.layout.specs.declared.Layout.{Layout}
 use Rattle.lines.specs.Entries.{Entry, again, missing, column}
 use Rattle.lines.specs.Lines.{texts, seps, framed, allowedUpto}
 use Rattle.name.specs.declared.MessageType.{MessageType}
-use Rattle.plan.specs.Rows.{planOf, soughtOf}
+use Rattle.plan.specs.Plans.{planOf, soughtOf}
 use Rattle.plan.specs.declared.Sought.{Sought}
 use Rattle.reader.specs.Messages.{given, rowIn, layoutIn, entriesIn, valuesOf, isBad, bodyOf}
 use Rattle.reader.specs.Refusals.{Refusal, refusal, answer}

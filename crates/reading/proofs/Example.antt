@@ -10,8 +10,9 @@ use Rattle.layout.specs.declared.Layout.the-variants.{Revocation}
 use Rattle.lines.specs.Entries.{placeOf, entryOf, entries, stands, again, missing, valueAt, column}
 use Rattle.lines.specs.Lines.{allowed, allowedUpto, lines, textOf, texts, isSep, seps, mark, marked, ifInside, ifOutside, inside, outside, framed, paramOf, params}
 use Rattle.name.specs.Names.{exactly, identifierOf, isUnit, sequenceOf}
-use Rattle.plan.specs.Keyed.{lineOf, wholeUpto, numberAt}
-use Rattle.plan.specs.Rows.{unitAt, typeFrom, typeAt, rowOf as rowAt, planFrom, planOf, lookUp, soughtOf}
+use Rattle.keyline.specs.Keylines.{lineOf, wholeUpto, numberAt}
+use Rattle.address.specs.Rows.{unitAt, typeFrom, typeAt, rowOf as rowAt}
+use Rattle.plan.specs.Plans.{planFrom, planOf, lookUp, soughtOf}
 use Rattle.reader.specs.Messages.{given, rowIn, layoutIn, entriesIn, valuesOf, bodyOf}
 use Rattle.reader.specs.Reader.{valued, labelled, reading, bodyIn, planned, answerAt, readOf}
 use Rattle.reader.specs.Refusals.{refused, accepted, answer}

@@ -11,9 +11,10 @@ use Rattle.lines.specs.Entries.{Entry, entry, placeOf, entryOf, entries, stands
 use Rattle.lines.specs.Lines.{Param, allowedUpto, lineStep, lines, textOf, texts, isSep, seps, framed}
 use Rattle.list.specs.declared.Triple.{Triple}
 use Rattle.name.specs.declared.MessageType.{MessageType}
-use Rattle.plan.specs.Keyed.{below}
-use Rattle.plan.specs.Rows.{Row, caAt, ioaAt, unitAt, typeAt, isAt, RowRead, named, begun, rowOf as rowAt, Plan, rows, wrong, after, planFrom, planOf, lookUp, soughtOf}
-use Rattle.plan.specs.Rows.RowRead.{good as goodRow, bad as badRow}
+use Rattle.keyline.specs.Keylines.{below}
+use Rattle.address.specs.Rows.{Row, caAt, ioaAt, unitAt, typeAt, isAt, RowRead, named, begun, rowOf as rowAt}
+use Rattle.plan.specs.Plans.{Plan, rows, wrong, after, planFrom, planOf, lookUp, soughtOf}
+use Rattle.address.specs.Rows.RowRead.{good as goodRow, bad as badRow}
 use Rattle.reader.specs.Messages.{given, rowIn, layoutIn, entriesIn, valuesOf, isBad, bodyOf}
 use Rattle.reader.specs.Reader.{isThere, numberOr, valued, labelled, reading, bodyIn, unitIn, planned, answerAt, readOf}
 use Rattle.reader.specs.Refusals.{Refusal, refusal, answer}

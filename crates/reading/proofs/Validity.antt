@@ -5,7 +5,7 @@ use Rattle.layout.specs.declared.Layout.{Layout}
 use Rattle.lines.proofs.Tidy.{column-tidy}
 use Rattle.lines.specs.Lines.{allowedUpto}
 use Rattle.name.specs.declared.MessageType.{MessageType}
-use Rattle.plan.specs.Rows.{planOf, soughtOf}
+use Rattle.plan.specs.Plans.{planOf, soughtOf}
 use Rattle.plan.specs.declared.Sought.{Sought}
 use Rattle.reading.proofs.Agreed.{Accepted, accepted}
 use Rattle.reader.proofs.Firsts.{NoneHolds, next, accepted-none, numbers, answer-no}

@@ -1,14 +1,14 @@
 -- The ways through the program's first two lines, and what is printed of the answer. Assumes nothing.
 use Prim.Native.Nat.{ℕ}
-use Rattle.plan.specs.Keyed.{below}
-use Rattle.plan.specs.Rows.{caAt, ioaAt}
+use Rattle.address.specs.Rows.{caAt, ioaAt}
+use Rattle.brief.proofs.Puts.{Was}
+use Rattle.keyline.specs.Keylines.{below}
 use Rattle.reader.specs.Reader.{readOf}
 use Rattle.reader.specs.declared.Answer.{Answer}
-use Rattle.brief.proofs.Puts.{Was}
 use Rattle.report.specs.Program.{atAddress, heardOf, printedOf}
 use Rattle.report.specs.Report.{reportOf}
-use Rattle.text.specs.declared.digits.Digits.{Digits}
 use Rattle.text.specs.declared.digits.Digits.the-variants.{Are, Not}
+use Rattle.text.specs.declared.digits.Digits.{Digits}
 use lib.ListN.{length}
 use lib.Seq.{sets}
 use mathlib.Core.List.{List}

@@ -1,12 +1,12 @@
 -- The program. Document 01, "The program": from standard input the lines `ca=` and `ioa=`, written as in a plan, and then the file.
 use Prim.Native.Nat.{ℕ}
-use Rattle.plan.specs.Keyed.{below}
-use Rattle.plan.specs.Rows.{caAt, ioaAt}
+use Rattle.address.specs.Rows.{caAt, ioaAt}
+use Rattle.keyline.specs.Keylines.{below}
 use Rattle.reader.specs.Reader.{readOf}
 use Rattle.reader.specs.declared.Answer.{Answer}
 use Rattle.report.specs.Report.{reportOf}
-use Rattle.text.specs.declared.digits.Digits.{Digits}
 use Rattle.text.specs.declared.digits.Digits.the-variants.{Are, Not}
+use Rattle.text.specs.declared.digits.Digits.{Digits}
 use mathlib.Core.List.{List}
 
 -- The address that no plan has stands for lines that are not written as in a plan: so 13 comes first, and else it is refused 1.

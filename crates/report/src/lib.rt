@@ -1,5 +1,4 @@
 // What is printed of a reading: six lines of a record, two of a refusal, and what the program answers to its input.
-use plan::keyed;
 use reader::Answer;
 use record::Record;
 use text::digits::Digits;
@@ -45,12 +44,12 @@ pub fn put_answer(out: &mut [u8], at: usize, a: Answer) -> usize
 pub fn hear(plan: &[u8], input: &[u8]) -> Answer
     ensures { λ r. ⌜ r ≡ heardOf (now (plan .entry)) (now (input .entry)) ⌝ }
 {
-    let second = keyed::below(input);
-    let file = keyed::below(second);
-    let Digits::Are(ca) = keyed::number(b"ca=", 65534, input) else {
+    let second = keyline::below(input);
+    let file = keyline::below(second);
+    let Digits::Are(ca) = keyline::number(b"ca=", 65534, input) else {
         return reader::read(0, 0, plan, file);
     };
-    let Digits::Are(ioa) = keyed::number(b"ioa=", 16777215, second) else {
+    let Digits::Are(ioa) = keyline::number(b"ioa=", 16777215, second) else {
         return reader::read(0, 0, plan, file);
     };
     reader::read(ca as u32, ioa as u32, plan, file)

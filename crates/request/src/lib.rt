@@ -1,9 +1,18 @@
-// A request line of the case runner: cut into its fields at single blanks, and its bytes decoded (hex.rt).
+// A request line of the case runner: what it asks for (forms.rt), and its fields (parts.rt), with its bytes decoded where they stand (hex.rt). The calls of
+// a book are taken one by one (call.rt).
+pub mod call;
+pub mod forms;
 pub mod hex;
+pub mod parts;
 
-use text::digits;
-use text::digits::Digits;
-use text::scan;
+use forms::Shape;
+use hex::is_good;
+use parts::Fields;
+use parts::NOWHERE;
+use parts::cut;
+use parts::field;
+use parts::letter_of;
+use parts::word_of;
 
 // A part of a line, by its ends. (A line may have a MiB, and so its places need more than the 16 bits of a file's.)
 pub struct Part {
@@ -11,65 +20,81 @@ pub struct Part {
     pub to: usize,
 }
 
-// Up to eight fields; a count of 9 says that there are more.
-pub struct Fields {
-    pub count: usize,
-    pub places: [Part; 8],
+// What a request asks for: a file's reading, the normaliser or one of the two entries on it, one of its two times, what the program prints, or a book.
+// `Blind` is the program with a plan that cannot be read; `Unknown` is a line that is not of the form.
+pub enum Kind {
+    Read,
+    Norm,
+    Cread,
+    Cnorm,
+    StartUp,
+    Ramp,
+    Prog,
+    Blind,
+    Book,
+    Unknown,
 }
 
-const NOWHERE: Part = Part { from: 0, to: 0 };
-
-pub fn cut(line: &[u8]) -> Fields {
-    let mut places = [NOWHERE; 8];
-    let mut at = 0;
-    let mut k = 0;
-    while k < 8 {
-        let to = at + scan::first(scan::rest(line, at), b' ');
-        places[k] = Part { from: at, to };
-        k += 1;
-        if line.len() <= to {
-            return Fields { count: k, places };
-        }
-        at = to + 1;
-    }
-    Fields { count: 9, places }
+// A request. What its kind has not is 0 or empty. A book's unit stands for its plan, and the program's input for its file.
+pub struct Request {
+    pub kind: Kind,
+    pub ca: u32,
+    pub ioa: u32,
+    pub room: u32,
+    pub plan: Part,
+    pub file: Part,
+    pub sheet: Part,
+    pub calls: Part,
 }
 
-// The text of a field.
-pub fn text_of<'a>(line: &'a [u8], p: Part) -> &'a [u8] {
-    scan::rest(scan::front(line, p.to), p.from)
+fn only_if(good: bool, kind: Kind) -> Kind {
+    if good {
+        return kind;
+    }
+    Kind::Unknown
 }
 
-// A decimal number of up to ten digits; anything else is none.
-pub fn number_of(line: &[u8], p: Part) -> Digits {
-    digits::read_digits(text_of(line, p), 10)
+// `-` is no calls.
+fn calls_of(line: &[u8], p: Part) -> Part {
+    if letter_of(line, p) == b'-' {
+        return NOWHERE;
+    }
+    p
 }
 
-// What stands of a part before the first b in it: all of it where there is none.
-pub fn piece(line: &[u8], p: Part, b: u8) -> Part {
-    let n = scan::first(text_of(line, p), b);
-    if p.to <= p.from {
-        return p;
-    }
-    if p.to - p.from <= n {
-        return p;
-    }
-    Part {
-        from: p.from,
-        to: p.from + n,
+// A request of a kind, whose fields stand in the line as the shape says: unknown where one of them is not of the form.
+fn of_shape(line: &[u8], kind: Kind, f: Fields, s: Shape) -> Request {
+    let ca = word_of(line, field(f, s.ca));
+    let ioa = word_of(line, field(f, s.ioa));
+    let room = word_of(line, field(f, s.room));
+    let plan = hex::place_of(line, field(f, s.plan));
+    let file = hex::place_of(line, field(f, s.file));
+    let sheet = hex::place_of(line, field(f, s.sheet));
+    let good = is_good(plan) & is_good(file) & is_good(sheet);
+    Request {
+        kind: only_if(good & ca.good & ioa.good & room.good, kind),
+        ca: ca.n,
+        ioa: ioa.n,
+        room: room.n,
+        plan,
+        file,
+        sheet,
+        calls: calls_of(line, field(f, s.calls)),
     }
 }
 
-// What stands of a part past a piece at its front and the byte after it.
-pub fn past(p: Part, front: Part) -> Part {
-    if p.to <= front.to {
-        return Part {
-            from: p.to,
-            to: p.to,
-        };
-    }
-    Part {
-        from: front.to + 1,
-        to: p.to,
-    }
+// With the places of its bytes, which are not yet decoded.
+fn raw(line: &[u8]) -> Request {
+    let f = cut(line);
+    let kind = forms::kind_of(line, f);
+    of_shape(line, kind, f, forms::shape_of(kind))
+}
+
+// The request on a line. No field reaches into another, and so the bytes of each are decoded by themselves.
+pub fn of_line(line: &mut [u8]) -> Request {
+    let r = raw(line);
+    hex::decode(line, r.plan);
+    hex::decode(line, r.file);
+    hex::decode(line, r.sheet);
+    r
 }

@@ -8,7 +8,7 @@ use Rattle.layout.specs.declared.Layout.the-variants.{Market, Mfrr}
 use Rattle.lines.specs.Lines.{Param}
 use Rattle.name.specs.declared.MessageType.{MessageType}
 use Rattle.name.specs.declared.MessageType.the-variants.{Cb, Rc, Mg, Eb, Lb, Sr, Vq, Ri, Qr}
-use Rattle.plan.specs.Rows.{planOf, soughtOf}
+use Rattle.plan.specs.Plans.{planOf, soughtOf}
 use Rattle.plan.specs.declared.Sought.{Sought}
 use Rattle.reader.proofs.Firsts.{NoneHolds, next, accepted-none, numbers}
 use Rattle.reader.specs.Messages.{given, isKindOfCommand, layoutIn, valuesOf, bodyOf, goodOf}

@@ -6,7 +6,7 @@ use Rattle.layout.specs.declared.Layout.{Layout}
 use Rattle.lines.specs.Entries.{again, missing}
 use Rattle.lines.specs.Lines.{texts, framed, allowedUpto}
 use Rattle.name.specs.declared.MessageType.{MessageType}
-use Rattle.plan.specs.Rows.{planOf, soughtOf}
+use Rattle.plan.specs.Plans.{planOf, soughtOf}
 use Rattle.plan.specs.declared.Sought.{Sought}
 use Rattle.reader.proofs.Firsts.{NoneHolds, none, next, answer-no, none-given}
 use Rattle.reader.specs.Messages.{given, rowIn, layoutIn, entriesIn, valuesOf, isBad, bodyOf, goodOf}

@@ -2,7 +2,7 @@
 use Prim.Native.Nat.{ℕ}
 use Rattle.brief.specs.Brief.{unitOf}
 use Rattle.layout.specs.Layouts.{typeOf}
-use Rattle.plan.specs.Rows.{planOf, soughtOf}
+use Rattle.plan.specs.Plans.{planOf, soughtOf}
 use Rattle.plan.specs.declared.Sought.{Sought}
 use Rattle.reader.specs.Reader.{unitIn}
 use Rattle.record.specs.declared.Record.{Record}

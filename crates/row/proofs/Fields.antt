@@ -1,34 +1,30 @@
 -- The fields of a row, compared one by one with the places of their values, and what stands after them. Assumes nothing.
 use Prim.Native.Nat.{ℕ, zero, suc, _+_, _≤_, _<_}
 use Rattle.layout.proofs.Labels.{few}
-use Rattle.layout.proofs.Rows.{first-field, row-some, row-fields}
+use Rattle.layout.proofs.Rows.{first-field, row-some, row-fields, row-cut}
 use Rattle.layout.specs.Fields.{command, technical, sr}
 use Rattle.layout.specs.Layouts.{fieldsOf, sizeOf}
-use Rattle.layout.specs.Rows.{rowFields, textAt, halves, bandsIn, piecesOf, tailText, rowText, rowOf}
-use Rattle.layout.specs.declared.Layout.{Layout}
+use Rattle.layout.specs.Rows.{rowFields, textAt, halves, bandsIn, tailText, rowText, rowOf}
 use Rattle.layout.specs.declared.Layout.the-variants.{Secondary}
+use Rattle.layout.specs.declared.Layout.{Layout}
 use Rattle.lines.proofs.Columns.{column-at}
 use Rattle.lines.specs.Places.{Placed, partOf, spanAt, columnIn}
 use Rattle.lines.specs.declared.Span.{Span}
 use Rattle.row.proofs.Joins.{step-none, step-fits, step-on, step-stop, step-last, step-other}
 use Rattle.row.specs.Steps.{stepOf}
-use Rattle.row.specs.declared.Step.{Step}
 use Rattle.row.specs.declared.Step.the-variants.{To, Differs}
+use Rattle.row.specs.declared.Step.{Step}
 use Rattle.text.specs.Bytes.{part, same}
 use borrow.Author.Tests.{leb-true}
 use lib.Dec.{eqb, lit≤}
-use lib.ListN.{length, getD, drop, drop-of-length-le}
+use lib.ListN.{length, getD, drop, drop-of-length-le, length-map}
 use mathlib.Core.Bool.{false}
-use mathlib.Core.List.{List, [], _∷_, _++_, map, append-assoc}
+use mathlib.Core.List.{List, [], _∷_, _++_, map}
 use mathlib.Core.Path.{_≡_, refl, sym, ap, _∙_}
 use native.Mathlib.Numerals.{add-one}
 use native.Mathlib.Omega.{arith}
 
 -- ---- the texts of a row's fields
-
-map-length : {A B : Type 0} (f : A → B) (l : List A) → length (map f l) ≡ length l
-map-length f [] = refl
-map-length f (x ∷ l) = ap suc (map-length f l)
 
 map-step : {A B : Type 0} (f : A → B) (l : List A) (i : ℕ) (d : A) → i < length l → drop i (map f l) ≡ f (getD l i d) ∷ drop (suc i) (map f l)
 map-step f [] i d h = absurd (omega arith)
@@ -118,7 +114,7 @@ pub all-on : (l : Layout) (file : List ℕ) (at end : ℕ) (spans : List Span) (
     → To p ≡ stepOf file at end (rowText (texts l file spans))
 unfolding tailText
 all-on l file at end spans n p i s h =
-    let q : length (texts l file spans) ≤ i = omega (arith, s .size, map-length (textAt (columnIn (sizeOf l) file spans)) (rowFields l)) in
+    let q : length (texts l file spans) ≤ i = omega (arith, s .size, length-map (rowFields l) (textAt (columnIn (sizeOf l) file spans))) in
     step-none file p end ∙ ap (λ (ts : List (List ℕ)). stepOf file p end (tailText ts)) (sym (drop-of-length-le (texts l file spans) q)) ∙ sym (s .rest)
 
 -- ---- the bands
@@ -141,20 +137,6 @@ module _ (l : Layout) (file : List ℕ) (spans : List Span) (p : Placed (sizeOf 
       ∙ ap (λ (k : Layout). stepOf file at end (tailText (bandsIn k (columnIn (sizeOf l) file spans)))) (sym e)
 
 -- ---- the fields, and then the bands
-
-tail-join : (xs ys : List (List ℕ)) → tailText (xs ++ ys) ≡ tailText xs ++ tailText ys
-unfolding tailText
-tail-join [] ys = refl
-tail-join (x ∷ xs) ys = ap (λ (t : List ℕ). (59 ∷ x) ++ t) (tail-join xs ys) ∙ sym (append-assoc (59 ∷ x) (tailText xs) (tailText ys))
-
-row-join : (xs ys : List (List ℕ)) → 1 ≤ length xs → rowText (xs ++ ys) ≡ rowText xs ++ tailText ys
-unfolding rowText
-row-join [] ys h = absurd (omega arith)
-row-join (x ∷ xs) ys h = ap (λ (t : List ℕ). x ++ t) (tail-join xs ys) ∙ sym (append-assoc x (tailText xs) (tailText ys))
-
-row-cut : (l : Layout) (col : List (List ℕ)) → rowOf l col ≡ rowText (map (textAt col) (rowFields l)) ++ tailText (bandsIn l col)
-unfolding rowOf piecesOf
-row-cut l col = row-join (map (textAt col) (rowFields l)) (bandsIn l col) (omega (arith, row-some l, map-length (textAt col) (rowFields l)))
 
 module _ (l : Layout) (file : List ℕ) (at end : ℕ) (col : List (List ℕ)) (a : at ≤ end) (b : end ≤ length file) (r : Step)
     (e : r ≡ stepOf file at end (rowText (map (textAt col) (rowFields l)))) where

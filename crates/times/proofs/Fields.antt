@@ -10,13 +10,13 @@ use Rattle.lines.proofs.Standing.{place-at}
 use Rattle.lines.specs.Entries.{Entry, placeOf, entryOf, entries, valueAt}
 use Rattle.lines.specs.Lines.{param, paramOf, params, lines, textOf, texts, isSep, mark, marked, ifOutside, outside}
 use Rattle.reader.specs.Messages.{given}
+use Rattle.sheet.specs.declared.Part.{Part}
 use Rattle.text.proofs.Cuts.{same-true}
 use Rattle.text.proofs.Tests.{by-test}
 use Rattle.text.specs.Bytes.{any, is, past, same, trim, upto}
 use Rattle.text.specs.Lists.{onto, sift}
 use Rattle.times.proofs.Lays.{Laid, laid, Holding, value-holds, text-here}
 use Rattle.times.specs.Places.{isOf, valuePart, partFrom, fieldPart}
-use Rattle.times.specs.declared.Part.{Part}
 use borrow.Author.Tests.{eq-eqb, eqb-true, ne-eqb}
 use lib.Dec.{eqb}
 use lib.ListN.{length}

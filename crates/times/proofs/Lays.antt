@@ -2,12 +2,12 @@
 use Prim.Native.Nat.{ℕ, suc, _+_, _-_, _≤_}
 use Rattle.lines.proofs.Leaves.{trim-holds}
 use Rattle.lines.specs.Lines.{push, lines}
+use Rattle.sheet.proofs.Rests.{past-length, past-place}
+use Rattle.sheet.specs.declared.Part.{Part}
 use Rattle.text.proofs.Cuts.{part-from, part-front, length-part, upto-take, upto-length}
 use Rattle.text.proofs.Tests.{by-test}
 use Rattle.text.specs.Bytes.{is, isBlank, part, past, skip, skipEnd, trim, upto}
-use Rattle.times.proofs.Rests.{past-length, past-place}
 use Rattle.times.specs.Places.{trimmedPart, valuePart}
-use Rattle.times.specs.declared.Part.{Part}
 use lib.ListN.{length, take, drop}
 use lib.Seq.{drop-drop}
 use mathlib.Core.List.{List, [], _∷_}

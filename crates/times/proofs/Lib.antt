@@ -1,6 +1,4 @@
 pub mod Markets
-pub mod Rests
-pub mod Sheets
 pub mod Values
 pub mod Turns
 pub mod Lays

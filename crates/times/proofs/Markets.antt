@@ -1,8 +1,8 @@
 -- What is said of the layouts that are not asked for: the arm `_` of a match on a layout. Assumes nothing.
 use Prim.Native.Nat.{ℕ}
 use Rattle.layout.proofs.Layout.{the-type}
-use Rattle.layout.specs.declared.Layout.{Layout}
 use Rattle.layout.specs.declared.Layout.the-variants.{Market, Mfrr, Revocation, Generic, Exclusion, Limitation, Secondary, VoltVar, Rejection, Reserve}
+use Rattle.layout.specs.declared.Layout.{Layout}
 use Rattle.times.specs.Times.{isMarket}
 use denote.Enum.Declared.{tagOf}
 use mathlib.Core.Bool.{true, false, false≢true}

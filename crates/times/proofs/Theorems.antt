@@ -6,33 +6,33 @@ use Rattle.brief.specs.Brief.{unitOf}
 use Rattle.layout.proofs.Labels.{labels-length}
 use Rattle.layout.specs.Fields.{command, technical, market}
 use Rattle.layout.specs.Layouts.{fieldsOf, labelsOf, kindsOf, labelAt, kindAt, sizeOf}
-use Rattle.layout.specs.declared.Layout.{Layout}
 use Rattle.layout.specs.declared.Layout.the-variants.{Market}
+use Rattle.layout.specs.declared.Layout.{Layout}
 use Rattle.lines.specs.Entries.{entries, valueAt, column}
 use Rattle.reader.specs.Messages.{given, layoutIn, entriesIn, valuesOf, isBad, bodyOf}
 use Rattle.reader.specs.Reader.{bodyIn, readOf}
 use Rattle.reader.specs.declared.Answer.{Answer}
 use Rattle.record.specs.Records.{fieldOf, recordOf}
 use Rattle.record.specs.declared.Record.{Record}
+use Rattle.sheet.proofs.Sheets.{for-good, sheet-part}
+use Rattle.sheet.specs.Sheet.{isNumber, isFor, sheetPart}
+use Rattle.sheet.specs.declared.Part.{Part}
+use Rattle.sheet.specs.declared.Which.the-variants.{StartUp, Ramp}
+use Rattle.sheet.specs.declared.Which.{Which}
 use Rattle.text.proofs.Cuts.{length-part}
 use Rattle.text.specs.Bytes.{part}
 use Rattle.times.proofs.Fields.{field-holds}
 use Rattle.times.proofs.Markets.{market-is}
-use Rattle.times.proofs.Sheets.{for-good, sheet-part}
 use Rattle.times.proofs.Taken.{Taken, taken, field-read, column-value}
 use Rattle.times.proofs.Told.{labelled}
 use Rattle.times.specs.Places.{fieldPart}
-use Rattle.times.specs.Sheet.{isNumber, isFor, sheetPart}
 use Rattle.times.specs.Times.{fieldNo, isMarket, inFile, inSheet, timeIn, timeOf, partIn, refusalIn}
-use Rattle.times.specs.declared.Part.{Part}
-use Rattle.times.specs.declared.Time.{Time}
 use Rattle.times.specs.declared.Time.the-variants.{File, Sheet, Refused}
-use Rattle.times.specs.declared.Which.{Which}
-use Rattle.times.specs.declared.Which.the-variants.{StartUp, Ramp}
+use Rattle.times.specs.declared.Time.{Time}
 use Rattle.value.specs.Kinds.{valueOf}
 use Rattle.value.specs.declared.Got.the-variants.{Read}
-use Rattle.value.specs.declared.Value.{Value}
 use Rattle.value.specs.declared.Value.the-variants.{Blank, Id, Unit, When, Amount, Count, Reason, Note, Word, List as Numbers, Triples, Voltage, Regulator, Change, Reactive}
+use Rattle.value.specs.declared.Value.{Value}
 use borrow.Author.Tests.{eqb-true, eqb-false, ltb-true}
 use lib.Dec.{eqb}
 use lib.ListN.{length}

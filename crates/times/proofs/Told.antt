@@ -1,5 +1,5 @@
 -- Where a time stands, as the functions tell it: each way to an answer, and that the answer's part lies in its text. Assumes nothing.
-use Prim.Native.Nat.{ℕ, _-_, _≤_}
+use Prim.Native.Nat.{ℕ, _≤_}
 use Rattle.asked.specs.Values.{isFilled}
 use Rattle.brief.specs.Brief.{unitOf}
 use Rattle.fill.specs.Filled.{recordWith}
@@ -15,29 +15,27 @@ use Rattle.reader.specs.Refusals.{refused, accepted}
 use Rattle.reader.specs.State.{columnAt, Reads}
 use Rattle.reader.specs.declared.Answer.{Answer}
 use Rattle.reader.specs.declared.Reading.{Reading}
-use Rattle.record.proofs.Fields.{field-at}
-use Rattle.record.specs.Records.{cell, fieldOf}
+use Rattle.record.specs.Records.{fieldOf}
 use Rattle.record.specs.declared.Record.{Record}
+use Rattle.sheet.proofs.Sheets.{for-good, sheet-part}
+use Rattle.sheet.specs.Sheet.{isFor, sheetPart}
+use Rattle.sheet.specs.declared.Part.{Part}
+use Rattle.sheet.specs.declared.Which.the-variants.{StartUp, Ramp}
+use Rattle.sheet.specs.declared.Which.{Which}
 use Rattle.text.specs.Bytes.{part}
 use Rattle.times.proofs.Fields.{field-holds}
 use Rattle.times.proofs.Markets.{market-is}
-use Rattle.times.proofs.Sheets.{for-good, sheet-part}
 use Rattle.times.proofs.Taken.{Taken, taken}
 use Rattle.times.proofs.Time.{the-type}
 use Rattle.times.proofs.Units.{unit-is}
 use Rattle.times.specs.Places.{fieldPart}
-use Rattle.times.specs.Sheet.{isFor, sheetPart}
 use Rattle.times.specs.Times.{fieldNo, isMarket, inFile, inSheet, timeIn, timeOf, partIn, Within, refusalIn}
-use Rattle.times.specs.declared.Part.{Part}
-use Rattle.times.specs.declared.Time.{Time}
 use Rattle.times.specs.declared.Time.the-variants.{File, Sheet, Refused}
-use Rattle.times.specs.declared.Which.{Which}
-use Rattle.times.specs.declared.Which.the-variants.{StartUp, Ramp}
-use Rattle.value.specs.declared.Value.the-variants.{Blank}
+use Rattle.times.specs.declared.Time.{Time}
 use borrow.Author.Tests.{leb-true, ne-eqb}
 use denote.Enum.Declared.{tagOf}
 use lib.Dec.{eqb}
-use lib.ListN.{length, getD}
+use lib.ListN.{length}
 use mathlib.Core.Bool.{Bool, true, false, cond}
 use mathlib.Core.List.{List, [], _∷_}
 use mathlib.Core.Path.{_≡_, refl, sym, ap, _∙_, subst}
@@ -109,12 +107,12 @@ module _ (w : Which) (ca ioa : ℕ) (plan file sheet : List ℕ) (x : Reading) (
         unfolding timeIn recordWith
         bad-sheet n = rw (market-yes, sym good-is, n) at (from-answer (accepted body) answer-is)
 
-        module _ (k : ℕ) (f : Bool) (field : k ≡ fieldNo w) (filled : f ≡ isFilled (getD (x .cells) (k - 1) (cell Blank) .value)) (yes₃ : g ≡ true) where
+        module _ (k : ℕ) (f : Bool) (field : k ≡ fieldNo w) (filled : f ≡ isFilled (fieldOf (x .cells) k)) (yes₃ : g ≡ true) where
           good-yes : isFor (unitOf body) sheet ≡ true
           good-yes = sym good-is ∙ yes₃
 
           filled-is : f ≡ isFilled (fieldOf (x .cells) (fieldNo w))
-          filled-is = filled ∙ ap isFilled (sym (field-at (x .cells) k (field-within w k field .0)) ∙ ap (fieldOf (x .cells)) field)
+          filled-is = filled ∙ ap (λ (n : ℕ). isFilled (fieldOf (x .cells) n)) field
 
           pub in-file-told : f ≡ true → (p : Part) → p ≡ fieldPart (labelAt Market k) file → File (p .from) (p .to) ≡ time
           unfolding timeIn recordWith

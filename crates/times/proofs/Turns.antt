@@ -2,11 +2,11 @@
 use Prim.Native.Nat.{ℕ, _+_, _-_, _≤_, _<_}
 use Rattle.lines.proofs.Steps.{lines-step}
 use Rattle.lines.specs.Lines.{lines, isSep}
+use Rattle.sheet.specs.declared.Part.{Part}
 use Rattle.text.proofs.Cuts.{tail, past-drop, upto-length}
 use Rattle.text.specs.Bytes.{is, part, past, upto, firstOf, trim}
 use Rattle.times.proofs.Values.{front-is}
 use Rattle.times.specs.Places.{isOf, valuePart, partFrom, fieldPart}
-use Rattle.times.specs.declared.Part.{Part}
 use lib.Dec.{eqb}
 use lib.ListN.{length, take, drop, length-drop, drop-of-length-le}
 use lib.Seq.{drop-drop}

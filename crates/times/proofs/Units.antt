@@ -7,8 +7,8 @@ use Rattle.fill.specs.Filled.{recordWith}
 use Rattle.layout.specs.Fields.{command, technical, market}
 use Rattle.layout.specs.Layouts.{fieldsOf, kindsOf, kindAt}
 use Rattle.layout.specs.Rows.{textAt}
-use Rattle.layout.specs.declared.Layout.{Layout}
 use Rattle.layout.specs.declared.Layout.the-variants.{Market}
+use Rattle.layout.specs.declared.Layout.{Layout}
 use Rattle.list.specs.declared.Triple.{Triple}
 use Rattle.name.proofs.RoundTrip.{unit-size}
 use Rattle.name.specs.Names.{isUnitByte, isUnit}
@@ -24,8 +24,8 @@ use Rattle.text.specs.Puts.{roomOf}
 use Rattle.times.proofs.Taken.{field-read}
 use Rattle.value.specs.Kinds.{shapeOf, valueOf}
 use Rattle.value.specs.declared.Got.the-variants.{Read, Bad}
-use Rattle.value.specs.declared.Value.{Value}
 use Rattle.value.specs.declared.Value.the-variants.{Unit as UnitOf}
+use Rattle.value.specs.declared.Value.{Value}
 use borrow.Author.Tests.{le-leb, ltb-true, ne-eqb}
 use lib.ListN.{length, replicate, take}
 use mathlib.Core.Bool.{true, false, false≢true}

@@ -1,10 +1,10 @@
 -- The value of a parameter line: whose it is, where it begins and ends, and that this is within the line. Assumes nothing.
 use Prim.Native.Nat.{ℕ, _+_, _-_, _≤_}
 use Rattle.entry.proofs.Meanings.{none-there, one-there}
+use Rattle.sheet.proofs.Rests.{past-length}
 use Rattle.text.proofs.Cuts.{past-drop, skip-length, upto-take}
 use Rattle.text.proofs.Trims.{end-length}
 use Rattle.text.specs.Bytes.{is, upto, past, firstOf, isBlank, same, skip, trim}
-use Rattle.times.proofs.Rests.{past-length}
 use Rattle.times.specs.Places.{isOf, valuePart}
 use lib.ListN.{length, take, drop}
 use mathlib.Core.Bool.{Bool, false}

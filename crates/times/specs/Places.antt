@@ -2,8 +2,8 @@
 -- Bytes: 13 CR, 61 '='.
 use Prim.Native.Nat.{ℕ, _+_, _-_}
 use Rattle.lines.specs.Lines.{lines, isSep}
+use Rattle.sheet.specs.declared.Part.{Part}
 use Rattle.text.specs.Bytes.{is, any, upto, past, skip, isBlank, same, trim}
-use Rattle.times.specs.declared.Part.{Part}
 use lib.Dec.{eqb}
 use lib.ListN.{length}
 use mathlib.Core.Bool.{Bool, _&&_, not, cond}

@@ -4,20 +4,20 @@ use Prim.Native.Nat.{ℕ, _≤_}
 use Rattle.asked.specs.Values.{isFilled}
 use Rattle.brief.specs.Brief.{unitOf}
 use Rattle.layout.specs.Layouts.{labelAt}
-use Rattle.layout.specs.declared.Layout.{Layout}
 use Rattle.layout.specs.declared.Layout.the-variants.{Market, Mfrr, Revocation, Generic, Exclusion, Limitation, Secondary, VoltVar, Rejection, Reserve}
+use Rattle.layout.specs.declared.Layout.{Layout}
 use Rattle.reader.specs.Reader.{readOf}
 use Rattle.reader.specs.declared.Answer.{Answer}
 use Rattle.record.specs.Records.{fieldOf}
+use Rattle.sheet.specs.Sheet.{isFor, sheetPart}
+use Rattle.sheet.specs.declared.Part.{Part}
+use Rattle.sheet.specs.declared.Which.the-variants.{StartUp, Ramp}
+use Rattle.sheet.specs.declared.Which.{Which}
 use Rattle.text.specs.Bytes.{part}
 use Rattle.times.specs.Places.{fieldPart}
-use Rattle.times.specs.Sheet.{isFor, sheetPart}
-use Rattle.times.specs.declared.Part.{Part}
 use Rattle.times.specs.declared.Refusal.{Refusal}
-use Rattle.times.specs.declared.Time.{Time}
 use Rattle.times.specs.declared.Time.the-variants.{File, Sheet, Refused}
-use Rattle.times.specs.declared.Which.{Which}
-use Rattle.times.specs.declared.Which.the-variants.{StartUp, Ramp}
+use Rattle.times.specs.declared.Time.{Time}
 use lib.Dec.{eqb}
 use lib.ListN.{length}
 use mathlib.Core.Bool.{Bool, true, false, cond}

@@ -1,22 +1,10 @@
 // Start-up and ramp times: the part of the message file that holds the value or, where the message leaves it blank, that part of the unit sheet.
 mod place;
-mod sheet;
 
 use layout::Layout;
+use sheet::Which;
 ghost use Rattle.times.specs.Times.{fieldNo, isMarket, timeOf, partIn, Within, refusalIn};
 ghost use mathlib.Core.Path.{_≡_};
-
-// Which of the two times is asked for.
-pub enum Which {
-    StartUp,
-    Ramp,
-}
-
-// A part of a text, by its ends.
-pub struct Part {
-    pub from: usize,
-    pub to: usize,
-}
 
 // Where the time stands: in the file or in the sheet, from and up to; or a refusal's number and detail.
 pub enum Time {
@@ -67,13 +55,12 @@ pub fn locate(w: Which, ca: u32, ioa: u32, plan: &[u8], file: &[u8], sheet: &[u8
         return Time::Refused(14, 0);
     }
     let k = field_no(w);
-    let c = x.cells[k - 1];
-    let value = c.value;
-    if asked::is_filled(value) {
+    let cells = x.cells;
+    if asked::is_filled(record::field(cells, k)) {
         let p = place::of_field(k, file);
         return Time::File(p.from, p.to);
     }
-    let p = sheet::part(w, sheet);
+    let p = sheet::time_part(w, sheet);
     Time::Sheet(p.from, p.to)
 }
 

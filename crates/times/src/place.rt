@@ -1,6 +1,6 @@
 // Where the value of a field stands in a file: in the first line with its label that is not between the separators.
-use crate::Part;
 use layout::Layout;
+use sheet::Part;
 use text::scan;
 ghost use Prim.Native.Nat.{_+_, _≤_, _<_};
 ghost use Rattle.layout.specs.Layouts.{labelAt};

@@ -1,38 +1,30 @@
 -- The room that a record may leave unused: where its texts are told, whether it has triples, and that its arrays have their sizes. Assumes nothing.
 use Prim.Native.Nat.{ℕ, _≤_}
 use Rattle.fit.specs.Fits.{isNoTriple}
+use Rattle.layout.proofs.Labels.{few}
 use Rattle.layout.specs.declared.Layout.{Layout}
-use Rattle.layout.specs.declared.Layout.the-variants.{Market, Mfrr, Revocation, Generic, Exclusion, Limitation, Secondary, VoltVar, Rejection, Reserve}
 use Rattle.list.specs.declared.Triple.{Triple}
 use Rattle.record.proofs.Record.{the-type}
+use Rattle.record.proofs.Rooms.{reason-in, note-in}
 use Rattle.record.specs.Records.{reasonField, noteField, gradientsField}
 use Rattle.record.specs.declared.Record.{Record}
 use Rattle.text.specs.Bytes.{all}
 use Rattle.validity.specs.Validity.{noTriples, isSized}
-use borrow.Author.Tests.{leb-true, lt-ltb, le-ltb, eq-eqb}
+use borrow.Author.Tests.{lt-ltb, le-ltb, eq-eqb}
 use denote.Laws.{Is}
 use denote.Struct.Declared.{row}
 use lib.Dec.{eqb}
 use lib.ListN.{length, length-map}
 use mathlib.Core.Bool.{true}
 use mathlib.Core.List.{List, map}
-use mathlib.Core.Path.{_≡_, refl, sym, _∙_}
+use mathlib.Core.Path.{_≡_, sym, _∙_}
 use mir.Val.{Val}
 use native.Mathlib.Omega.{arith}
 
 -- ---- the fields with the reason and the note have a cell
 
 pub few-texts : (l : Layout) → (reasonField l ≤ 26) × (noteField l ≤ 26)
-few-texts Market = (leb-true _ _ refl, leb-true _ _ refl)
-few-texts Mfrr = (leb-true _ _ refl, leb-true _ _ refl)
-few-texts Revocation = (leb-true _ _ refl, leb-true _ _ refl)
-few-texts Generic = (leb-true _ _ refl, leb-true _ _ refl)
-few-texts Exclusion = (leb-true _ _ refl, leb-true _ _ refl)
-few-texts Limitation = (leb-true _ _ refl, leb-true _ _ refl)
-few-texts Secondary = (leb-true _ _ refl, leb-true _ _ refl)
-few-texts VoltVar = (leb-true _ _ refl, leb-true _ _ refl)
-few-texts Rejection = (leb-true _ _ refl, leb-true _ _ refl)
-few-texts Reserve = (leb-true _ _ refl, leb-true _ _ refl)
+few-texts l = (omega (arith, reason-in l, few l), omega (arith, note-in l, few l))
 
 -- ---- triples are asked for where no field has them
 

@@ -1,7 +1,6 @@
 -- A valid record can be put: its rooms are no larger than a record's, its values are held by their kinds, and its file fits 8,192 bytes.
 -- Assumes nothing.
 use Prim.Native.Nat.{ℕ, _≤_}
-use Rattle.compose.specs.Held.{Held}
 use Rattle.reader.specs.Reader.{readOf}
 use Rattle.reader.specs.declared.Answer.{Answer}
 use Rattle.reading.proofs.Validity.{read-valid}
@@ -14,6 +13,7 @@ use Rattle.validity.proofs.Decides.{valid-tells}
 use Rattle.validity.specs.Validity.{isSized, isValid}
 use Rattle.written.proofs.Sizes.{message-small}
 use Rattle.written.proofs.Values.{values-are}
+use Rattle.written.specs.Held.{Held}
 use Rattle.written.specs.Written.{fileOf}
 use lib.ListN.{length}
 use mathlib.Core.Bool.{true}

@@ -1,7 +1,6 @@
 -- The ends of the normaliser, on what was read: its refusal, or the message of the file's own texts, which is the file of the record.
 -- Assumes nothing.
 use Prim.Native.Nat.{ℕ}
-use Rattle.compose.specs.Held.{Held}
 use Rattle.fill.specs.Filled.{recordWith}
 use Rattle.layout.specs.Layouts.{kindsOf}
 use Rattle.layout.specs.Rows.{textAt}
@@ -26,6 +25,7 @@ use Rattle.writer.proofs.Own.{own-held, own-text}
 use Rattle.writer.specs.Writer.{normaliseOf, normalLeft}
 use Rattle.writer.specs.declared.Written.{Written}
 use Rattle.writer.specs.declared.Written.the-variants.{Refused}
+use Rattle.written.specs.Held.{Held}
 use Rattle.written.specs.Written.{messageText, fileOf}
 use borrow.Author.Tests.{ne-eqb}
 use lib.ListN.{length}

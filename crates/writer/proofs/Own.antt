@@ -1,7 +1,6 @@
 -- A record keeps a text in a room with zeros past it. The text itself can stand for that room: it holds the same values, and they say the same.
 -- Assumes nothing.
 use Prim.Native.Nat.{ℕ, zero, suc, _+_, _-_, _≤_}
-use Rattle.compose.specs.Held.{Held}
 use Rattle.layout.specs.Layouts.{typeOf}
 use Rattle.layout.specs.declared.Layout.{Layout}
 use Rattle.list.specs.declared.Triple.{Triple}
@@ -23,6 +22,7 @@ use Rattle.value.specs.Valid.Holds.{blank, filled}
 use Rattle.value.specs.declared.Kind.{Kind}
 use Rattle.value.specs.declared.Shape.{Shape}
 use Rattle.value.specs.declared.Value.{Value}
+use Rattle.written.specs.Held.{Held}
 use Rattle.written.specs.Written.{writtenOf, messageText}
 use borrow.Author.Tests.{le-leb}
 use lib.ListN.{length, take, replicate, length-append, length-replicate}

@@ -1,3 +1,5 @@
+pub mod Joins
+pub mod Columns
 pub mod Sizes
 pub mod Texts
 pub mod Values

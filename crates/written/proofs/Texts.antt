@@ -1,6 +1,6 @@
 -- The texts of a record that stand in its rooms: the unit, the reason and the note are each the front of a room, as long as their value says, and the
 -- gradients are triples of theirs. Assumes nothing.
-use Prim.Native.Nat.{ℕ, suc, _≤_, _<_}
+use Prim.Native.Nat.{ℕ, _≤_, _<_}
 use Rattle.asked.specs.Values.{sizeIn}
 use Rattle.layout.proofs.Labels.{kinds-length}
 use Rattle.layout.specs.Layouts.{kindsOf, sizeOf, typeOf, noKind}
@@ -11,7 +11,7 @@ use Rattle.list.specs.declared.Triple.{Triple}
 use Rattle.name.proofs.RoundTrip.{unit-size}
 use Rattle.name.specs.declared.MessageType.{MessageType}
 use Rattle.record.proofs.Places.{At, Owed, unit-at, reason-at, note-at}
-use Rattle.record.specs.Records.{cell, fieldOf, reasonField, noteField}
+use Rattle.record.specs.Records.{fieldOf, reasonField, noteField}
 use Rattle.record.specs.declared.Cell.{Cell}
 use Rattle.valid.proofs.Hold.{hold-at}
 use Rattle.valid.specs.Valid.{HoldAll}
@@ -24,9 +24,9 @@ use Rattle.value.specs.declared.Shape.{Shape}
 use Rattle.value.specs.declared.Shape.the-variants.{IsUnit, IsReason, IsNote, IsTriples}
 use Rattle.value.specs.declared.Value.{Value}
 use Rattle.value.specs.declared.Value.the-variants.{Blank}
+use Rattle.written.proofs.Columns.{field-at}
 use Rattle.written.specs.Written.{valuesIn}
 use lib.ListN.{length, getD, take, length-take, List·getD-map}
-use lib.Seq.{getD-take}
 use mathlib.Core.Bool.{false, false≢true}
 use mathlib.Core.List.{List, map}
 use mathlib.Core.Logic.{⊎-elim}
@@ -80,13 +80,6 @@ module _ (t : MessageType) (r : Rooms) where
   kind-listed k x s b (filled h) = shape-listed x (subst (λ (a : Shape). Fits t r a x) s h)
 
 -- ---- the value and the text of a field
-
--- the field of a place that the layout has
-field-at : (l : Layout) (cells : List Cell) (j : ℕ) → j < sizeOf l → fieldOf cells (suc j) ≡ getD (valuesIn l cells) j Blank
-unfolding fieldOf valuesIn
-field-at l cells j h =
-    ap (λ (c : Cell). c .value) (sym (getD-take (sizeOf l) cells j (cell Blank) h))
-    ∙ sym (List·getD-map (λ (c : Cell). c .value) (take (sizeOf l) cells) j (cell Blank))
 
 module _ (l : Layout) (r : Rooms) (cells : List Cell) {vs : List Value} (are : valuesIn l cells ≡ vs) (hold : HoldAll (typeOf l) r (kindsOf l) vs) where
   abbrev said : Value → List ℕ

@@ -1,1 +1,1 @@
-// The written form of a message, as a definition, and how long it can be. The crate compose puts it into a buffer.
+// The written form of a message, as a definition, and how long it can be. The crates body, summary and compose put it into a buffer.

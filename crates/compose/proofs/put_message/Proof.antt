@@ -1,9 +1,9 @@
 -- The banner, the empty line, the lines and the row between its separators, one after the other.
-use Rattle.compose.proofs.Lines.{all-lines-short}
+use Rattle.body.proofs.Lines.{all-lines-short}
 use Rattle.compose.proofs.Message.{banner-short, message-put}
-use Rattle.compose.proofs.Rows.{all-row-short}
 use Rattle.compose.proofs.put_message.Statement.{statement}
 use Rattle.compose.proofs.put_message.Tie as tie
+use Rattle.summary.proofs.Rows.{all-row-short}
 use Rattle.value.specs.Texts.{Rooms, rooms}
 use borrow.Author.Needs.{needs}
 use lib.ListN.{length}

@@ -1,11 +1,11 @@
 -- Each room has the text of its field.
 use Prim.Native.Nat.{ℕ}
 use Rattle.fill.proofs.Records.{room-is, record-is}
-use Rattle.fill.proofs.Rooms.{unit-in, reason-in, note-in}
 use Rattle.fill.proofs.record_of.Statement.{statement}
 use Rattle.fill.proofs.record_of.Tie as tie
 use Rattle.layout.specs.Layouts.{sizeOf}
 use Rattle.lines.specs.Places.{columnIn}
+use Rattle.record.proofs.Rooms.{unit-in, reason-in, note-in}
 use borrow.Author.Needs.{needs}
 use mathlib.Core.List.{List}
 use mathlib.Core.Path.{refl}

@@ -1,11 +1,11 @@
 -- The triples of the text that has the gradients.
 use Prim.Native.Nat.{ℕ}
 use Rattle.fill.proofs.Records.{triples-are}
-use Rattle.fill.proofs.Rooms.{gradients-in}
 use Rattle.fill.proofs.triples_of.Statement.{statement}
 use Rattle.fill.proofs.triples_of.Tie as tie
 use Rattle.layout.specs.Layouts.{sizeOf}
 use Rattle.lines.specs.Places.{columnIn}
+use Rattle.record.proofs.Rooms.{gradients-in}
 use borrow.Author.Needs.{needs}
 use mathlib.Core.List.{List}
 use native.Mathlib.Omega.{arith}

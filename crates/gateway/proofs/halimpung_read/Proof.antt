@@ -2,10 +2,10 @@
 use Prim.Native.Nat.{_≤_}
 use Rattle.brief.proofs.Fields.{end-within}
 use Rattle.brief.specs.Brief.{briefOf}
-use Rattle.fill.proofs.Rooms.{unit-in}
 use Rattle.gateway.proofs.Told.{small-refusal, refused-told, body, told-as, short, no-room-told, written-told}
 use Rattle.gateway.proofs.halimpung_read.Statement.{statement}
 use Rattle.gateway.proofs.halimpung_read.Tie as tie
+use Rattle.record.proofs.Rooms.{unit-in}
 use borrow.Author.Needs.{needs}
 use mathlib.Core.Path.{_≡_}
 use native.Mathlib.Omega.{arith}

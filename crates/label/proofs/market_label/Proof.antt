@@ -1,59 +1,89 @@
--- Nothing at 0, and the two parts of the layout.
-use Rattle.label.proofs.Arms.{arm, found}
+-- Each arm is the entry of the table at its number.
+use Rattle.label.proofs.Arms.{arm, no-arm-at, since}
 use Rattle.label.proofs.market_label.Statement.{statement}
 use Rattle.label.proofs.market_label.Tie as tie
-use Rattle.layout.proofs.Arms.{command-part, technical-part}
-use Rattle.layout.specs.Fields.{Field}
+use Rattle.label.specs.Labels.{padded}
+use Rattle.layout.specs.Fields.{market, command, technical}
 use Rattle.layout.specs.Layouts.{fieldsOf, labelsOf, labelAt}
 use Rattle.layout.specs.declared.Layout.the-variants.{Market}
 use borrow.Author.Needs.{needs}
-use mathlib.Core.List.{[]}
-use native.Mathlib.Omega.{arith}
+use mathlib.Core.Path.{refl}
 
-no-label-requires : tie.Need-no-label-requires
-no-label-requires c κs = search needs
+labelled-requires : tie.Need-labelled-requires
+labelled-requires c κs = search needs
 
-sub-command-label : tie.Need-sub-command-label
-sub-command-label c = search needs
+order-label-requires : tie.Need-order-label-requires
+order-label-requires c κs = search needs
 
-command-label-requires : tie.Need-command-label-requires
-command-label-requires c κs = search needs
+manner-label-requires : tie.Need-manner-label-requires
+manner-label-requires c κs = search needs
 
 technical-label-requires : tie.Need-technical-label-requires
 technical-label-requires c κs = search needs
+
+profile-label-requires : tie.Need-profile-label-requires
+profile-label-requires c κs = search needs
+
+no-label-requires : tie.Need-no-label-requires
+no-label-requires c κs = search needs
 
 same-length : tie.Need-same-length
 same-length c = search needs
 
 returns : tie.Need-returns
-unfolding labelAt labelsOf fieldsOf
-returns c = arm _ _ _ (labelAt Market) (c .before .before .before .before .match .keys1) (c .before .before .no-label .ensures)
+unfolding labelAt labelsOf fieldsOf market command technical padded
+returns c = arm _ _ _ (labelAt Market) (c .before .before .before .before .before .before .match .keys1) (c .before .before .labelled .ensures)
 
 same-length-2 : tie.Need-same-length-2
 same-length-2 c = search needs
 
 returns-2 : tie.Need-returns-2
-unfolding labelAt labelsOf fieldsOf
-returns-2 c = found _ _ _ (command-part (λ (f : Field). f .label) [] (c .before .before .before .before .before .before .before .before .args .k) (omega arith) (omega arith)) (c .before .before .command-label .ensures)
+returns-2 c = search needs
 
 same-length-3 : tie.Need-same-length-3
 same-length-3 c = search needs
 
 returns-3 : tie.Need-returns-3
-unfolding labelAt labelsOf fieldsOf
-returns-3 c = found _ _ _ (technical-part (λ (f : Field). f .label) [] (c .before .before .before .before .before .before .before .before .args .k) (omega arith)) (c .before .before .technical-label .ensures)
+returns-3 c = search needs
+
+same-length-4 : tie.Need-same-length-4
+same-length-4 c = search needs
+
+returns-4 : tie.Need-returns-4
+returns-4 c = search needs
+
+same-length-5 : tie.Need-same-length-5
+same-length-5 c = search needs
+
+returns-5 : tie.Need-returns-5
+returns-5 c = search needs
+
+same-length-6 : tie.Need-same-length-6
+same-length-6 c = search needs
+
+returns-6 : tie.Need-returns-6
+unfolding labelsOf fieldsOf market command technical
+returns-6 c = no-arm-at _ _ _ Market 26 1 (c .before .before .before .before .before .before .before .before .args .k) (c .before .before .before .before .before .match .rest) refl (λ h. since (c .before .before .before .before .if1 .came) (λ t. t .taken) (λ e. e .4 .left) h) (c .before .before .no-label .ensures)
 
 pub market-label-spec : {M : Type 1} → statement M
 market-label-spec =
     tie.close
     (tie.spec
-    no-label-requires
-    sub-command-label
-    command-label-requires
+    labelled-requires
+    order-label-requires
+    manner-label-requires
     technical-label-requires
+    profile-label-requires
+    no-label-requires
     same-length
     returns
     same-length-2
     returns-2
     same-length-3
-    returns-3)
+    returns-3
+    same-length-4
+    returns-4
+    same-length-5
+    returns-5
+    same-length-6
+    returns-6)

@@ -1,117 +1,36 @@
--- Each arm is the entry of the table at its number; past them there is none.
-use Rattle.label.proofs.Arms.{arm, no-arm-at}
+-- Each arm is the entry of the table at its number.
+use Rattle.label.proofs.Arms.{arm, found, short-of}
 use Rattle.label.proofs.mg_label.Statement.{statement}
 use Rattle.label.proofs.mg_label.Tie as tie
-use Rattle.layout.specs.Fields.{mg}
+use Rattle.layout.specs.Fields.{mg, ri}
 use Rattle.layout.specs.Layouts.{fieldsOf, labelsOf, labelAt}
-use Rattle.layout.specs.declared.Layout.the-variants.{Generic}
+use Rattle.layout.specs.declared.Layout.the-variants.{Generic, Rejection}
+use Rattle.text.proofs.Tables.{above}
 use borrow.Author.Needs.{needs}
-
-identifier-requires : tie.Need-identifier-requires
-identifier-requires c κs = search needs
-
-unit-requires : tie.Need-unit-requires
-unit-requires c κs = search needs
-
-start-requires : tie.Need-start-requires
-start-requires c κs = search needs
-
-end-requires : tie.Need-end-requires
-end-requires c κs = search needs
-
-reason-requires : tie.Need-reason-requires
-reason-requires c κs = search needs
-
-note-requires : tie.Need-note-requires
-note-requires c κs = search needs
+use lib.ListN.{drop}
+use mathlib.Core.List.{[], _∷_}
 
 created-requires : tie.Need-created-requires
 created-requires c κs = search needs
 
-no-label-requires : tie.Need-no-label-requires
-no-label-requires c κs = search needs
+ri-label-requires : tie.Need-ri-label-requires
+ri-label-requires c κs = search needs
 
 same-length : tie.Need-same-length
 same-length c = search needs
 
 returns : tie.Need-returns
 unfolding labelAt labelsOf fieldsOf mg
-returns c = arm _ _ _ (labelAt Generic) (c .before .before .before .before .match .keys1) (c .before .before .identifier .ensures)
+returns c = arm _ _ _ (labelAt Generic) (c .before .before .before .before .match .keys1) (c .before .before .created .ensures)
 
 same-length-2 : tie.Need-same-length-2
 same-length-2 c = search needs
 
 returns-2 : tie.Need-returns-2
-unfolding labelAt labelsOf fieldsOf mg
-returns-2 c = arm _ _ _ (labelAt Generic) (c .before .before .before .before .match .keys2) (c .before .before .unit .ensures)
-
-same-length-3 : tie.Need-same-length-3
-same-length-3 c = search needs
-
-returns-3 : tie.Need-returns-3
-unfolding labelAt labelsOf fieldsOf mg
-returns-3 c = arm _ _ _ (labelAt Generic) (c .before .before .before .before .match .keys3) (c .before .before .start .ensures)
-
-same-length-4 : tie.Need-same-length-4
-same-length-4 c = search needs
-
-returns-4 : tie.Need-returns-4
-unfolding labelAt labelsOf fieldsOf mg
-returns-4 c = arm _ _ _ (labelAt Generic) (c .before .before .before .before .match .keys4) (c .before .before .end .ensures)
-
-same-length-5 : tie.Need-same-length-5
-same-length-5 c = search needs
-
-returns-5 : tie.Need-returns-5
-unfolding labelAt labelsOf fieldsOf mg
-returns-5 c = arm _ _ _ (labelAt Generic) (c .before .before .before .before .match .keys5) (c .before .before .reason .ensures)
-
-same-length-6 : tie.Need-same-length-6
-same-length-6 c = search needs
-
-returns-6 : tie.Need-returns-6
-unfolding labelAt labelsOf fieldsOf mg
-returns-6 c = arm _ _ _ (labelAt Generic) (c .before .before .before .before .match .keys6) (c .before .before .note .ensures)
-
-same-length-7 : tie.Need-same-length-7
-same-length-7 c = search needs
-
-returns-7 : tie.Need-returns-7
-unfolding labelAt labelsOf fieldsOf mg
-returns-7 c = arm _ _ _ (labelAt Generic) (c .before .before .before .before .match .keys7) (c .before .before .created .ensures)
-
-same-length-8 : tie.Need-same-length-8
-same-length-8 c = search needs
-
-returns-8 : tie.Need-returns-8
-unfolding labelsOf fieldsOf mg
-returns-8 c = no-arm-at _ _ _ Generic (c .before .before .before .before .before .before .before .args .k) (c .before .before .before .before .match .rest) (c .before .before .no-label .ensures)
+unfolding labelAt labelsOf fieldsOf ri mg
+returns-2 c = found _ _ _ (short-of ([] ∷ labelsOf Rejection) (drop 7 ([] ∷ labelsOf Generic)) (c .before .before .before .before .before .before .before .args .k) (above 7 1 (c .before .before .before .before .before .before .before .args .k) (c .before .before .before .before .match .rest))) (c .before .before .ri-label .ensures)
 
 pub mg-label-spec : {M : Type 1} → statement M
 mg-label-spec =
     tie.close
-    (tie.spec
-    identifier-requires
-    unit-requires
-    start-requires
-    end-requires
-    reason-requires
-    note-requires
-    created-requires
-    no-label-requires
-    same-length
-    returns
-    same-length-2
-    returns-2
-    same-length-3
-    returns-3
-    same-length-4
-    returns-4
-    same-length-5
-    returns-5
-    same-length-6
-    returns-6
-    same-length-7
-    returns-7
-    same-length-8
-    returns-8)
+    (tie.spec created-requires ri-label-requires same-length returns same-length-2 returns-2)

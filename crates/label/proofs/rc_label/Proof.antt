@@ -7,6 +7,7 @@ use Rattle.layout.specs.Fields.{rc}
 use Rattle.layout.specs.Layouts.{fieldsOf, labelsOf, labelAt}
 use Rattle.layout.specs.declared.Layout.the-variants.{Revocation}
 use borrow.Author.Needs.{needs}
+use mathlib.Core.Path.{refl}
 
 identifier-requires : tie.Need-identifier-requires
 identifier-requires c κs = search needs
@@ -66,7 +67,7 @@ same-length-6 c = search needs
 
 returns-6 : tie.Need-returns-6
 unfolding labelsOf fieldsOf rc
-returns-6 c = no-arm-at _ _ _ Revocation (c .before .before .before .before .before .before .before .args .k) (c .before .before .before .before .match .rest) (c .before .before .no-label .ensures)
+returns-6 c = no-arm-at _ _ _ Revocation 1 5 (c .before .before .before .before .before .before .before .args .k) (c .before .before .before .before .match .rest) refl (λ h. h) (c .before .before .no-label .ensures)
 
 pub rc-label-spec : {M : Type 1} → statement M
 rc-label-spec =

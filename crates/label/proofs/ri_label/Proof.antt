@@ -6,6 +6,7 @@ use Rattle.layout.specs.Fields.{ri}
 use Rattle.layout.specs.Layouts.{fieldsOf, labelsOf, labelAt}
 use Rattle.layout.specs.declared.Layout.the-variants.{Rejection}
 use borrow.Author.Needs.{needs}
+use mathlib.Core.Path.{refl}
 
 identifier-requires : tie.Need-identifier-requires
 identifier-requires c κs = search needs
@@ -75,7 +76,7 @@ same-length-7 c = search needs
 
 returns-7 : tie.Need-returns-7
 unfolding labelsOf fieldsOf ri
-returns-7 c = no-arm-at _ _ _ Rejection (c .before .before .before .before .before .before .before .args .k) (c .before .before .before .before .match .rest) (c .before .before .no-label .ensures)
+returns-7 c = no-arm-at _ _ _ Rejection 1 6 (c .before .before .before .before .before .before .before .args .k) (c .before .before .before .before .match .rest) refl (λ h. h) (c .before .before .no-label .ensures)
 
 pub ri-label-spec : {M : Type 1} → statement M
 ri-label-spec =

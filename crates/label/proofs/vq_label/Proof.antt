@@ -1,51 +1,27 @@
--- Each arm is the entry of the table at its number; past them there is none.
-use Rattle.label.proofs.Arms.{arm, no-arm-at}
+-- Each arm is the entry of the table at its number.
+use Rattle.label.proofs.Arms.{alike, arm, found, no-arm-at, since}
 use Rattle.label.proofs.vq_label.Statement.{statement}
 use Rattle.label.proofs.vq_label.Tie as tie
-use Rattle.label.specs.Labels.{padded}
-use Rattle.layout.specs.Fields.{vq}
+use Rattle.layout.specs.Fields.{vq, ri}
 use Rattle.layout.specs.Layouts.{fieldsOf, labelsOf, labelAt}
-use Rattle.layout.specs.declared.Layout.the-variants.{VoltVar}
+use Rattle.layout.specs.declared.Layout.the-variants.{VoltVar, Rejection}
 use borrow.Author.Needs.{needs}
-
-identifier-requires : tie.Need-identifier-requires
-identifier-requires c κs = search needs
-
-unit-requires : tie.Need-unit-requires
-unit-requires c κs = search needs
-
-start-requires : tie.Need-start-requires
-start-requires c κs = search needs
-
-end-requires : tie.Need-end-requires
-end-requires c κs = search needs
-
-labelled-requires : tie.Need-labelled-requires
-labelled-requires c κs = search needs
-
-labelled-requires-2 : tie.Need-labelled-requires-2
-labelled-requires-2 c κs = search needs
-
-labelled-requires-3 : tie.Need-labelled-requires-3
-labelled-requires-3 c κs = search needs
-
-labelled-requires-4 : tie.Need-labelled-requires-4
-labelled-requires-4 c κs = search needs
-
-labelled-requires-5 : tie.Need-labelled-requires-5
-labelled-requires-5 c κs = search needs
-
-labelled-requires-6 : tie.Need-labelled-requires-6
-labelled-requires-6 c κs = search needs
-
-labelled-requires-7 : tie.Need-labelled-requires-7
-labelled-requires-7 c κs = search needs
+use lib.ListN.{take, drop}
+use mathlib.Core.List.{[], _∷_}
+use mathlib.Core.Path.{refl}
+use native.Mathlib.Omega.{arith}
 
 note-requires : tie.Need-note-requires
 note-requires c κs = search needs
 
 created-requires : tie.Need-created-requires
 created-requires c κs = search needs
+
+ri-label-requires : tie.Need-ri-label-requires
+ri-label-requires c κs = search needs
+
+setting-label-requires : tie.Need-setting-label-requires
+setting-label-requires c κs = search needs
 
 no-label-requires : tie.Need-no-label-requires
 no-label-requires c κs = search needs
@@ -55,116 +31,43 @@ same-length c = search needs
 
 returns : tie.Need-returns
 unfolding labelAt labelsOf fieldsOf vq
-returns c = arm _ _ _ (labelAt VoltVar) (c .before .before .before .before .match .keys1) (c .before .before .identifier .ensures)
+returns c = arm _ _ _ (labelAt VoltVar) (c .before .before .before .before .match .keys1) (c .before .before .note .ensures)
 
 same-length-2 : tie.Need-same-length-2
 same-length-2 c = search needs
 
 returns-2 : tie.Need-returns-2
 unfolding labelAt labelsOf fieldsOf vq
-returns-2 c = arm _ _ _ (labelAt VoltVar) (c .before .before .before .before .match .keys2) (c .before .before .unit .ensures)
+returns-2 c = arm _ _ _ (labelAt VoltVar) (c .before .before .before .before .match .keys2) (c .before .before .created .ensures)
 
 same-length-3 : tie.Need-same-length-3
 same-length-3 c = search needs
 
 returns-3 : tie.Need-returns-3
-unfolding labelAt labelsOf fieldsOf vq
-returns-3 c = arm _ _ _ (labelAt VoltVar) (c .before .before .before .before .match .keys3) (c .before .before .start .ensures)
+unfolding labelAt labelsOf fieldsOf ri vq
+returns-3 c = found _ _ _ (alike (take 5 ([] ∷ labelsOf Rejection)) (drop 5 ([] ∷ labelsOf Rejection)) (drop 5 ([] ∷ labelsOf VoltVar)) (c .before .before .before .before .before .before .before .before .before .args .k) (omega arith)) (c .before .before .ri-label .ensures)
 
 same-length-4 : tie.Need-same-length-4
 same-length-4 c = search needs
 
 returns-4 : tie.Need-returns-4
-unfolding labelAt labelsOf fieldsOf vq
-returns-4 c = arm _ _ _ (labelAt VoltVar) (c .before .before .before .before .match .keys4) (c .before .before .end .ensures)
+returns-4 c = search needs
 
 same-length-5 : tie.Need-same-length-5
 same-length-5 c = search needs
 
 returns-5 : tie.Need-returns-5
-unfolding labelAt labelsOf fieldsOf vq padded
-returns-5 c = arm _ _ _ (labelAt VoltVar) (c .before .before .before .before .before .before .match .keys5) (c .before .before .labelled .ensures)
-
-same-length-6 : tie.Need-same-length-6
-same-length-6 c = search needs
-
-returns-6 : tie.Need-returns-6
-unfolding labelAt labelsOf fieldsOf vq padded
-returns-6 c = arm _ _ _ (labelAt VoltVar) (c .before .before .before .before .before .before .match .keys6) (c .before .before .labelled2 .ensures)
-
-same-length-7 : tie.Need-same-length-7
-same-length-7 c = search needs
-
-returns-7 : tie.Need-returns-7
-unfolding labelAt labelsOf fieldsOf vq padded
-returns-7 c = arm _ _ _ (labelAt VoltVar) (c .before .before .before .before .before .before .match .keys7) (c .before .before .labelled3 .ensures)
-
-same-length-8 : tie.Need-same-length-8
-same-length-8 c = search needs
-
-returns-8 : tie.Need-returns-8
-unfolding labelAt labelsOf fieldsOf vq padded
-returns-8 c = arm _ _ _ (labelAt VoltVar) (c .before .before .before .before .before .before .match .keys8) (c .before .before .labelled4 .ensures)
-
-same-length-9 : tie.Need-same-length-9
-same-length-9 c = search needs
-
-returns-9 : tie.Need-returns-9
-unfolding labelAt labelsOf fieldsOf vq padded
-returns-9 c = arm _ _ _ (labelAt VoltVar) (c .before .before .before .before .before .before .match .keys9) (c .before .before .labelled5 .ensures)
-
-same-length-10 : tie.Need-same-length-10
-same-length-10 c = search needs
-
-returns-10 : tie.Need-returns-10
-unfolding labelAt labelsOf fieldsOf vq padded
-returns-10 c = arm _ _ _ (labelAt VoltVar) (c .before .before .before .before .before .before .match .keys10) (c .before .before .labelled6 .ensures)
-
-same-length-11 : tie.Need-same-length-11
-same-length-11 c = search needs
-
-returns-11 : tie.Need-returns-11
-unfolding labelAt labelsOf fieldsOf vq padded
-returns-11 c = arm _ _ _ (labelAt VoltVar) (c .before .before .before .before .before .before .match .keys11) (c .before .before .labelled7 .ensures)
-
-same-length-12 : tie.Need-same-length-12
-same-length-12 c = search needs
-
-returns-12 : tie.Need-returns-12
-unfolding labelAt labelsOf fieldsOf vq
-returns-12 c = arm _ _ _ (labelAt VoltVar) (c .before .before .before .before .match .keys12) (c .before .before .note .ensures)
-
-same-length-13 : tie.Need-same-length-13
-same-length-13 c = search needs
-
-returns-13 : tie.Need-returns-13
-unfolding labelAt labelsOf fieldsOf vq
-returns-13 c = arm _ _ _ (labelAt VoltVar) (c .before .before .before .before .match .keys13) (c .before .before .created .ensures)
-
-same-length-14 : tie.Need-same-length-14
-same-length-14 c = search needs
-
-returns-14 : tie.Need-returns-14
 unfolding labelsOf fieldsOf vq
-returns-14 c = no-arm-at _ _ _ VoltVar (c .before .before .before .before .before .before .before .args .k) (c .before .before .before .before .match .rest) (c .before .before .no-label .ensures)
+returns-5 c = no-arm-at _ _ _ VoltVar 12 2 (c .before .before .before .before .before .before .before .before .args .k) (c .before .before .before .before .before .match .rest) refl (λ h. since (c .before .before .before .before .if1 .came) (λ t. t .taken) (λ e. e .2 .left) h) (c .before .before .no-label .ensures)
 
 pub vq-label-spec : {M : Type 1} → statement M
 vq-label-spec =
     tie.close
     (tie.spec
-    identifier-requires
-    unit-requires
-    start-requires
-    end-requires
-    labelled-requires
-    labelled-requires-2
-    labelled-requires-3
-    labelled-requires-4
-    labelled-requires-5
-    labelled-requires-6
-    labelled-requires-7
     note-requires
     created-requires
+    ri-label-requires
+    setting-label-requires
     no-label-requires
     same-length
     returns
@@ -175,22 +78,4 @@ vq-label-spec =
     same-length-4
     returns-4
     same-length-5
-    returns-5
-    same-length-6
-    returns-6
-    same-length-7
-    returns-7
-    same-length-8
-    returns-8
-    same-length-9
-    returns-9
-    same-length-10
-    returns-10
-    same-length-11
-    returns-11
-    same-length-12
-    returns-12
-    same-length-13
-    returns-13
-    same-length-14
-    returns-14)
+    returns-5)

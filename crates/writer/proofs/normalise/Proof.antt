@@ -1,5 +1,5 @@
 -- What was read is refused, or put as the message of the file's own texts.
-use Rattle.fill.proofs.Rooms.{unit-in, reason-in, note-in}
+use Rattle.record.proofs.Rooms.{unit-in, reason-in, note-in}
 use Rattle.writer.proofs.Normal.{refused-end, taken-held, taken-end}
 use Rattle.writer.proofs.normalise.Statement.{statement}
 use Rattle.writer.proofs.normalise.Tie as tie

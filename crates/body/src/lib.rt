@@ -1,0 +1,97 @@
+// The parameter lines of a message, put into a lent buffer: what there is room for is written, and the answer is the place past it.
+use layout::Layout;
+use list::Triple;
+use name::MessageType;
+use record::Cell;
+use text::put;
+use value::Value;
+ghost use Prim.Native.Nat.{_+_, _≤_, _<_};
+ghost use Rattle.layout.specs.Layouts.{labelAt, labelsOf, sizeOf, typeOf};
+ghost use Rattle.text.specs.Puts.{limit};
+ghost use Rattle.value.specs.Texts.{rooms, valueText};
+ghost use Rattle.written.specs.Held.{Spoken, Held};
+ghost use Rattle.written.specs.Written.{linesText, after, paramLine, paramLines, valuesIn};
+ghost use lib.ListN.{length};
+ghost use lib.Seq.{sets};
+ghost use mathlib.Core.List.{[], _∷_, map};
+ghost use mathlib.Core.Path.{_≡_};
+
+// What stands after `=`: unless the value is blank, a space and the value.
+fn put_after(
+    out: &mut [u8],
+    at: usize,
+    t: MessageType,
+    v: Value,
+    unit: &[u8],
+    reason: &[u8],
+    note: &[u8],
+    gradients: [Triple; 16],
+) -> usize
+    requires { ⌜ (at + 2500 < limit) × Spoken t (rooms (now unit) (now reason) (now note) gradients) v ⌝ }
+    ensures { λ r. ⌜ (r ≡ at + length (after (valueText t (rooms (now (unit .entry)) (now (reason .entry)) (now (note .entry)) gradients) v)))
+        × (now (out .exit) ≡ sets (now (out .entry)) at (after (valueText t (rooms (now (unit .entry)) (now (reason .entry)) (now (note .entry)) gradients) v))) ⌝ }
+{
+    if !asked::is_filled(v) {
+        return at;
+    }
+    let from = put::put_byte(out, at, b' ');
+    render::put_value(out, from, t, v, unit, reason, note, gradients)
+}
+
+// The line of the field k with its value, and its end.
+fn put_line(
+    out: &mut [u8],
+    at: usize,
+    l: Layout,
+    k: usize,
+    v: Value,
+    unit: &[u8],
+    reason: &[u8],
+    note: &[u8],
+    gradients: [Triple; 16],
+) -> usize
+    requires { ⌜ (at + 3000 < limit) × (1 ≤ k) × (k ≤ sizeOf l) × Spoken (typeOf l) (rooms (now unit) (now reason) (now note) gradients) v ⌝ }
+    ensures { λ r. ⌜ (r ≡ at + length (linesText (paramLine (labelAt l k) (valueText (typeOf l) (rooms (now (unit .entry)) (now (reason .entry)) (now (note .entry)) gradients) v) ∷ [])))
+        × (now (out .exit) ≡ sets (now (out .entry)) at (linesText (paramLine (labelAt l k) (valueText (typeOf l) (rooms (now (unit .entry)) (now (reason .entry)) (now (note .entry)) gradients) v) ∷ []))) ⌝ }
+{
+    label::of_field(l, k, b"", out, at);
+    let equals = put::put_byte(out, at + 36, b'=');
+    let said = put_after(
+        out,
+        equals,
+        layout::type_of(l),
+        v,
+        unit,
+        reason,
+        note,
+        gradients,
+    );
+    put::put_byte(out, said, b'\n')
+}
+
+// The lines of all fields, in printed order.
+pub fn put_lines(
+    out: &mut [u8],
+    at: usize,
+    l: Layout,
+    cells: [Cell; 26],
+    unit: &[u8],
+    reason: &[u8],
+    note: &[u8],
+    gradients: [Triple; 16],
+) -> usize
+    requires { ⌜ (at + 90000 < limit) × Held l (rooms (now unit) (now reason) (now note) gradients) cells ⌝ }
+    ensures { λ r. ⌜ (r ≡ at + length (linesText (paramLines (labelsOf l) (map (valueText (typeOf l) (rooms (now (unit .entry)) (now (reason .entry)) (now (note .entry)) gradients)) (valuesIn l cells)))))
+        × (now (out .exit) ≡ sets (now (out .entry)) at (linesText (paramLines (labelsOf l) (map (valueText (typeOf l) (rooms (now (unit .entry)) (now (reason .entry)) (now (note .entry)) gradients)) (valuesIn l cells))))) ⌝ }
+{
+    let size = layout::size(l);
+    let mut p = at;
+    let mut k = 0;
+    while k < size {
+        let c = cells[k];
+        let v = c.value;
+        p = put_line(out, p, l, k + 1, v, unit, reason, note, gradients);
+        k += 1;
+    }
+    p
+}
