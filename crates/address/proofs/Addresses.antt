@@ -1,14 +1,14 @@
 -- An address in one number: it tells the address, it is found among others, and an address that no row can have has none.
 -- Assumes nothing.
-use Prim.Native.Nat.{ℕ, _+_, _-_, _/_, _%_, _≤_, _<_}
+use Prim.Native.Nat.{ℕ, _+_, _-_, _/_, _%_, max, _≤_, _<_}
 use Rattle.address.specs.Kept.{keyOf, soughtKey, rowsOf}
 use Rattle.address.specs.Rows.{Row, row, isAt}
 use Rattle.name.specs.declared.MessageType.the-variants.{Cb}
 use Rattle.text.proofs.Fronts.{any-step}
-use Rattle.text.proofs.Tests.{by-le, same-if, eqb-tells, _and_}
+use Rattle.text.proofs.Tests.{by-le, same-if, eqb-tells, _and_, or-parts}
 use Rattle.text.specs.Bytes.{is, any}
-use borrow.Author.Tests.{eq-eqb, ne-eqb, le-leb, lt-leb}
-use lib.Dec.{eqb}
+use borrow.Author.Tests.{eq-eqb, ne-eqb, le-leb, lt-leb, le-ltb, ltb-false}
+use lib.Dec.{eqb, ltb}
 use lib.ListN.{length, getD, take, drop, set}
 use lib.Seq.{take-suc-set}
 use mathlib.Core.Bool.{Bool, true, false, _&&_, _||_}
@@ -60,6 +60,15 @@ module _ (l : List ℕ) (key k : ℕ) where
   pub one-on : k < length l → (getD l k 0 ≡ key → ⊥) → from k ≡ from (k + 1)
   one-on h n = any-step (is key) 0 l k h ∙ rw (ne-eqb _ _ n)
 
+-- none is above a number, so none is a number above it
+pub none-above : (l : List ℕ) (greatest key : ℕ) → any (ltb greatest) l ≡ false → greatest < key → false ≡ any (is key) l
+unfolding any
+none-above [] greatest key n h = refl
+none-above (x ∷ l) greatest key n h =
+    let o = or-parts (ltb greatest x) (any (ltb greatest) l) n in
+    let b = ltb-false greatest x (o .0) in
+    rw (ne-eqb x key (λ e. omega arith)) (none-above l greatest key (o .1) h)
+
 -- ---- the number tells the address
 
 key-tells : (c i k : ℕ) → i ≤ 16777215 → (eqb (k / 16777216) c && eqb (k % 16777216) i) ≡ eqb k (keyOf c i)
@@ -95,6 +104,20 @@ any-last p (x ∷ l) k = rw (any-last p l k) (swap (p (kept-row x)) (p (kept-row
 pub any-kept : (c i n : ℕ) (keys : List ℕ) (k : ℕ) → n < length keys
     → any (isAt c i) (rowsOf (take (n + 1) (set keys n k))) ≡ (isAt c i (kept-row k) || any (isAt c i) (rowsOf (take n keys)))
 any-kept c i n keys k h = rw (add-one n, take-suc-set keys n k h) (any-last (isAt c i) (take n keys) k)
+
+none-last : (l : List ℕ) (g k m : ℕ) → any (ltb g) l ≡ false → g ≤ m → k ≤ m → any (ltb m) (l ++ k ∷ []) ≡ false
+unfolding any
+none-last [] g k m n h e = rw (le-ltb m k e)
+none-last (x ∷ l) g k m n h e =
+    let o = or-parts (ltb g x) (any (ltb g) l) n in
+    let b = ltb-false g x (o .0) in
+    rw (le-ltb m x (omega arith)) (none-last l g k m (o .1) h e)
+
+-- none is above the greater of the two
+pub none-more : (keys : List ℕ) (n g k m : ℕ) → any (ltb g) (take n keys) ≡ false → m ≡ max g k → n < length keys
+    → any (ltb m) (take (n + 1) (set keys n k)) ≡ false
+none-more keys n g k m none e h =
+    rw (add-one n, take-suc-set keys n k h) (none-last (take n keys) g k m none (omega arith) (omega arith))
 
 -- ---- an address that is asked for
 

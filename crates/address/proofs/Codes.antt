@@ -16,7 +16,7 @@ use Rattle.name.specs.declared.MessageType.{MessageType}
 use Rattle.text.proofs.Cuts.{drop-step, any-seam, same-lengths}
 use Rattle.text.proofs.Tests.{by-test, by-eq}
 use Rattle.text.specs.Bytes.{bytes, same, starts, is, any, upto, firstOf}
-use borrow.Author.Tests.{eqb-true}
+use borrow.Author.Tests.{eqb-true, ne-eqb}
 use lib.Dec.{eqb}
 use lib.ListN.{length, getD, drop, length-drop}
 use lib.Seq.{drop-cons, getD-drop}
@@ -27,40 +27,42 @@ use mathlib.Core.Path.{_≡_, refl, sym, ap, _∙_}
 use native.Mathlib.Numerals.{add-one}
 use native.Mathlib.Omega.{arith}
 
--- ---- the type whose code two bytes are
+-- ---- the type whose code two bytes are, by the first and then the second
 
-pair : (x y a b : ℕ) → same (x ∷ y ∷ []) (a ∷ b ∷ []) ≡ (eqb x a && eqb y b)
-unfolding same
-pair x y a b = rw and-true
+-- what the arm `_` knows of a byte (`c .match .rest`) that is none of these, the last first
+abbrev pub None : List ℕ → ℕ → Type 0
+None [] a = Unit
+None (x ∷ xs) a = None xs a × (a ≡ x → ⊥)
 
-coded : (t : MessageType) (a b : ℕ) → same (codeOf t) (a ∷ b ∷ []) ≡ (eqb (getD (codeOf t) 0 0) a && eqb (getD (codeOf t) 1 0) b)
-coded Cb a b = pair _ _ a b
-coded Rc a b = pair _ _ a b
-coded Mg a b = pair _ _ a b
-coded Eb a b = pair _ _ a b
-coded Lb a b = pair _ _ a b
-coded Sr a b = pair _ _ a b
-coded Vq a b = pair _ _ a b
-coded Ri a b = pair _ _ a b
-coded Qr a b = pair _ _ a b
+module _ (a b : ℕ) where
+  abbrev read : TypeRead
+  read = typeReadOf (typeFrom types (a ∷ b ∷ []))
 
-module _ (a b k : ℕ) (t : MessageType) (code : List ℕ) (nth : t ≡ getD types k Cb) (is-code : code ≡ codeOf t) (h : k < 9) where
-  abbrev matches : Bool
-  matches = eqb (getD code 0 0) a && eqb (getD code 1 0) b
+  pub code-is : (x y : ℕ) (t : MessageType) → a ≡ x → b ≡ y → Is t ≡ typeReadOf (typeFrom types (x ∷ y ∷ [])) → Is t ≡ read
+  code-is x y t e f g = rw (e, f) g
 
-  step : typeFrom (drop k types) (a ∷ b ∷ []) ≡ cond matches (some t) (typeFrom (drop (k + 1) types) (a ∷ b ∷ []))
-  unfolding typeFrom
-  step = rw (add-one k, drop-cons types k Cb h, sym nth, coded t a b, is-code)
+  -- the only code that begins with x ends with y
+  pub code-not : (x y : ℕ) → a ≡ x → (b ≡ y → ⊥) → ((z : ℕ) → eqb y z ≡ false → typeFrom types (x ∷ z ∷ []) ≡ none) → Not ≡ read
+  code-not x y e n only = rw (e, only b (ne-eqb y b (λ h. n (sym h))))
 
-  pub type-here : matches ≡ true → typeReadOf (typeFrom (drop k types) (a ∷ b ∷ [])) ≡ Is t
-  type-here y = let e : typeFrom (drop k types) (a ∷ b ∷ []) ≡ some t = step ∙ rw y in ap typeReadOf e
+  -- the only two end with y and with w
+  pub code-neither : (x y w : ℕ) → a ≡ x → (b ≡ y → ⊥) → (b ≡ w → ⊥)
+      → ((z : ℕ) → eqb y z ≡ false → eqb w z ≡ false → typeFrom types (x ∷ z ∷ []) ≡ none) → Not ≡ read
+  code-neither x y w e n m only = rw (e, only b (ne-eqb y b (λ h. n (sym h))) (ne-eqb w b (λ h. m (sym h))))
 
-  pub type-on : matches ≡ false → typeFrom (drop k types) (a ∷ b ∷ []) ≡ typeFrom (drop (k + 1) types) (a ∷ b ∷ [])
-  type-on n = step ∙ rw n
-
-pub no-type : (s : List ℕ) (k : ℕ) → 9 ≤ k → k ≤ 9 → typeReadOf (typeFrom (drop k types) s) ≡ Not
-unfolding typeFrom
-no-type s k h g = let n : k ≡ 9 = omega arith in rw n
+  pub no-code : None (86 ∷ 83 ∷ 82 ∷ 81 ∷ 77 ∷ 76 ∷ 69 ∷ 67 ∷ []) a → Not ≡ read
+  unfolding typeFrom same
+  no-code ((((((((u, c), e), l), m), q), r), s), v) =
+      rw (
+        ne-eqb 67 a (λ h. c (sym h)),
+        ne-eqb 82 a (λ h. r (sym h)),
+        ne-eqb 77 a (λ h. m (sym h)),
+        ne-eqb 69 a (λ h. e (sym h)),
+        ne-eqb 76 a (λ h. l (sym h)),
+        ne-eqb 83 a (λ h. s (sym h)),
+        ne-eqb 86 a (λ h. v (sym h)),
+        ne-eqb 81 a (λ h. q (sym h)),
+      )
 
 -- ---- the line
 

@@ -3,15 +3,13 @@
 use name::MessageType;
 use name::unit;
 use text::digits;
-use text::digits::Digits;
 use text::scan;
 ghost use Prim.Native.Nat.{_≤_};
 ghost use Rattle.address.specs.Kept.{keyOf, soughtKey, rowsOf, numberedOf, namedTo, typeReadOf, rowAtOf};
 ghost use Rattle.address.specs.Rows.{types, typeFrom, typeAt, rowOf};
 ghost use Rattle.keyline.specs.Keylines.{numberAt};
-ghost use Rattle.name.specs.declared.MessageType.the-variants.{Cb};
 ghost use Rattle.text.specs.Bytes.{any, is};
-ghost use lib.ListN.{getD};
+ghost use lib.Dec.{ltb};
 ghost use mathlib.Core.Bool.{false};
 ghost use mathlib.Core.List.{[], _∷_};
 ghost use mathlib.Core.Path.{_≡_};
@@ -89,6 +87,17 @@ fn taken(keys: &[u64], key: u64) -> bool
     false
 }
 
+// Whether one of the addresses, of which none is above the greatest, is this one: plans mostly ascend, and need no search.
+fn stands(keys: &[u64], greatest: u64, key: u64) -> bool
+    requires { ⌜ any (ltb greatest) (now keys) ≡ false ⌝ }
+    ensures { λ r. ⌜ r ≡ any (is key) (now (keys .entry)) ⌝ }
+{
+    if greatest < key {
+        return false;
+    }
+    taken(keys, key)
+}
+
 // The number in the first line, after its key, and where the line ends.
 fn number_line(key: &[u8], most: u64, s: &[u8]) -> Numbered
     requires { ⌜ any (is 10) (now key) ≡ false ⌝ }
@@ -98,17 +107,15 @@ fn number_line(key: &[u8], most: u64, s: &[u8]) -> Numbered
         return Numbered::Not;
     }
     let n = key.len();
-    let e = n + digits::run(&s[n..]);
+    let led = digits::lead(&s[n..], 10);
+    let e = n + led.count;
     if e == s.len() {
         return Numbered::Not;
     }
-    if s[e] != b'\n' {
+    if (s[e] != b'\n') | (s[n] == b'0') | (led.count == 0) | (most < led.value) {
         return Numbered::Not;
     }
-    let Digits::Are(number) = keyline::whole(&s[n..e], most) else {
-        return Numbered::Not;
-    };
-    Numbered::Is(number, e)
+    Numbered::Is(led.value, e)
 }
 
 // Where the unit's line ends.
@@ -129,38 +136,55 @@ fn unit_line(s: &[u8]) -> Named
     Named::To(e)
 }
 
-// The types in the order of the document.
-fn nth_type(k: usize) -> MessageType
-    ensures { λ r. ⌜ r ≡ getD types k Cb ⌝ }
-{
-    match k {
-        0 => MessageType::Cb,
-        1 => MessageType::Rc,
-        2 => MessageType::Mg,
-        3 => MessageType::Eb,
-        4 => MessageType::Lb,
-        5 => MessageType::Sr,
-        6 => MessageType::Vq,
-        7 => MessageType::Ri,
-        8 => MessageType::Qr,
-        _ => MessageType::Cb,
-    }
-}
-
 // The type whose code two bytes are.
 fn type_of(a: u8, b: u8) -> TypeRead
     ensures { λ r. ⌜ r ≡ typeReadOf (typeFrom types (a ∷ b ∷ [])) ⌝ }
 {
-    let mut k = 0;
-    while k < 9 {
-        let t = nth_type(k);
-        let c = name::code(t);
-        if (c[0] == a) & (c[1] == b) {
-            return TypeRead::Is(t);
-        }
-        k += 1;
+    match a {
+        b'C' => if b == b'B' {
+            TypeRead::Is(MessageType::Cb)
+        } else {
+            TypeRead::Not
+        },
+        b'E' => if b == b'B' {
+            TypeRead::Is(MessageType::Eb)
+        } else {
+            TypeRead::Not
+        },
+        b'L' => if b == b'B' {
+            TypeRead::Is(MessageType::Lb)
+        } else {
+            TypeRead::Not
+        },
+        b'M' => if b == b'G' {
+            TypeRead::Is(MessageType::Mg)
+        } else {
+            TypeRead::Not
+        },
+        b'Q' => if b == b'R' {
+            TypeRead::Is(MessageType::Qr)
+        } else {
+            TypeRead::Not
+        },
+        b'R' => if b == b'C' {
+            TypeRead::Is(MessageType::Rc)
+        } else if b == b'I' {
+            TypeRead::Is(MessageType::Ri)
+        } else {
+            TypeRead::Not
+        },
+        b'S' => if b == b'R' {
+            TypeRead::Is(MessageType::Sr)
+        } else {
+            TypeRead::Not
+        },
+        b'V' => if b == b'Q' {
+            TypeRead::Is(MessageType::Vq)
+        } else {
+            TypeRead::Not
+        },
+        _ => TypeRead::Not,
     }
-    TypeRead::Not
 }
 
 // The type of the first line: `type=`, two bytes and LF.
@@ -179,8 +203,9 @@ fn type_line(s: &[u8]) -> TypeRead
     type_of(s[5], s[6])
 }
 
-// The row at the front of a text, below those with these addresses.
-pub fn row_at(s: &[u8], keys: &[u64]) -> RowAt
+// The row at the front of a text, below those with these addresses, of which none is above the greatest.
+pub fn row_at(s: &[u8], keys: &[u64], greatest: u64) -> RowAt
+    requires { ⌜ any (ltb greatest) (now keys) ≡ false ⌝ }
     ensures { λ r. ⌜ r ≡ rowAtOf (now (s .entry)) (rowOf (rowsOf (now (keys .entry))) (now (s .entry))) ⌝ }
 {
     let Numbered::Is(ca, a) = number_line(b"ca=", 65534, s) else {
@@ -191,7 +216,7 @@ pub fn row_at(s: &[u8], keys: &[u64]) -> RowAt
         return RowAt::Bad(1);
     };
     let key = key_of(ca, ioa);
-    if taken(keys, key) {
+    if stands(keys, greatest, key) {
         return RowAt::Bad(TWICE);
     }
     let third = second + b + 1;

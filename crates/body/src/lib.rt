@@ -54,8 +54,8 @@ fn put_line(
     ensures { λ r. ⌜ (r ≡ at + length (linesText (paramLine (labelAt l k) (valueText (typeOf l) (rooms (now (unit .entry)) (now (reason .entry)) (now (note .entry)) gradients) v) ∷ [])))
         × (now (out .exit) ≡ sets (now (out .entry)) at (linesText (paramLine (labelAt l k) (valueText (typeOf l) (rooms (now (unit .entry)) (now (reason .entry)) (now (note .entry)) gradients) v) ∷ []))) ⌝ }
 {
-    label::of_field(l, k, b"", out, at);
-    let equals = put::put_byte(out, at + 36, b'=');
+    let padded = label::put(out, at, label::of_field(l, k));
+    let equals = put::put_byte(out, padded, b'=');
     let said = put_after(
         out,
         equals,

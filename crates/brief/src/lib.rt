@@ -100,33 +100,28 @@ pub fn put_number(out: &mut [u8], at: usize, key: &[u8], n: u64) -> usize
     put::put_byte(out, b, b'\n')
 }
 
-fn put_type(out: &mut [u8], at: usize, t: MessageType) -> usize
-    requires { ⌜ at + 8 < limit ⌝ }
-    ensures { λ r. ⌜ (r ≡ at + length (lineText (bytes "type=") (codeOf t))) × (now (out .exit) ≡ sets (now (out .entry)) at (lineText (bytes "type=") (codeOf t))) ⌝ }
-{
-    let code = name::code(t);
-    put_line(out, at, b"type=", &code)
-}
-
 // A date as its instant, a blank as nothing.
-fn put_instant(out: &mut [u8], at: usize, key: &[u8], v: Value) -> usize
-    requires { ⌜ at + length (now key) + 11 < limit ⌝ }
-    ensures { λ r. ⌜ (r ≡ at + length (lineText (now (key .entry)) (instantText v))) × (now (out .exit) ≡ sets (now (out .entry)) at (lineText (now (key .entry)) (instantText v))) ⌝ }
+fn put_instant(out: &mut [u8], at: usize, v: Value) -> usize
+    requires { ⌜ at + 10 < limit ⌝ }
+    ensures { λ r. ⌜ (r ≡ at + length (instantText v)) × (now (out .exit) ≡ sets (now (out .entry)) at (instantText v)) ⌝ }
 {
     if asked::is_filled(v) {
-        return put_number(out, at, key, asked::instant_in(v));
+        return put::put_whole(out, at, 9, asked::instant_in(v));
     }
-    put_line(out, at, key, b"")
+    at
 }
 
-// The first three lines: the result, the type and the number.
+// The first three lines: the result, the type and the number. What stands between two values is one text.
 fn put_head(out: &mut [u8], at: usize, t: MessageType, n: u64) -> usize
     requires { ⌜ at + 200 < limit ⌝ }
     ensures { λ r. ⌜ (r ≡ at + length (lineText (bytes "result=") (bytes "0") ++ lineText (bytes "type=") (codeOf t) ++ lineText (bytes "number=") (wholeText 9 n))) × (now (out .exit) ≡ sets (now (out .entry)) at (lineText (bytes "result=") (bytes "0") ++ lineText (bytes "type=") (codeOf t) ++ lineText (bytes "number=") (wholeText 9 n))) ⌝ }
 {
-    let a = put_line(out, at, b"result=", b"0");
-    let b = put_type(out, a, t);
-    put_number(out, b, b"number=", n)
+    let code = name::code(t);
+    let a = put::put_text(out, at, b"result=0\ntype=");
+    let b = put::put_text(out, a, &code);
+    let c = put::put_text(out, b, b"\nnumber=");
+    let d = put::put_whole(out, c, 9, n);
+    put::put_byte(out, d, b'\n')
 }
 
 // The six lines.
@@ -140,6 +135,9 @@ pub fn put_lines(out: &mut [u8], at: usize, b: Brief) -> usize
     let end = b.end;
     let head = put_head(out, at, layout::type_of(l), b.number);
     let third = put_line(out, head, b"unit=", scan::front(&unit, b.size));
-    let fourth = put_instant(out, third, b"start=", start);
-    put_instant(out, fourth, b"end=", end)
+    let fourth = put::put_text(out, third, b"start=");
+    let fifth = put_instant(out, fourth, start);
+    let sixth = put::put_text(out, fifth, b"\nend=");
+    let last = put_instant(out, sixth, end);
+    put::put_byte(out, last, b'\n')
 }

@@ -1,19 +1,20 @@
 -- Laws of the definitions of `specs/Date.antt`: the shape along the bytes, the fields that it makes digits, and the calendar.
 -- Assumes nothing.
-use Prim.Native.Nat.{ℕ, zero, suc, _+_, _-_, _%_, _^_, _≤_, _<_}
+use Prim.Native.Nat.{ℕ, zero, suc, _+_, _-_, _*_, _%_, _^_, _≤_, _<_}
 use Rattle.date.specs.Date.{fitsByte, shaped, dateShape, fieldAt, fieldsOf, leap, daysIn, isReal, Real, dateOf, daysOf, ahead, dayText, timeText, letter, letterText, dateText}
 use Rattle.date.specs.declared.Date.{Date}
 use Rattle.date.specs.declared.Dated.the-variants.{Is, Bad}
 use Rattle.text.proofs.Cuts.{drop-step}
 use Rattle.text.proofs.Numerals.{taken, below, length-text}
 use Rattle.text.proofs.Runs.{Puts, puts, puts-of, then}
-use Rattle.text.proofs.Tests.{Tells, leb-tells, within-tells, _and_, and-parts, by-test, cond-le}
+use Rattle.text.proofs.Tests.{Tells, leb-tells, within-tells, _and_, and-parts, by-test, by-le, cond-le}
 use Rattle.text.specs.Bytes.{all, isDigit}
 use Rattle.text.specs.Digits.{digitsOf, digitsText}
+use Rattle.text.specs.Puts.{limit}
 use Rattle.text.specs.declared.digits.Digits.the-variants.{Are, Not}
 use Rattle.text.specs.declared.digits.Digits.{Digits}
-use borrow.Author.Tests.{eq-eqb, ne-eqb, eqb-true}
-use lib.Dec.{eqb, lit≤}
+use borrow.Author.Tests.{le-leb, leb-true, eq-eqb, ne-eqb, eqb-true}
+use lib.Dec.{eqb, leb, lit≤}
 use lib.ListN.{length, getD, take, drop, drop-of-length-le, length-drop}
 use lib.Seq.{length-take-le, sets}
 use mathlib.Core.Bool.{Bool, true, false, _&&_, _||_, false≢true}
@@ -152,6 +153,70 @@ days-low y m = cond-le (eqb m 2) (cond-le (leap y) (lit≤ tt) (lit≤ tt)) (con
 pub days-more : (y m : ℕ) → daysOf y (m + 1) ≡ daysOf y m + daysIn y (m + 1)
 unfolding daysOf
 days-more y m = rw add-one
+
+pub days-upto : (y m : ℕ) → daysOf y m ≤ 31 * m
+unfolding daysOf
+days-upto y zero = lit≤ tt
+days-upto y (suc m) = omega (arith, days-upto y m, days-low y (suc m))
+
+-- a month past the twelfth has 31 days
+past-twelve : (y m : ℕ) → 12 < m → 31 ≡ daysIn y m
+past-twelve y m h = thirty-one y m (λ e. omega arith) not-thirty
+  where
+    not-thirty : (m ≡ 4) ⊎ ((m ≡ 6) ⊎ ((m ≡ 9) ⊎ (m ≡ 11))) → ⊥
+    not-thirty (inl e) = omega arith
+    not-thirty (inr (inl e)) = omega arith
+    not-thirty (inr (inr (inl e))) = omega arith
+    not-thirty (inr (inr (inr e))) = omega arith
+
+pub days-after : (y m : ℕ) → 12 ≤ m → daysOf y 12 + 31 * (m - 12) ≡ daysOf y m
+unfolding daysOf
+days-after y zero h = absurd (omega arith)
+days-after y (suc m) h =
+    by-le 12 m (λ k. omega (arith, days-after y m k, past-twelve y (suc m) (omega arith)))
+    (λ k. let e : suc m ≡ 12 = omega arith in omega (arith, ap (daysOf y) e))
+
+-- what each step of the sum takes fits
+pub days-fit : (m : ℕ) → 12 ≤ m → m < 256 → (31 * (m - 12) < limit) × (365 + 31 * (m - 12) < limit)
+days-fit m h k = (omega arith, omega arith)
+
+-- a leap year has one day more than 2001, from its second month on
+module _ (y : ℕ) where
+  common : eqb (y % 4) 0 ≡ false → (m : ℕ) → daysOf y m ≡ daysOf 2001 m
+  unfolding daysOf daysIn leap
+  common n zero = refl
+  common n (suc m) = rw (common n m, n)
+
+  early : (m : ℕ) → m < 2 → daysOf y m ≡ daysOf 2001 m
+  unfolding daysOf daysIn
+  early zero h = refl
+  early (suc zero) h = refl
+  early (suc (suc m)) h = absurd (omega arith)
+
+  no-february : (m : ℕ) → 2 < m → daysIn y m ≡ daysIn 2001 m
+  unfolding daysIn
+  no-february m h = rw (ne-eqb m 2 (λ e. omega arith))
+
+  late : eqb (y % 4) 0 ≡ true → (m : ℕ) → 2 ≤ m → daysOf y m ≡ daysOf 2001 m + 1
+  unfolding daysOf daysIn leap
+  late l zero h = absurd (omega arith)
+  late l (suc m) h =
+      by-le 2 m (λ k. omega (arith, late l m k, no-february (suc m) (omega arith)))
+      (λ k. let e : m ≡ 1 = omega arith in rw (e, l))
+
+  pub leap-more : (m : ℕ) → (leb 2 m && eqb (y % 4) 0) ≡ true → daysOf y m ≡ daysOf 2001 m + 1
+  leap-more m t =
+      let w = and-parts (leb 2 m) (eqb (y % 4) 0) t in
+      late (w .1) m (leb-true 2 m (w .0))
+
+  pub no-leap : (m : ℕ) → (leb 2 m && eqb (y % 4) 0) ≡ false → daysOf y m ≡ daysOf 2001 m + 0
+  no-leap m t =
+      by-le 2 m (λ h. let n : eqb (y % 4) 0 ≡ false = rw (le-leb 2 m h) at t in omega (arith, common n m))
+      (λ h. omega (arith, early m h))
+
+-- the days of a common year and the leap year's day, and at most 31 a month
+pub days-sum : (y m a b : ℕ) → a ≡ daysOf 2001 m → daysOf y m ≡ daysOf 2001 m + b → (a + b ≡ daysOf y m) × (a + b ≤ 31 * m)
+days-sum y m a b e d = (omega arith, omega (arith, days-upto y m))
 
 -- how far a clock is ahead of UTC: one hour or two
 pub ahead-low : (z : Bool) → ahead z ≤ 7200

@@ -140,17 +140,43 @@ pub fn read(s: &[u8]) -> Dated
     if is_real(d) { Dated::Is(d) } else { Dated::Bad }
 }
 
+// The days of the first months of a common year; a month past the twelfth has 31.
+fn days_before(months: u8) -> u64
+    ensures { λ r. ⌜ r ≡ daysOf 2001 months ⌝ }
+{
+    match months {
+        0 => 0,
+        1 => 31,
+        2 => 59,
+        3 => 90,
+        4 => 120,
+        5 => 151,
+        6 => 181,
+        7 => 212,
+        8 => 243,
+        9 => 273,
+        10 => 304,
+        11 => 334,
+        _ => 365 + 31 * (months as u64 - 12),
+    }
+}
+
+// The day that a leap year has more in its first months.
+fn leap_day(year: u32, months: u8) -> u64
+    ensures { λ r. ⌜ daysOf year months ≡ daysOf 2001 months + r ⌝ }
+{
+    if (2 <= months) & (year % 4 == 0) {
+        1
+    } else {
+        0
+    }
+}
+
 // The days of the first months of a year.
 fn days_of(year: u32, months: u8) -> u64
     ensures { λ r. ⌜ (r ≡ daysOf year months) × (r ≤ 31 * months) ⌝ }
 {
-    let mut days: u64 = 0;
-    let mut m: u8 = 0;
-    while m < months {
-        m += 1;
-        days += days_in(year, m) as u64;
-    }
-    days
+    days_before(months) + leap_day(year, months)
 }
 
 // a less b, and nothing where b is more.

@@ -25,6 +25,10 @@ module _ {E : Type 0} where
       → Determines (λ (x : A × List ℕ). (e : E) × (x .1 ≡ buffer e) × ((x .0 ≡ d) × (buffer e ≡ o)))
   equations buffer d o x y p q = λ i. ((p .2 .0 ∙ sym (q .2 .0)) i, (p .1 ∙ p .2 .1 ∙ sym (q .2 .1) ∙ sym (q .1)) i)
 
+  -- the buffer alone, where nothing is answered
+  buffer-equation : (buffer : E → List ℕ) (o : List ℕ) → Determines (λ (x : Unit {0} × List ℕ). (e : E) × (x .1 ≡ buffer e) × (buffer e ≡ o))
+  buffer-equation buffer o x y p q = λ i. (tt, (p .1 ∙ p .2 ∙ sym (q .2) ∙ sym (q .1)) i)
+
   -- the text of the result is what a definition gives
   text-equation : {Z : Type 0} (text : Z → List ℕ) (d : List ℕ) → Determines (λ (t : List ℕ). (z : Z) × (e : E) × (t ≡ text z) × (text z ≡ d))
   text-equation text d x y p q = p .2 ∙ p .3 ∙ sym (q .3) ∙ sym (q .2)
@@ -77,7 +81,7 @@ within =
       text-digits-pow10 = λ κs a. equation _;
       -- its text is that of so many digits
       text-digits-whole-size = λ κs a x y p q. sym (length-text x (a .0)) ∙ ap length (sym (p .1 .2) ∙ q .1 .2) ∙ length-text y (a .0);
-      text-digits-run = (λ κs a. tt, λ κs a. equation _);
+      text-digits-lead = λ κs a. equation _;
       text-put-put-byte = λ κs a. equations _ _ _;
       text-put-put-text = λ κs a. equations _ _ _;
       text-put-put-digits = λ κs a. equations _ _ _;
@@ -91,6 +95,11 @@ within =
       text-scan-trim = (λ κs a. tt, λ κs a. text-equation _ _);
       text-scan-front = (λ κs a. tt, λ κs a. text-equation _ _);
       text-scan-rest = (λ κs a. tt, λ κs a. text-equation _ _);
+      text-words-eight = λ κs a. equation _;
+      text-words-upto = (λ κs a. tt, λ κs a. equation _);
+      text-words-four = λ κs a. equation _;
+      text-words-put-word = λ κs a. buffer-equation _ _;
+      text-words-put-half = λ κs a. buffer-equation _ _;
       word-put = λ κs a. equations _ _ _;
       date-put = λ κs a. equations _ _ _;
       number-put = λ κs a. equations _ _ _;
@@ -104,6 +113,7 @@ within =
       room-keep-note = (λ κs a. tt, λ κs a. equation _);
       list-few-read = λ κs a. equation _;
       list-few-put = λ κs a. equations _ _ _;
+      list-triples-none = (λ κs a. tt, λ κs a. equation _);
       list-triples-put = λ κs a. equations _ _ _;
       keyline-line-of = (λ κs a. tt, λ κs a. equation _);
       keyline-value = (λ κs a. tt, λ κs a. text-equation _ _);
@@ -111,7 +121,7 @@ within =
       keyline-whole = (λ κs a. tt, λ κs a. equation _);
       keyline-number = (λ κs a. tt, λ κs a. equation _);
       address-sought-key = (λ κs a. tt, λ κs a. equation _);
-      address-row-at = (λ κs a. tt, λ κs a. equation _);
+      address-row-at = λ κs a. equation _;
       sheet-is-for = (λ κs a. tt, λ κs a. equation _);
       sheet-time-part = λ κs a. equation _;
       render-put-value = λ κs a. equations _ _ _;
@@ -129,7 +139,10 @@ within =
       asked-word-number = (λ κs a. tt, λ κs a. equation _);
       asked-triples-in = (λ κs a. tt, λ κs a. equation _);
       asked-not-negative = (λ κs a. tt, λ κs a. equation _);
-      label-of-field = λ κs a. equations _ _ _;
+      label-of-field = (λ κs a. tt, λ κs a. equation _);
+      label-put-label = λ κs a. buffer-equation _ _;
+      label-put = λ κs a. equations _ _ _;
+      label-is-printed = (λ κs a. tt, λ κs a. equation _);
       entry-is-label = (λ κs a. tt, λ κs a. equation _);
       fit-holds = (λ κs a. tt, λ κs a. equation _);
       fit-triples-are-none = (λ κs a. tt, λ κs a. equation _);
@@ -146,11 +159,19 @@ within =
       brief-of-values = (λ κs a. tt, λ κs a. equation _);
       brief-put-number = λ κs a. equations _ _ _;
       brief-put-lines = λ κs a. equations _ _ _;
-      fill-fill = λ κs a. equation _;
       fill-text-at = λ κs a. text-equation _ _;
-      fill-triples-of = λ κs a. equation _;
+      fill-gradients-of = λ κs a. equation _;
+      fill-value-in = λ κs a. equation _;
       fill-record-of = λ κs a. equation _;
       voltvar-in-table = (λ κs a. tt, λ κs a. equation _);
+      rules-of-market = (λ κs a. tt, λ κs a. equation _);
+      rules-of-ramps = (λ κs a. tt, λ κs a. equation _);
+      rules-of-order = (λ κs a. tt, λ κs a. equation _);
+      rules-of-exclusion = (λ κs a. tt, λ κs a. equation _);
+      rules-of-limitation = (λ κs a. tt, λ κs a. equation _);
+      rules-of-secondary = (λ κs a. tt, λ κs a. equation _);
+      rules-of-volt-var = (λ κs a. tt, λ κs a. equation _);
+      rules-of-reserve = (λ κs a. tt, λ κs a. equation _);
       rules-lowest-of = (λ κs a. tt, λ κs a. equation _);
       order-is-command = (λ κs a. tt, λ κs a. equation _);
       order-is-revocation = (λ κs a. tt, λ κs a. equation _);

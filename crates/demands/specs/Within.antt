@@ -41,7 +41,7 @@ pub record Within : Type 0 where
   pub text-digits-read-digits : OneResult text.digits.read_digits.ended text.digits.read_digits.Reads.Learnt
   pub text-digits-pow10 : OneResult text.digits.pow10.ended text.digits.pow10.Reads.Learnt
   pub text-digits-whole-size : OneResult text.digits.whole_size.ended text.digits.whole_size.Reads.Learnt
-  pub text-digits-run : Answers text.digits.run.ended text.digits.run.Reads.Asked text.digits.run.Reads.Learnt
+  pub text-digits-lead : OneResult text.digits.lead.ended text.digits.lead.Reads.Learnt
   pub text-put-put-byte : OneOutput text.put.put_byte.ended (λ κs e. e .0 .now) text.put.put_byte.Reads.Learnt
   pub text-put-put-text : OneOutput text.put.put_text.ended (λ κs e. e .0 .now) text.put.put_text.Reads.Learnt
   pub text-put-put-digits : OneOutput text.put.put_digits.ended (λ κs e. e .0 .now) text.put.put_digits.Reads.Learnt
@@ -55,6 +55,11 @@ pub record Within : Type 0 where
   pub text-scan-trim : Lends text.scan.trim.ended (λ κs z. z .now) text.scan.trim.Reads.Asked text.scan.trim.Reads.Learnt
   pub text-scan-front : Lends text.scan.front.ended (λ κs z. z .now) text.scan.front.Reads.Asked text.scan.front.Reads.Learnt
   pub text-scan-rest : Lends text.scan.rest.ended (λ κs z. z .now) text.scan.rest.Reads.Asked text.scan.rest.Reads.Learnt
+  pub text-words-eight : OneResult text.words.eight.ended text.words.eight.Reads.Learnt
+  pub text-words-upto : Answers text.words.upto.ended text.words.upto.Reads.Asked text.words.upto.Reads.Learnt
+  pub text-words-four : OneResult text.words.four.ended text.words.four.Reads.Learnt
+  pub text-words-put-word : OneOutput text.words.put_word.ended (λ κs e. e .0 .now) text.words.put_word.Reads.Learnt
+  pub text-words-put-half : OneOutput text.words.put_half.ended (λ κs e. e .0 .now) text.words.put_half.Reads.Learnt
   -- word
   pub word-put : OneOutput word.put.ended (λ κs e. e .0 .now) word.put.Reads.Learnt
   -- date
@@ -75,6 +80,7 @@ pub record Within : Type 0 where
   -- list
   pub list-few-read : OneResult list.few.read.ended list.few.read.Reads.Learnt
   pub list-few-put : OneOutput list.few.put.ended (λ κs e. e .0 .now) list.few.put.Reads.Learnt
+  pub list-triples-none : Answers list.triples.none.ended list.triples.none.Reads.Asked list.triples.none.Reads.Learnt
   pub list-triples-put : OneOutput list.triples.put.ended (λ κs e. e .0 .now) list.triples.put.Reads.Learnt
   -- keyline
   pub keyline-line-of : Answers keyline.line_of.ended keyline.line_of.Reads.Asked keyline.line_of.Reads.Learnt
@@ -84,7 +90,7 @@ pub record Within : Type 0 where
   pub keyline-number : Answers keyline.number.ended keyline.number.Reads.Asked keyline.number.Reads.Learnt
   -- address
   pub address-sought-key : Answers address.sought_key.ended address.sought_key.Reads.Asked address.sought_key.Reads.Learnt
-  pub address-row-at : Answers address.row_at.ended address.row_at.Reads.Asked address.row_at.Reads.Learnt
+  pub address-row-at : OneResult address.row_at.ended address.row_at.Reads.Learnt
   -- sheet
   pub sheet-is-for : Answers sheet.is_for.ended sheet.is_for.Reads.Asked sheet.is_for.Reads.Learnt
   pub sheet-time-part : OneResult sheet.time_part.ended sheet.time_part.Reads.Learnt
@@ -107,7 +113,10 @@ pub record Within : Type 0 where
   pub asked-triples-in : Answers asked.triples_in.ended asked.triples_in.Reads.Asked asked.triples_in.Reads.Learnt
   pub asked-not-negative : Answers asked.not_negative.ended asked.not_negative.Reads.Asked asked.not_negative.Reads.Learnt
   -- label
-  pub label-of-field : OneOutput label.of_field.ended (λ κs e. e .1 .1 .1 .0 .now) label.of_field.Reads.Learnt
+  pub label-of-field : Answers label.of_field.ended label.of_field.Reads.Asked label.of_field.Reads.Learnt
+  pub label-put-label : OneOutput label.put_label.ended (λ κs e. e .0 .now) label.put_label.Reads.Learnt
+  pub label-put : OneOutput label.put.ended (λ κs e. e .0 .now) label.put.Reads.Learnt
+  pub label-is-printed : Answers label.is_printed.ended label.is_printed.Reads.Asked label.is_printed.Reads.Learnt
   -- entry
   pub entry-is-label : Answers entry.is_label.ended entry.is_label.Reads.Asked entry.is_label.Reads.Learnt
   -- fit
@@ -132,13 +141,21 @@ pub record Within : Type 0 where
   pub brief-put-number : OneOutput brief.put_number.ended (λ κs e. e .0 .now) brief.put_number.Reads.Learnt
   pub brief-put-lines : OneOutput brief.put_lines.ended (λ κs e. e .0 .now) brief.put_lines.Reads.Learnt
   -- fill
-  pub fill-fill : OneResult fill.fill.ended fill.fill.Reads.Learnt
   pub fill-text-at : OneText fill.text_at.ended (λ κs z. z .now) fill.text_at.Reads.Learnt
-  pub fill-triples-of : OneResult fill.triples_of.ended fill.triples_of.Reads.Learnt
+  pub fill-gradients-of : OneResult fill.gradients_of.ended fill.gradients_of.Reads.Learnt
+  pub fill-value-in : OneResult fill.value_in.ended fill.value_in.Reads.Learnt
   pub fill-record-of : OneResult fill.record_of.ended fill.record_of.Reads.Learnt
   -- voltvar
   pub voltvar-in-table : Answers voltvar.in_table.ended voltvar.in_table.Reads.Asked voltvar.in_table.Reads.Learnt
   -- rules
+  pub rules-of-market : Answers rules.of_market.ended rules.of_market.Reads.Asked rules.of_market.Reads.Learnt
+  pub rules-of-ramps : Answers rules.of_ramps.ended rules.of_ramps.Reads.Asked rules.of_ramps.Reads.Learnt
+  pub rules-of-order : Answers rules.of_order.ended rules.of_order.Reads.Asked rules.of_order.Reads.Learnt
+  pub rules-of-exclusion : Answers rules.of_exclusion.ended rules.of_exclusion.Reads.Asked rules.of_exclusion.Reads.Learnt
+  pub rules-of-limitation : Answers rules.of_limitation.ended rules.of_limitation.Reads.Asked rules.of_limitation.Reads.Learnt
+  pub rules-of-secondary : Answers rules.of_secondary.ended rules.of_secondary.Reads.Asked rules.of_secondary.Reads.Learnt
+  pub rules-of-volt-var : Answers rules.of_volt_var.ended rules.of_volt_var.Reads.Asked rules.of_volt_var.Reads.Learnt
+  pub rules-of-reserve : Answers rules.of_reserve.ended rules.of_reserve.Reads.Asked rules.of_reserve.Reads.Learnt
   pub rules-lowest-of : Answers rules.lowest_of.ended rules.lowest_of.Reads.Asked rules.lowest_of.Reads.Learnt
   -- order
   pub order-is-command : Answers order.is_command.ended order.is_command.Reads.Asked order.is_command.Reads.Learnt

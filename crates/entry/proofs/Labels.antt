@@ -1,20 +1,21 @@
 -- The labels of the layouts: each is found at its own place and at no other.
 -- Assumes nothing.
 use Prim.Native.Nat.{ℕ, zero, suc, _+_, _≤_, _<_}
-use Rattle.layout.proofs.Labels.{few, labels-length, label-at, GoodLabel, good-label}
+use Rattle.layout.proofs.Labels.{few, labels-length, label-at, all-in, GoodLabel, good-label}
 use Rattle.layout.specs.Fields.{command, technical, market, mfrr, rc, mg, eb, lb, sr, vq, ri, qr}
 use Rattle.layout.specs.Layouts.{fieldsOf, labelsOf, sizeOf, labelAt}
 use Rattle.layout.specs.declared.Layout.{Layout}
 use Rattle.layout.specs.declared.Layout.the-variants.{Market, Mfrr, Revocation, Generic, Exclusion, Limitation, Secondary, VoltVar, Rejection, Reserve}
-use Rattle.lines.proofs.Standing.{later, place-here, place-on, place-end}
+use Rattle.lines.proofs.Standing.{later, place-at, place-here, place-on, place-end}
 use Rattle.lines.specs.Entries.{placeOf}
+use Rattle.text.proofs.Cuts.{same-true}
 use Rattle.text.proofs.Tables.{off, all-at}
-use Rattle.text.proofs.Tests.{by-le, and-parts}
-use Rattle.text.specs.Bytes.{same, all}
+use Rattle.text.proofs.Tests.{by-test, by-le, and-parts}
+use Rattle.text.specs.Bytes.{same, all, isUpper}
 use borrow.Author.Tests.{eqb-true}
 use lib.Dec.{eqb}
 use lib.ListN.{length, getD, drop}
-use mathlib.Core.Bool.{Bool, true, false, _&&_}
+use mathlib.Core.Bool.{Bool, true, false, _&&_, false≢true}
 use mathlib.Core.List.{List, [], _∷_}
 use mathlib.Core.Path.{_≡_, refl, sym, ap, _∙_}
 use native.Mathlib.Omega.{arith}
@@ -132,3 +133,51 @@ market-shared zero h j = absurd (omega (arith, none-first Market))
 market-shared (suc zero) h j = refl
 market-shared (suc (suc zero)) h j = refl
 market-shared (suc (suc (suc k))) h j = absurd (omega (arith, j))
+
+-- ---- by its first byte
+
+capital : List ℕ → Bool
+capital t = isUpper (getD t 0 0)
+
+all-capital : (l : Layout) → all capital (labelsOf l) ≡ true
+unfolding capital all labelsOf fieldsOf market command technical mfrr rc mg eb lb sr vq ri qr
+all-capital Market = refl
+all-capital Mfrr = refl
+all-capital Revocation = refl
+all-capital Generic = refl
+all-capital Exclusion = refl
+all-capital Limitation = refl
+all-capital Secondary = refl
+all-capital VoltVar = refl
+all-capital Rejection = refl
+all-capital Reserve = refl
+
+pub capital-first : (l : Layout) (k : ℕ) → 1 ≤ length (labelAt l k) → isUpper (getD (labelAt l k) 0 0) ≡ true
+unfolding labelAt capital
+capital-first l zero h = absurd (omega (arith, none-first l))
+capital-first l (suc k) h =
+    all-in capital (labelsOf l) k [] (all-capital l) (omega (arith, in-layout l (suc k) h .1, labels-length l))
+
+-- no label is a text that begins otherwise
+small-foreign : (ls : List (List ℕ)) (b : ℕ) (x : List ℕ) → all capital ls ≡ true → isUpper b ≡ false → placeOf ls (b ∷ x) ≡ 0
+unfolding placeOf all capital same
+small-foreign [] b x e n = refl
+small-foreign (t ∷ ls) b x e n =
+    let p = and-parts (capital t) (all capital ls) e in
+    rw (unlike t (p .0), small-foreign ls b x (p .1) n)
+  where
+    unlike : (t : List ℕ) → capital t ≡ true → same t (b ∷ x) ≡ false
+    unlike [] c = refl
+    unlike (a ∷ t) c =
+        by-test (eqb a b) (λ q. absurd (false≢true (sym n ∙ ap isUpper (sym (eqb-true a b q)) ∙ c))) (λ q. rw q)
+
+pub star-foreign : (l : Layout) (x : List ℕ) → placeOf (labelsOf l) (42 ∷ x) ≡ 0
+star-foreign l x = small-foreign (labelsOf l) 42 x (all-capital l) refl
+
+-- ---- a label of mFRR past the two that it shares is none of the market layout's
+
+pub mfrr-alone : (x : List ℕ) (k : ℕ) → k ≡ placeOf (labelsOf Mfrr) x → 2 < k → 0 ≡ placeOf (labelsOf Market) x
+mfrr-alone x zero e h = absurd (omega arith)
+mfrr-alone x (suc k) e h =
+    let y : labelAt Mfrr (suc k) ≡ x = label-at Mfrr k ∙ same-true (getD (labelsOf Mfrr) k []) x (place-at (labelsOf Mfrr) x k (sym e)) in
+    mfrr-foreign (suc k) h ∙ ap (placeOf (labelsOf Market)) y

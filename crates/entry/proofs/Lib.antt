@@ -1,5 +1,5 @@
 pub mod Labels
 pub mod Turns
-pub mod Mets
 pub mod Heads
 pub mod Meanings
+pub mod Tries

@@ -1,31 +1,29 @@
 -- What a line is to the reader: a separator, the row, the value of a field, or nothing. Assumes nothing.
 use Prim.Native.Nat.{ℕ, zero, suc, _+_, _≤_, _<_}
-use Rattle.entry.proofs.Heads.{headed}
-use Rattle.entry.proofs.Labels.{labels-few, good-at}
-use Rattle.entry.specs.Items.{firstLabels, secondLabels, headOf, IsExpected, entryIn, IsEntry, IsItem}
-use Rattle.entry.specs.declared.Expected.{Expected}
+use Rattle.entry.proofs.Labels.{labels-few, star-foreign, mfrr-alone}
+use Rattle.entry.specs.Items.{firstLabels, secondLabels, isForeign, entryIn, IsEntry, IsItem}
 use Rattle.entry.specs.declared.Item.{Item}
-use Rattle.layout.specs.Layouts.{labelsOf, labelAt, layoutOf}
-use Rattle.layout.specs.declared.Layout.{Layout}
+use Rattle.layout.specs.Layouts.{layoutOf}
 use Rattle.layout.specs.declared.Layout.the-variants.{Mfrr}
-use Rattle.lines.proofs.Params.{no-param, sep-equals}
+use Rattle.lines.proofs.Params.{no-param}
 use Rattle.lines.proofs.Standing.{place-le}
 use Rattle.lines.specs.Entries.{placeOf, entry, entryOf}
 use Rattle.lines.specs.Lines.{Param, param, paramOf, isSep}
-use Rattle.lines.specs.Places.{Holds, partOf}
+use Rattle.lines.specs.Places.{Holds, noSpan, partOf}
 use Rattle.lines.specs.declared.Span.{Span}
 use Rattle.name.specs.declared.MessageType.{MessageType}
 use Rattle.name.specs.declared.MessageType.the-variants.{Cb, Rc, Mg, Eb, Lb, Sr, Vq, Ri, Qr}
 use Rattle.text.proofs.Cuts.{part-from, length-part, upto-take, past-drop, upto-length}
 use Rattle.text.proofs.Tests.{by-test}
-use Rattle.text.proofs.Trims.{tidy-parts}
-use Rattle.text.specs.Bytes.{part, upto, past, any, is, firstOf, trim}
-use lib.Dec.{eqb, eqb·suc-zero}
-use lib.ListN.{length, take}
-use mathlib.Core.Bool.{Bool, true, false, cond, false≢true}
+use Rattle.text.proofs.Trims.{keep-no}
+use Rattle.text.specs.Bytes.{part, upto, past, any, all, is, isBlank, firstOf, skip, skipEnd, trim}
+use borrow.Author.Tests.{eqb-true}
+use lib.Dec.{eqb, leb, eqb·suc-zero}
+use lib.ListN.{length, getD, take}
+use mathlib.Core.Bool.{Bool, true, false, cond, and-false, false≢true}
 use mathlib.Core.List.{List, [], _∷_}
 use mathlib.Core.Option.{none, some}
-use mathlib.Core.Path.{_≡_, refl, sym, ap, ap₂, _∙_, subst}
+use mathlib.Core.Path.{_≡_, refl, sym, ap, _∙_, subst}
 use native.Mathlib.Omega.{arith}
 
 -- ---- the entry of a parameter
@@ -54,11 +52,12 @@ seconds-few Qr = omega arith
 
 -- ---- a line is one kind
 
-abbrev item : Bool → ℕ → ℕ → Span → Item
-item s f g p = record { separator = s; first = f; second = g; value = p }
+abbrev pub item : ℕ → Bool → ℕ → ℕ → Span → Item
+item end s f g p = record { end = end; separator = s; first = f; second = g; value = p }
 
-pub is-row : (t : MessageType) (file x : List ℕ) (s : Bool) (p : Span) → s ≡ isSep (partOf file p) → Holds file p x → IsItem t file x 1 (item s 0 0 p)
-is-row t file x s p e w = record {
+pub is-row : (t : MessageType) (file x : List ℕ) (end : ℕ) (s : Bool) (p : Span) → s ≡ isSep (partOf file p) → Holds file p x
+    → IsItem t file x 1 (item end s 0 0 p)
+is-row t file x end s p e w = record {
   sep = e ∙ ap isSep (w .holds);
   row = λ h o. w;
   no-field = λ h. (refl, refl);
@@ -67,8 +66,9 @@ is-row t file x s p e w = record {
   second = λ h ne. absurd (ne refl);
 }
 
-pub is-separator : (t : MessageType) (file x : List ℕ) (n : ℕ) (p : Span) → isSep (partOf file p) ≡ true → Holds file p x → IsItem t file x n (item true 0 0 p)
-is-separator t file x n p e w =
+pub is-separator : (t : MessageType) (file x : List ℕ) (n end : ℕ) (p : Span) → isSep (partOf file p) ≡ true → Holds file p x
+    → IsItem t file x n (item end true 0 0 p)
+is-separator t file x n end p e w =
     let y : isSep x ≡ true = sym (ap isSep (w .holds)) ∙ e in
     record {
       sep = sym y;
@@ -79,20 +79,20 @@ is-separator t file x n p e w =
       second = λ h ne. absurd (false≢true (sym h ∙ y));
     }
 
-module _ (t : MessageType) (file x : List ℕ) (n : ℕ) (p : Span) (no-sep : isSep x ≡ false) (not-row : n ≡ 1 → ⊥) where
-  pub is-nothing : paramOf x ≡ none → IsItem t file x n (item false 0 0 p)
-  unfolding entryIn IsEntry
-  is-nothing e = record {
+module _ (t : MessageType) (file x : List ℕ) (n end : ℕ) (p : Span) (no-sep : isSep x ≡ false) (not-row : n ≡ 1 → ⊥) where
+  pub is-nothing : entryIn (firstLabels t) x ≡ none → entryIn (secondLabels t) x ≡ none → IsItem t file x n (item end false 0 0 p)
+  unfolding IsEntry
+  is-nothing e f = record {
     sep = sym no-sep;
     row = λ h o. absurd (not-row o);
     no-field = λ h. absurd (false≢true (sym no-sep ∙ h));
     no-row-field = λ o. absurd (not-row o);
     first = λ h ne. rw e refl;
-    second = λ h ne. rw e refl;
+    second = λ h ne. rw f refl;
   }
 
   pub is-value : (label v : List ℕ) (f g : ℕ) → paramOf x ≡ some (param label v) → f ≡ placeOf (firstLabels t) label → g ≡ placeOf (secondLabels t) label → Holds file p v
-      → IsItem t file x n (item false f g p)
+      → IsItem t file x n (item end false f g p)
   unfolding entryIn
   is-value label v f g e hf hg w = record {
     sep = sym no-sep;
@@ -118,10 +118,16 @@ one-there p [] h = absurd (h refl)
 one-there p (x ∷ t) h = by-test (p x) (λ e. rw e) (λ e. rw e (one-there p t (λ q. h (rw e (ap suc q)))))
 
 -- without '=' there is no field
-pub no-value : (t : MessageType) (file : List ℕ) (p : Span) (n e : ℕ) → isSep (partOf file p) ≡ false → (n ≡ 1 → ⊥) → e ≡ firstOf 61 (partOf file p)
-    → e ≡ length (partOf file p) → IsItem t file (partOf file p) n (item false 0 0 p)
-no-value t file p n e s ne he hl =
-    is-nothing t file (partOf file p) n p s ne (no-param (partOf file p) (none-there (is 61) (partOf file p) (sym he ∙ hl)))
+no-entry : (ls : List (List ℕ)) (x : List ℕ) → paramOf x ≡ none → entryIn ls x ≡ none
+unfolding entryIn
+no-entry ls x e = rw e
+
+pub no-value : (t : MessageType) (file : List ℕ) (p : Span) (n end e : ℕ) → isSep (partOf file p) ≡ false → (n ≡ 1 → ⊥)
+    → e ≡ firstOf 61 (partOf file p) → e ≡ length (partOf file p) → IsItem t file (partOf file p) n (item end false 0 0 p)
+no-value t file p n end e s ne he hl =
+    let x = partOf file p in
+    let none-here = no-param x (none-there (is 61) x (sym he ∙ hl)) in
+    is-nothing t file x n end p s ne (no-entry (firstLabels t) x none-here) (no-entry (secondLabels t) x none-here)
 
 module _ (t : MessageType) (file : List ℕ) (p : Span) (e : ℕ) (he : e ≡ firstOf 61 (partOf file p)) (hl : e ≡ length (partOf file p) → ⊥) where
   divided : paramOf (partOf file p) ≡ some (param (trim (take e (partOf file p))) (trim (part (p .from + e + 1) (p .to) file)))
@@ -137,33 +143,82 @@ module _ (t : MessageType) (file : List ℕ) (p : Span) (e : ℕ) (he : e ≡ fi
   pub value-fits : p .from ≤ p .to → p .to ≤ length file → p .from + e + 1 ≤ p .to
   value-fits h k = omega (arith, upto-length (is 61) (partOf file p), length-part (p .from) (p .to) file k, he, hl)
 
-  pub a-value : (n : ℕ) (label : List ℕ) (l : Layout) (f g : ℕ) (v : Span) → isSep (partOf file p) ≡ false → (n ≡ 1 → ⊥) → label ≡ trim (take e (partOf file p))
-      → l ≡ layoutOf t → f ≡ placeOf (labelsOf l) label → g ≡ placeOf (secondLabels t) label → Holds file v (trim (part (p .from + e + 1) (p .to) file))
-      → IsItem t file (partOf file p) n (item false f g v)
-  a-value n label l f g v s ne hx hl hf hg w =
-      is-value t file (partOf file p) n v s ne (trim (take e (partOf file p))) (trim (part (p .from + e + 1) (p .to) file)) f g divided (hf ∙ ap₂ (λ (m : Layout) (y : List ℕ). placeOf (labelsOf m) y) hl hx) (hg ∙ ap (placeOf (secondLabels t)) hx) w
+  pub a-value : (n end : ℕ) (label : List ℕ) (f g : ℕ) (v : Span) → isSep (partOf file p) ≡ false → (n ≡ 1 → ⊥) → label ≡ trim (take e (partOf file p))
+      → g ≡ placeOf (secondLabels t) label → f ≡ placeOf (firstLabels t) label → Holds file v (trim (part (p .from + e + 1) (p .to) file))
+      → IsItem t file (partOf file p) n (item end false f g v)
+  a-value n end label f g v s ne hx hg hf w =
+      is-value t file (partOf file p) n end v s ne (trim (take e (partOf file p))) (trim (part (p .from + e + 1) (p .to) file)) f g divided
+      (hf ∙ ap (placeOf (firstLabels t)) hx) (hg ∙ ap (placeOf (secondLabels t)) hx) w
 
--- ---- a line that begins as it was expected to
+-- ---- an empty line, and one that begins with an asterisk (42): no separator, and no label's
 
-param-no-sep : (x : List ℕ) (q : Param) → paramOf x ≡ some q → isSep x ≡ false
-param-no-sep x q e =
-    by-test (any (is 61) x) (λ h. sep-equals x h)
-    (λ h. let z : none ≡ some q = sym (no-param x h) ∙ e in let y : _≡_ {A = ℕ} 0 1 = cc in absurd (omega arith))
+pub empty-foreign : (s : List ℕ) → length s ≡ 0 → true ≡ isForeign s
+unfolding isForeign
+empty-foreign [] e = refl
+empty-foreign (b ∷ s) e = absurd (omega arith)
 
-module _ (t : MessageType) (file : List ℕ) (at end n h : ℕ) (x : Expected) (hx : IsExpected t x) (hh : h ≡ headOf (labelAt (x .layout) (x .field)) (part at end file)) (pos : 0 < h) where
-  pub expected-fits : at ≤ end → end ≤ length file → at + h ≤ end
-  expected-fits a b =
-      omega (arith, headed (labelAt (x .layout) (x .field)) (part at end file) h hh pos .inside, length-part at end file b, a)
+pub star-told : (s : List ℕ) → (length s ≡ 0 → ⊥) → eqb (getD s 0 0) 42 ≡ isForeign s
+unfolding isForeign
+star-told [] e = absurd (e refl)
+star-told (b ∷ s) e = refl
 
-  pub as-expected : (v : Span) → (n ≡ 1 → ⊥) → Holds file v (trim (part (at + h) end file)) → IsItem t file (trim (part at end file)) n (item false (x .first) (x .second) v)
-  as-expected v ne w =
-      let label = labelAt (x .layout) (x .field) in
-      let line = part at end file in
-      let d = headed label line h hh pos in
-      let g = good-at (x .layout) (x .field) (d .some-label) in
-      let q : paramOf (trim line) ≡ some (param label (trim (part (at + h) end file))) =
-      d .is-param (tidy-parts label (g .is-tidy) .1) (g .no-equals) ∙ ap (λ (r : List ℕ). some (param label (trim r))) (part-from file at end h) in
-      is-value t file (trim line) n v (param-no-sep (trim line) (param label (trim (part (at + h) end file))) q) ne label (trim (part (at + h) end file)) (x .first) (x .second) q (hx .first (d .some-label)) (hx .second (d .some-label)) w
+second-star : (t : MessageType) (x : List ℕ) → placeOf (secondLabels t) (42 ∷ x) ≡ 0
+unfolding placeOf
+second-star Cb x = star-foreign Mfrr x
+second-star Rc x = refl
+second-star Mg x = refl
+second-star Eb x = refl
+second-star Lb x = refl
+second-star Sr x = refl
+second-star Vq x = refl
+second-star Ri x = refl
+second-star Qr x = refl
+
+star-trim : (s : List ℕ) → trim (42 ∷ s) ≡ 42 ∷ skipEnd isBlank s
+unfolding trim skip skipEnd
+star-trim s = keep-no isBlank 42 (skipEnd isBlank s) refl
+
+star-sep : (x : List ℕ) → isSep (42 ∷ x) ≡ false
+unfolding isSep all
+star-sep x = and-false (leb 5 (length (42 ∷ x)))
+
+star-entry : (ls : List (List ℕ)) (x : List ℕ) → ((y : List ℕ) → placeOf ls (42 ∷ y) ≡ 0) → entryIn ls (42 ∷ x) ≡ none
+unfolding entryIn paramOf any upto entryOf
+star-entry ls x none-such =
+    by-test (any (is 61) x) (λ t. rw (t, star-trim (upto (is 61) x), none-such (skipEnd isBlank (upto (is 61) x)))) (λ t. rw t)
+
+empty-sep : isSep (trim []) ≡ false
+unfolding isSep trim skip skipEnd
+empty-sep = refl
+
+empty-entry : (ls : List (List ℕ)) → entryIn ls (trim []) ≡ none
+unfolding entryIn trim skip skipEnd paramOf any
+empty-entry ls = refl
+
+pub is-foreign : (t : MessageType) (file line : List ℕ) (n end : ℕ) → isForeign line ≡ true → (n ≡ 1 → ⊥)
+    → IsItem t file (trim line) n (item end false 0 0 noSpan)
+unfolding isForeign
+is-foreign t file [] n end e ne = is-nothing t file (trim []) n end noSpan empty-sep ne (empty-entry (firstLabels t)) (empty-entry (secondLabels t))
+is-foreign t file (b ∷ s) n end e ne =
+    let x = skipEnd isBlank s in
+    let y : trim (b ∷ s) ≡ 42 ∷ x = ap (λ (c : ℕ). trim (c ∷ s)) (eqb-true b 42 e) ∙ star-trim s in
+    rw y
+    (is-nothing t file (42 ∷ x) n end noSpan (star-sep x) ne (star-entry (firstLabels t) x (star-foreign (layoutOf t)))
+    (star-entry (secondLabels t) x (second-star t)))
+
+-- ---- a line of a type other than CB has no second field; one of CB that has it past the two shared ones has no first
+
+pub no-first : (t : MessageType) (k : ℕ) (x : List ℕ) → k ≡ placeOf (secondLabels t) x → 2 < k → 0 ≡ placeOf (firstLabels t) x
+unfolding placeOf
+no-first Cb k x e h = mfrr-alone x k e h
+no-first Rc k x e h = absurd (omega arith)
+no-first Mg k x e h = absurd (omega arith)
+no-first Eb k x e h = absurd (omega arith)
+no-first Lb k x e h = absurd (omega arith)
+no-first Sr k x e h = absurd (omega arith)
+no-first Vq k x e h = absurd (omega arith)
+no-first Ri k x e h = absurd (omega arith)
+no-first Qr k x e h = absurd (omega arith)
 
 -- ---- a line by its place
 

@@ -2,6 +2,7 @@
 use Prim.Native.Nat.{ℕ, _+_, _-_, _≤_}
 use Rattle.entry.specs.declared.Expected.{Expected}
 use Rattle.entry.specs.declared.Item.{Item}
+use Rattle.label.specs.Labels.{padded}
 use Rattle.layout.specs.Layouts.{labelsOf, labelAt, layoutOf}
 use Rattle.layout.specs.declared.Layout.the-variants.{Mfrr}
 use Rattle.lines.specs.Entries.{Entry, entryOf, placeOf}
@@ -13,8 +14,8 @@ use Rattle.name.specs.declared.MessageType.the-variants.{Cb, Rc, Mg, Eb, Lb, Sr
 use Rattle.text.specs.Bytes.{is, skip, starts, isBlank}
 use lib.Dec.{leb}
 use lib.ListN.{length, getD, drop}
-use mathlib.Core.Bool.{true, false, _&&_, cond}
-use mathlib.Core.List.{List, []}
+use mathlib.Core.Bool.{Bool, true, false, _&&_, cond}
+use mathlib.Core.List.{List, [], _∷_, _++_}
 use mathlib.Core.Option.{Option, none, some}
 use mathlib.Core.Path.{_≡_}
 
@@ -42,6 +43,15 @@ afterLabel label s = skip isBlank (drop (length label) s)
 unfoldable pub headOf : List ℕ → List ℕ → ℕ
 headOf label s =
     cond (leb 1 (length label) && starts label s && is 61 (getD (afterLabel label s) 0 0)) (length s - length (afterLabel label s) + 1) 0
+
+-- a text that begins with a label as the written form prints it: padded, and with '=' after it
+unfoldable pub isPrinted : List ℕ → List ℕ → Bool
+isPrinted label s = leb 1 (length label) && starts (padded label ++ 61 ∷ []) s
+
+-- a line that is empty or begins with an asterisk (42)
+unfoldable pub isForeign : List ℕ → Bool
+isForeign [] = true
+isForeign (b ∷ s) = is 42 b
 
 -- the fields of a label that is expected are right wherever there is such a label
 pub record IsExpected (t : MessageType) (e : Expected) : Type 0 where

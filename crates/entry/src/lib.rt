@@ -3,25 +3,29 @@ use layout::Layout;
 use lines::Span;
 use name::MessageType;
 use text::scan;
-ghost use Prim.Native.Nat.{_≤_, _<_};
-ghost use Rattle.entry.specs.Items.{secondLabels, headOf, IsExpected, IsItem};
+ghost use Prim.Native.Nat.{_+_, _≤_, _<_};
+ghost use Rattle.entry.specs.Items.{firstLabels, secondLabels, headOf, isPrinted, isForeign, IsExpected, IsItem};
 ghost use Rattle.layout.specs.Layouts.{labelsOf, labelAt};
 ghost use Rattle.lines.specs.Entries.{placeOf};
 ghost use Rattle.lines.specs.Lines.{isSep};
-ghost use Rattle.lines.specs.Places.{partOf};
+ghost use Rattle.lines.specs.Places.{partOf, plainRun};
 ghost use Rattle.text.specs.Bytes.{part, same, trim};
-ghost use lib.ListN.{length};
-ghost use mathlib.Core.Bool.{false};
+ghost use lib.Dec.{eqb};
+ghost use lib.ListN.{length, drop};
+ghost use mathlib.Core.Bool.{false, cond};
 ghost use mathlib.Core.Path.{_≡_};
 
 // A line: whether it is a separator, else its field in the type's layout and in the other layout of CB (0 where it is foreign to one),
-// and the place of its value, or of the row.
+// the place of its value, or of the row, and where its printable bytes end.
 pub struct Item {
+    pub end: usize,
     pub separator: bool,
     pub first: usize,
     pub second: usize,
     pub value: Span,
 }
+
+const NOWHERE: Span = Span { from: 0, to: 0 };
 
 // The label that is tried first on a line, as a layout's field, and the fields that it has in the type's layouts.
 pub struct Expected {
@@ -35,8 +39,13 @@ pub struct Expected {
 pub fn is_label(l: Layout, k: usize, s: &[u8]) -> bool
     ensures { λ r. ⌜ r ≡ same (labelAt l k) (now (s .entry)) ⌝ }
 {
-    let m = label::of_field(l, k, s, &mut [], 0);
-    m.begins & (m.size == s.len())
+    let m = label::of_field(l, k);
+    if m.size != s.len() {
+        return false;
+    }
+    let mut text = [0u8; 36];
+    label::put_label(&mut text, 0, m);
+    scan::same(scan::front(&text, m.size), s)
 }
 
 // The field whose label this is: 0 where it is foreign.
@@ -64,16 +73,29 @@ fn second_of(t: MessageType, s: &[u8]) -> usize
     }
 }
 
+// The field in the type's layout, where the field in the mFRR layout is known: from the third on, its labels are no other layout's.
+fn first_of(t: MessageType, second: usize, s: &[u8]) -> usize
+    requires { ⌜ second ≡ placeOf (secondLabels t) (now s) ⌝ }
+    ensures { λ r. ⌜ r ≡ placeOf (firstLabels t) (now (s .entry)) ⌝ }
+{
+    if 2 < second {
+        return 0;
+    }
+    field_of(layout::of_type(t), s)
+}
+
 // Where the value may begin, if the line begins with the label of the field k, blanks and '=': else 0.
 fn head(l: Layout, k: usize, s: &[u8]) -> usize
     ensures { λ r. ⌜ r ≡ headOf (labelAt l k) (now (s .entry)) ⌝ }
 {
-    let m = label::of_field(l, k, s, &mut [], 0);
+    let m = label::of_field(l, k);
     let n = m.size;
     if n == 0 {
         return 0;
     }
-    if !m.begins {
+    let mut text = [0u8; 36];
+    label::put_label(&mut text, 0, m);
+    if !scan::starts(scan::front(&text, n), s) {
         return 0;
     }
     let at = n + scan::lead(&s[n..]);
@@ -133,15 +155,53 @@ fn expect(t: MessageType, turn: usize) -> Expected
     }
 }
 
+// Whether a text begins with the label of the field k as it is printed: padded, and with '=' after it.
+fn is_printed(l: Layout, k: usize, s: &[u8]) -> bool
+    ensures { λ r. ⌜ r ≡ isPrinted (labelAt l k) (now (s .entry)) ⌝ }
+{
+    if s.len() < 37 {
+        return false;
+    }
+    if s[36] != b'=' {
+        return false;
+    }
+    let m = label::of_field(l, k);
+    if m.size == 0 {
+        return false;
+    }
+    label::is_printed(m, s)
+}
+
+// Where the value may begin that follows the expected label: 0 where something else stands there. A label as it is printed is met at once, and any other
+// begins at least with a capital letter.
+fn head_at(l: Layout, k: usize, s: &[u8]) -> usize
+    ensures { λ r. ⌜ r ≡ headOf (labelAt l k) (now (s .entry)) ⌝ }
+{
+    if s.len() == 0 {
+        return 0;
+    }
+    if is_printed(l, k, s) {
+        return 37;
+    }
+    if s[0] < b'A' {
+        return 0;
+    }
+    if b'Z' < s[0] {
+        return 0;
+    }
+    head(l, k, s)
+}
+
 // The line below one separator: a separator, or the row.
 fn row_item(t: MessageType, s: &[u8], at: usize, end: usize) -> Item
     requires { ⌜ (at ≤ end) × (end ≤ length (now s)) × (end < 65536) ⌝ }
-    ensures { λ r. ⌜ IsItem t (now (s .entry)) (trim (part at end (now (s .entry)))) 1 r ⌝ }
+    ensures { λ r. ⌜ (r .end ≡ end) × IsItem t (now (s .entry)) (trim (part at end (now (s .entry)))) 1 r ⌝ }
 {
     let p = lines::trim_span(s, at, end);
     let a = p.from as usize;
     let z = p.to as usize;
     Item {
+        end,
         separator: lines::is_separator(&s[a..z]),
         first: 0,
         second: 0,
@@ -150,9 +210,9 @@ fn row_item(t: MessageType, s: &[u8], at: usize, end: usize) -> Item
 }
 
 // A text that is no separator: the first '=' divides it, and label and value are trimmed.
-fn param_item(t: MessageType, s: &[u8], p: Span, seps: usize) -> Item
+fn param_item(t: MessageType, s: &[u8], p: Span, end: usize, seps: usize) -> Item
     requires { ⌜ (p .from ≤ p .to) × (p .to ≤ length (now s)) × (isSep (partOf (now s) p) ≡ false) × (seps ≡ 1 → ⊥) ⌝ }
-    ensures { λ r. ⌜ IsItem t (now (s .entry)) (partOf (now (s .entry)) p) seps r ⌝ }
+    ensures { λ r. ⌜ (r .end ≡ end) × IsItem t (now (s .entry)) (partOf (now (s .entry)) p) seps r ⌝ }
 {
     let a = p.from as usize;
     let z = p.to as usize;
@@ -160,6 +220,7 @@ fn param_item(t: MessageType, s: &[u8], p: Span, seps: usize) -> Item
     let e = scan::first(text, b'=');
     if e == text.len() {
         return Item {
+            end,
             separator: false,
             first: 0,
             second: 0,
@@ -167,10 +228,11 @@ fn param_item(t: MessageType, s: &[u8], p: Span, seps: usize) -> Item
         };
     }
     let label = scan::trim(&text[..e]);
-    let first = field_of(layout::of_type(t), label);
     let second = second_of(t, label);
+    let first = first_of(t, second, label);
     let value = lines::trim_span(s, a + e + 1, z);
     Item {
+        end,
         separator: false,
         first,
         second,
@@ -178,24 +240,31 @@ fn param_item(t: MessageType, s: &[u8], p: Span, seps: usize) -> Item
     }
 }
 
-// What the line at..end is, below seps separators, with the label that is expected at this turn tried first.
-pub fn line_of(t: MessageType, s: &[u8], at: usize, end: usize, seps: usize, turn: usize) -> Item
+// Whether a line is empty or begins with an asterisk, as the banners do: then it is no separator, and has no label.
+fn is_foreign(s: &[u8]) -> bool
+    ensures { λ r. ⌜ r ≡ isForeign (now (s .entry)) ⌝ }
+{
+    if s.len() == 0 {
+        return true;
+    }
+    s[0] == b'*'
+}
+
+// A line that does not begin with the expected label.
+fn other_item(t: MessageType, s: &[u8], at: usize, end: usize, seps: usize) -> Item
     requires { ⌜ (at ≤ end) × (end ≤ length (now s)) × (end < 65536) ⌝ }
-    ensures { λ r. ⌜ IsItem t (now (s .entry)) (trim (part at end (now (s .entry)))) seps r ⌝ }
+    ensures { λ r. ⌜ (r .end ≡ end) × IsItem t (now (s .entry)) (trim (part at end (now (s .entry)))) seps r ⌝ }
 {
     if seps == 1 {
         return row_item(t, s, at, end);
     }
-    let e = expect(t, turn);
-    let l = e.layout;
-    let h = head(l, e.field, &s[at..end]);
-    if 0 < h {
-        let value = lines::trim_span(s, at + h, end);
+    if is_foreign(&s[at..end]) {
         return Item {
+            end,
             separator: false,
-            first: e.first,
-            second: e.second,
-            value,
+            first: 0,
+            second: 0,
+            value: NOWHERE,
         };
     }
     let p = lines::trim_span(s, at, end);
@@ -203,11 +272,46 @@ pub fn line_of(t: MessageType, s: &[u8], at: usize, end: usize, seps: usize, tur
     let z = p.to as usize;
     if lines::is_separator(&s[a..z]) {
         return Item {
+            end,
             separator: true,
             first: 0,
             second: 0,
             value: p,
         };
     }
-    param_item(t, s, p, seps)
+    param_item(t, s, p, end, seps)
+}
+
+// Where the value may begin that follows the label expected at a turn: 0 below one separator, where none is expected.
+fn expected_head(e: Expected, s: &[u8], seps: usize) -> usize
+    ensures { λ r. ⌜ r ≡ cond (eqb seps 1) 0 (headOf (labelAt (e .layout) (e .field)) (now (s .entry))) ⌝ }
+{
+    if seps == 1 {
+        return 0;
+    }
+    let l = e.layout;
+    head_at(l, e.field, s)
+}
+
+// What the line at a place is, below seps separators, and where it ends, with the label that is expected at this turn tried first: the bytes of a label that
+// was met are printable, so that only those behind it are looked at.
+pub fn line_of(t: MessageType, s: &[u8], at: usize, seps: usize, turn: usize) -> Item
+    requires { ⌜ (at ≤ length (now s)) × (length (now s) < 65536) ⌝ }
+    ensures { λ r. ⌜ (r .end ≡ at + plainRun (drop at (now (s .entry)))) × IsItem t (now (s .entry)) (trim (part at (r .end) (now (s .entry)))) seps r ⌝ }
+{
+    let e = expect(t, turn);
+    let h = expected_head(e, &s[at..], seps);
+    let from = at + h;
+    let end = from + lines::plain_run(&s[from..]);
+    if 0 < h {
+        let value = lines::trim_span(s, from, end);
+        return Item {
+            end,
+            separator: false,
+            first: e.first,
+            second: e.second,
+            value,
+        };
+    }
+    other_item(t, s, at, end, seps)
 }

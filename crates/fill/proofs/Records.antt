@@ -4,9 +4,8 @@ use Prim.Native.Nat.{ℕ, suc, _≤_}
 use Rattle.fill.specs.Filled.{ahead, goodFront, triplesOf, recordWith}
 use Rattle.layout.specs.Rows.{textAt}
 use Rattle.layout.specs.declared.Layout.{Layout}
-use Rattle.list.specs.Forms.{gradientsIn}
 use Rattle.list.specs.declared.Triple.{Triple}
-use Rattle.record.specs.Records.{Typed, joined, typed, cellsOf, recordOf, reasonField, noteField, gradientsField}
+use Rattle.record.specs.Records.{Typed, joined, typed, cellsOf, recordOf, reasonField, noteField}
 use Rattle.record.specs.Records.Typed.{bad, good}
 use Rattle.record.specs.declared.Cell.{Cell}
 use Rattle.room.specs.Rooms.{keptIn}
@@ -27,11 +26,6 @@ record-with l col vs = refl
 
 pub room-is : (n : ℕ) (col : List (List ℕ)) (room text : List ℕ) (k j : ℕ) → room ≡ keptIn n text → text ≡ textAt col k → k ≡ j → room ≡ keptIn n (textAt col j)
 room-is n col room text k j e f g = e ∙ ap (keptIn n) (f ∙ ap (textAt col) g)
-
-pub triples-are : (l : Layout) (col : List (List ℕ)) (triples : List Triple) (text : List ℕ) (k : ℕ) → triples ≡ gradientsIn text .list .values
-    → text ≡ textAt col k → k ≡ gradientsField l → triples ≡ triplesOf l col
-unfolding triplesOf
-triples-are l col triples text k e f g = e ∙ ap (λ (t : List ℕ). gradientsIn t .list .values) (f ∙ ap (textAt col) g)
 
 pub record-is : (l : Layout) (col : List (List ℕ)) (cells : List Cell) (u r n : List ℕ) (g : List Triple)
     → u ≡ keptIn 16 (textAt col 2) → r ≡ keptIn 128 (textAt col (reasonField l)) → n ≡ keptIn 256 (textAt col (noteField l))

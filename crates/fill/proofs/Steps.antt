@@ -1,4 +1,4 @@
--- The loop of `fill`: its state, and its laws. Assumes nothing.
+-- The loop over the fields: its state, and its laws. Assumes nothing.
 use Prim.Native.Nat.{ℕ, suc, _+_, _-_, _≤_, _<_}
 use Rattle.fill.specs.Filled.{ahead, goodFront, filledOf}
 use Rattle.layout.proofs.Labels.{few, kinds-length, kind-at}

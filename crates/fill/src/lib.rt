@@ -1,26 +1,23 @@
 // From the places of a file's values to the record, field by field and by kind.
 use layout::Layout;
 use lines::Span;
+use list::GradientsRead;
 use list::Triple;
 use list::triples;
 use record::Cell;
 use record::Record;
 use value::Got;
+use value::Value;
 ghost use Prim.Native.Nat.{_≤_};
-ghost use Rattle.fill.specs.Filled.{filledOf, triplesOf, recordWith};
-ghost use Rattle.layout.specs.Layouts.{kindsOf, kindAt, sizeOf};
+ghost use Rattle.fill.specs.Filled.{valueWith, recordWith};
+ghost use Rattle.layout.specs.Layouts.{kindAt, sizeOf};
 ghost use Rattle.layout.specs.Rows.{textAt};
 ghost use Rattle.list.specs.Forms.{gradientsIn};
 ghost use Rattle.lines.specs.Places.{partOf, columnIn, Placed};
+ghost use Rattle.record.specs.Records.{gradientsField};
 ghost use Rattle.value.specs.Kinds.{valueOf};
 ghost use lib.ListN.{length};
 ghost use mathlib.Core.Path.{_≡_};
-
-// The values in their cells, and the first bad field, 0 where there is none: then the cells have the values up to it.
-pub struct Filled {
-    pub bad: usize,
-    pub cells: [Cell; 26],
-}
 
 // The value of the field k that stands at a place of the file.
 fn value_at(l: Layout, k: usize, file: &[u8], p: Span) -> Got
@@ -30,25 +27,6 @@ fn value_at(l: Layout, k: usize, file: &[u8], p: Span) -> Got
     let from = p.from as usize;
     let to = p.to as usize;
     value::read::read(kind::of_field(l, k), &file[from..to])
-}
-
-// Every field of the layout, read from its place in the file by its kind.
-pub fn fill(l: Layout, file: &[u8], spans: [Span; 27]) -> Filled
-    requires { ⌜ Placed (sizeOf l) (now file) spans ⌝ }
-    ensures { λ r. ⌜ r ≡ filledOf (kindsOf l) (columnIn (sizeOf l) (now (file .entry)) spans) ⌝ }
-{
-    let n = layout::size(l);
-    let mut cells = [record::EMPTY; 26];
-    let mut k = 0;
-    while k < n {
-        let Got::Read(v) = value_at(l, k + 1, file, spans[k + 1]) else {
-            return Filled { bad: k + 1, cells };
-        };
-        let c = Cell { value: v };
-        cells[k] = c;
-        k += 1;
-    }
-    Filled { bad: 0, cells }
 }
 
 // The text of the field k: nothing at 0.
@@ -65,21 +43,30 @@ pub fn text_at<'a>(l: Layout, file: &'a [u8], spans: [Span; 27], k: usize) -> &'
     &file[from..to]
 }
 
-// The triples of a text in their room: all zero where there are none.
-fn triples_in(s: &[u8]) -> [Triple; 16]
-    ensures { λ r. ⌜ r ≡ gradientsIn (now (s .entry)) .list .values ⌝ }
+// The gradients of the layout, read: not good, and all zero, where it has none.
+pub fn gradients_of(l: Layout, file: &[u8], spans: [Span; 27]) -> GradientsRead
+    requires { ⌜ Placed (sizeOf l) (now file) spans ⌝ }
+    ensures { λ r. ⌜ r ≡ gradientsIn (textAt (columnIn (sizeOf l) (now (file .entry)) spans) (gradientsField l)) ⌝ }
 {
-    let g = triples::read(s);
-    let list = g.list;
-    list.values
+    let at = record::gradients_field(l);
+    if at == 0 {
+        return triples::none();
+    }
+    triples::read(text_at(l, file, spans, at))
 }
 
-// The triples of the layout's gradients.
-pub fn triples_of(l: Layout, file: &[u8], spans: [Span; 27]) -> [Triple; 16]
-    requires { ⌜ Placed (sizeOf l) (now file) spans ⌝ }
-    ensures { λ r. ⌜ r ≡ triplesOf l (columnIn (sizeOf l) (now (file .entry)) spans) ⌝ }
+// The value of the field k, with that of the gradients from what was read of them.
+pub fn value_in(l: Layout, k: usize, file: &[u8], p: Span, good: bool, count: usize) -> Got
+    requires { ⌜ (p .from ≤ p .to) × (p .to ≤ length (now file)) ⌝ }
+    ensures { λ r. ⌜ r ≡ valueWith l k good count (partOf (now (file .entry)) p) ⌝ }
 {
-    triples_in(text_at(l, file, spans, record::gradients_field(l)))
+    if k == record::gradients_field(l) {
+        if good {
+            return Got::Read(Value::Triples(count));
+        }
+        return Got::Bad;
+    }
+    value_at(l, k, file, p)
 }
 
 // The record of the layout with these cells and triples; texts are kept in their rooms.

@@ -11,22 +11,22 @@ use Rattle.order.specs.Messages.{isCommand, firstVariation, secondVariation, or
 use Rattle.order.specs.Orders.{isAmount, fitsLayout, couldCome}
 use Rattle.record.specs.Records.{fieldOf}
 use Rattle.record.specs.declared.Record.{Record}
-use Rattle.rules.proofs.Steps.{lowest-here}
+use Rattle.rules.proofs.Steps.{broken-here}
 use Rattle.rules.specs.Rules.{inOrder, ramps, Rule, rule, rulesOf, lowest, brokenIn}
 use Rattle.text.proofs.Tests.{by-test, ltb-tells, leb-tells, _and_}
 use Rattle.valid.specs.Valid.{Valid}
 use Rattle.validity.proofs.Decides.{valid-tells}
 use Rattle.validity.specs.Validity.{isValid}
 use lib.IntN.{pos}
-use mathlib.Core.Bool.{Bool, true}
+use mathlib.Core.Bool.{Bool, true, not}
 use mathlib.Core.List.{List, _∷_}
-use mathlib.Core.Path.{_≡_, refl}
+use mathlib.Core.Path.{_≡_, refl, ap}
 use native.Mathlib.Omega.{arith}
 
 -- ---- the first rule of a layout holds where none is broken
 
 first-holds : (b : Bool) (rs : List Rule) → lowest (rule 1 b ∷ rs) ≡ 0 → b ≡ true
-first-holds b rs e = by-test b (λ h. h) (λ h. absurd (omega (arith, lowest-here 1 b rs h, e)))
+first-holds b rs e = by-test b (λ h. h) (λ h. absurd (omega (arith, broken-here 1 b rs refl (ap not h), e)))
 
 -- ---- a valid command
 

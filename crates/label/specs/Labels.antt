@@ -1,19 +1,29 @@
--- A label against a text, and as the written form pads it (document 01, "Written form": each label padded to 36 bytes).
+-- A label as the written form pads it (document 01, "Written form": each label padded to 36 bytes), and as words of eight bytes.
 use Prim.Native.Nat.{ℕ, _-_}
-use Rattle.label.specs.declared.Met.{Met}
-use Rattle.text.specs.Bytes.{starts}
+use Rattle.label.specs.declared.Label.{Label}
+use Rattle.text.specs.Bytes.{part}
+use Rattle.text.specs.Words.{wordOf, bytesOf}
 use lib.ListN.{length, replicate}
-use lib.Seq.{sets}
 use mathlib.Core.List.{List, _++_}
-use mathlib.Core.Path.{_≡_}
 
 unfoldable pub padded : List ℕ → List ℕ
 padded t = t ++ replicate (36 - length t) 32
 
--- the label's length, and whether the text begins with it
-unfoldable pub metOf : List ℕ → List ℕ → Met
-metOf label s = record { size = length label; begins = starts label s }
+-- 36 bytes as words, of which the label is the first `size`
+unfoldable pub wordsOf : ℕ → List ℕ → Label
+wordsOf size text =
+    record {
+      size = size;
+      first = wordOf (part 0 8 text);
+      second = wordOf (part 8 16 text);
+      third = wordOf (part 16 24 text);
+      fourth = wordOf (part 24 32 text);
+      last = wordOf (part 32 36 text);
+    }
 
--- the label met the text s, and stands padded in the buffer from the place `at` on, as far as there is room
-abbrev pub Meets : List ℕ → List ℕ → List ℕ → ℕ → List ℕ → Met → Type 0
-Meets label s before at after r = (r ≡ metOf label s) × (after ≡ sets before at (padded label))
+unfoldable pub labelOf : List ℕ → Label
+labelOf t = wordsOf (length t) (padded t)
+
+-- the padded text that the words spell
+unfoldable pub textOf : Label → List ℕ
+textOf l = bytesOf 8 (l .first) ++ bytesOf 8 (l .second) ++ bytesOf 8 (l .third) ++ bytesOf 8 (l .fourth) ++ bytesOf 4 (l .last)

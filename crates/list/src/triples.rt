@@ -42,7 +42,7 @@ const NO_TRIPLE: Triple = Triple {
     gradient: 0,
 };
 
-fn none() -> GradientsRead
+pub fn none() -> GradientsRead
     ensures { λ r. ⌜ r ≡ record { good = false; list = record { count = 0; values = replicate 16 noTriple } } ⌝ }
 {
     let values = [NO_TRIPLE; 16];

@@ -1,12 +1,13 @@
--- The bytes of a unit, as ranges of numbers. Assumes nothing.
-use Prim.Native.Nat.{ℕ, _≤_, _<_}
+-- The bytes of a unit: as ranges of numbers, and eight at a time. Assumes nothing.
+use Prim.Native.Nat.{ℕ, _+_, _≤_}
 use Rattle.name.specs.Names.{isUnitByte, isUnit}
+use Rattle.text.proofs.Cuts.{all-eight}
 use Rattle.text.proofs.Fronts.{run-all}
-use Rattle.text.proofs.Tests.{Tells, within-tells, eqb-tells, untold}
-use Rattle.text.specs.Bytes.{within, runOf}
+use Rattle.text.proofs.Tests.{Tells, within-tells, eqb-tells}
+use Rattle.text.specs.Bytes.{part, all, within, runOf}
 use lib.Dec.{eqb}
-use lib.ListN.{length}
-use mathlib.Core.Bool.{Bool, true, false, _||_, false≢true}
+use lib.ListN.{length, getD}
+use mathlib.Core.Bool.{Bool, true, false, _&&_, _||_, false≢true}
 use mathlib.Core.List.{List}
 use mathlib.Core.Logic.{_⊎_, inl, inr, ⊎-elim}
 use mathlib.Core.Path.{_≡_, refl, sym, ap, _∙_}
@@ -28,24 +29,18 @@ unit-tells b = within-tells 48 57 b or within-tells 65 90 b or eqb-tells b 95 or
 pub by-kind : {X : Type 0} (b : ℕ) → UnitByte b → ((48 ≤ b) × (b ≤ 57) → X) → ((65 ≤ b) × (b ≤ 90) → X) → (b ≡ 95 → X) → ((97 ≤ b) × (b ≤ 122) → X) → X
 by-kind b u p q r t = ⊎-elim (⊎-elim (⊎-elim p q) r) t u
 
--- ---- the ways through the code's ranges
-
-module _ (b : ℕ) where
-  pub unit-digit : (48 ≤ b) × (b ≤ 57) → true ≡ isUnitByte b
-  unit-digit h = sym (unit-tells b .1 (inl (inl (inl h))))
-
-  pub unit-upper : (65 ≤ b) × (b ≤ 90) → true ≡ isUnitByte b
-  unit-upper h = sym (unit-tells b .1 (inl (inl (inr h))))
-
-  pub unit-line : b ≡ 95 → true ≡ isUnitByte b
-  unit-line h = sym (unit-tells b .1 (inl (inr h)))
-
-  pub unit-lower : (97 ≤ b) × (b ≤ 122) → true ≡ isUnitByte b
-  unit-lower h = sym (unit-tells b .1 (inr h))
-
-  pub unit-none : (48 ≤ b → 57 < b) × (65 ≤ b → 90 < b) × (b ≡ 95 → ⊥) × (97 ≤ b → 122 < b) → false ≡ isUnitByte b
-  unit-none n =
-      sym (untold (unit-tells b) (λ u. by-kind b u (λ h. omega (arith, n .0 (h .0))) (λ h. omega (arith, n .1 (h .0))) (n .2) (λ h. omega (arith, n .3 (h .0)))))
+-- eight bytes, each as it was told
+pub eight-units : (s : List ℕ) (i : ℕ) (a b c d e f g h : Bool) → i + 8 ≤ length s
+    → a ≡ isUnitByte (getD s i 0)
+    → b ≡ isUnitByte (getD s (i + 1) 0)
+    → c ≡ isUnitByte (getD s (i + 2) 0)
+    → d ≡ isUnitByte (getD s (i + 3) 0)
+    → e ≡ isUnitByte (getD s (i + 4) 0)
+    → f ≡ isUnitByte (getD s (i + 5) 0)
+    → g ≡ isUnitByte (getD s (i + 6) 0)
+    → h ≡ isUnitByte (getD s (i + 7) 0)
+    → (a && b && c && d && e && f && g && h) ≡ all isUnitByte (part i (i + 8) s)
+eight-units s i a b c d e f g h room p q r t u v w x = rw (p, q, r, t, u, v, w, x) (all-eight isUnitByte 0 s i room)
 
 pub unit-sized : (s : List ℕ) (n : ℕ) → n ≡ runOf isUnitByte s → within 1 16 (length s) ≡ true → eqb n (length s) ≡ isUnit s
 unfolding isUnit

@@ -1,4 +1,5 @@
 pub mod Laws
+pub mod Leads
 pub mod Signs
 pub mod Texts
 pub mod RoundTrip

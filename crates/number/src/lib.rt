@@ -2,7 +2,6 @@
 use text::digits;
 use text::digits::Digits;
 use text::put;
-use text::scan;
 ghost use Prim.Native.Nat.{_+_, _-_, _^_, _≤_, _<_};
 ghost use Rattle.number.specs.Number.{fractionOf, unsignedOf, numberOf, fractionText, decimalsText, signText, numberText};
 ghost use Rattle.text.specs.Puts.{limit};
@@ -47,18 +46,24 @@ fn read_fraction(s: &[u8], p: usize) -> Digits
     Digits::Are(n * scale(f.len()))
 }
 
-// A number without its sign.
+// A number without its sign: its first digits, and what follows them.
 fn read_unsigned(s: &[u8]) -> Digits
     ensures { λ r. ⌜ r ≡ unsignedOf (now (s .entry)) ⌝ }
 {
-    let p = scan::first(s, b'.');
-    let Digits::Are(w) = digits::read_digits(&s[..p], 6) else {
+    let w = digits::lead(s, 7);
+    if (w.count == 0) | (w.count == 7) {
         return Digits::Not;
-    };
+    }
+    let p = w.count;
+    if p < s.len() {
+        if s[p] != b'.' {
+            return Digits::Not;
+        }
+    }
     let Digits::Are(f) = read_fraction(s, p) else {
         return Digits::Not;
     };
-    Digits::Are(w * 1000 + f)
+    Digits::Are(w.value * 1000 + f)
 }
 
 fn positive(n: u64) -> i32

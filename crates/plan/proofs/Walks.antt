@@ -22,7 +22,7 @@ use Rattle.text.specs.Bytes.{bytes, part, is, any, firstOf}
 use Rattle.text.specs.declared.digits.Digits.the-variants.{Are, Not}
 use Rattle.text.specs.declared.digits.Digits.{Digits}
 use borrow.Author.Tests.{eq-eqb, ne-eqb}
-use lib.Dec.{eqb}
+use lib.Dec.{eqb, ltb}
 use lib.ListN.{length, take, drop, set}
 use mathlib.Core.Bool.{Bool, true, false, _||_, cond}
 use mathlib.Core.List.{List, [], _∷_}
@@ -141,6 +141,10 @@ plan-row : (room n : ℕ) (up : List Row) (s : List ℕ) → 0 < length s
     → planFrom (suc room) n up s ≡ after n (rowOf up s) (λ r. planFrom room (n + 4) (r ∷ up) (below (below (below (below s)))))
 unfolding planFrom
 plan-row room n up s h = let e : length s ≡ 0 → ⊥ = λ e. omega arith in rw (ne-eqb _ _ e)
+
+-- none of the addresses above a row is above the greatest, as the call asks it
+pub none-there : (keys : List ℕ) (count greatest : ℕ) → any (ltb greatest) (take count keys) ≡ false → any (ltb greatest) (take (count - 0) keys) ≡ false
+none-there keys count greatest n = ap (λ (k : ℕ). any (ltb greatest) (take k keys)) (sub-zero count) ∙ n
 
 -- THE INVARIANT of the one loop over the rows: `rest` is what was not read yet, and `up` the rows that were, last first
 pub record Sofar (plan : List ℕ) (ca ioa : ℕ) (keys : List ℕ) (count : ℕ) (found : Sought) (rest : List ℕ) : Type 0 where

@@ -2,7 +2,7 @@
 use address::Entry;
 use address::RowAt;
 use name::MessageType;
-ghost use Prim.Native.Nat.{_≤_};
+ghost use Prim.Native.Nat.{max, _≤_};
 ghost use Rattle.plan.specs.Kept.{foundIn};
 ghost use Rattle.plan.specs.Plans.{planOf, refusal, soughtOf};
 ghost use lib.ListN.{length};
@@ -49,7 +49,13 @@ fn found_in(s: &[u8], e: Entry) -> Sought
     }
 }
 
-// The rows from the top, at most 64 of them, with the addresses above each.
+fn larger(a: u64, b: u64) -> u64
+    ensures { λ r. ⌜ r ≡ max a b ⌝ }
+{
+    if a < b { b } else { a }
+}
+
+// The rows from the top, at most 64 of them, with the addresses above each and the greatest of those.
 pub fn seek(plan: &[u8], ca: u32, ioa: u32) -> Sought
     ensures { λ r. ⌜ r ≡ soughtOf ca ioa (planOf (now (plan .entry))) ⌝ }
 {
@@ -59,6 +65,7 @@ pub fn seek(plan: &[u8], ca: u32, ioa: u32) -> Sought
     let sought = address::sought_key(ca, ioa);
     let mut keys = [0u64; 64];
     let mut count = 0;
+    let mut greatest = 0;
     let mut found = refused(1, 0);
     let mut rest = plan;
     while 0 < rest.len() {
@@ -66,7 +73,7 @@ pub fn seek(plan: &[u8], ca: u32, ioa: u32) -> Sought
         if count == 64 {
             return refused(13, line);
         }
-        match address::row_at(rest, &keys[0..count]) {
+        match address::row_at(rest, &keys[0..count], greatest) {
             RowAt::Bad(k) => {
                 return refused(13, line + k as usize);
             }
@@ -75,6 +82,7 @@ pub fn seek(plan: &[u8], ca: u32, ioa: u32) -> Sought
                     found = found_in(rest, e);
                 }
                 keys[count] = e.key;
+                greatest = larger(greatest, e.key);
                 count += 1;
                 let end = e.end;
                 let next = &rest[end..];

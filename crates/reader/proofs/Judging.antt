@@ -1,8 +1,7 @@
--- Refusals 7 to 10 as the code meets them: one law for each way out of `judge`. Assumes nothing.
+-- Refusals 7 to 10 as the code meets them: one law for each way out of `judge`, and what its verdict says of the values. Assumes nothing.
 use Prim.Native.Nat.{ℕ, _≤_, _<_}
 use Rattle.fill.proofs.Records.{record-with, typed-bad-some, front-good}
-use Rattle.fill.specs.Filled.{filledOf, triplesOf, recordWith}
-use Rattle.fill.specs.declared.Filled.{Filled}
+use Rattle.fill.specs.Filled.{Filled, filledOf, triplesOf, recordWith}
 use Rattle.layout.proofs.Labels.{few, some-fields}
 use Rattle.layout.specs.Layouts.{kindsOf, sizeOf}
 use Rattle.layout.specs.Rows.{textAt, rowOf}
@@ -16,18 +15,20 @@ use Rattle.reader.proofs.Firsts.NoneHolds.{none}
 use Rattle.reader.specs.Messages.{valuesOf, isBad, goodOf, bodyOf}
 use Rattle.reader.specs.Reader.{valued}
 use Rattle.reader.specs.Refusals.{refused, accepted}
-use Rattle.reader.specs.State.{columnAt, Filling, finished, Judges}
+use Rattle.reader.specs.State.{columnAt, Filling, verdict, finished, Judges}
+use Rattle.reader.specs.declared.Early.{Early}
 use Rattle.record.specs.Records.{Typed, typed, cellsOf, badOf}
 use Rattle.record.specs.Records.Typed.{bad, good}
 use Rattle.record.specs.declared.Cell.{Cell}
 use Rattle.rules.specs.Rules.{rulesOf, lowest, brokenIn}
+use Rattle.text.proofs.Tests.{by-test, by-eq}
 use Rattle.text.specs.Bytes.{same}
 use borrow.Author.Tests.{lt-ltb, le-ltb}
 use lib.Dec.{ltb}
 use lib.ListN.{length}
-use mathlib.Core.Bool.{true, false, not}
+use mathlib.Core.Bool.{Bool, true, false, not}
 use mathlib.Core.List.{List}
-use mathlib.Core.Path.{_≡_, refl, sym, ap, ap₂, _∙_}
+use mathlib.Core.Path.{_≡_, refl, sym, ap, ap₂, _∙_, subst}
 use native.Mathlib.Omega.{arith}
 
 -- ---- what `fill` gave
@@ -77,7 +78,30 @@ module _ (l : Layout) (file : List ℕ) (places : List Span) (p : Placed (sizeOf
   unit-text : partOf file (spanAt places 2) ≡ textAt (columnAt l file places) 2
   unit-text = let h : sizeOf l < length places = omega (arith, few l, p .long) in sym (column-at (sizeOf l) 2 file places (omega arith) two-few h)
 
--- ---- the ways out
+  pub unit-same : (unit : List ℕ) (b : Bool) → b ≡ same unit (partOf file (spanAt places 2)) → b ≡ same unit (textAt (columnAt l file places) 2)
+  unit-same unit b e = e ∙ ap (same unit) unit-text
+
+-- ---- the ways out of `judge`
+
+module _ (k : ℕ) (unit row : Bool) where
+  pub rule-verdict : (k ≡ 0 → ⊥) → record { number = 8; detail = k } ≡ verdict k unit row
+  unfolding verdict
+  rule-verdict n = let h : 0 < k = omega (arith, n) in rw (lt-ltb 0 k h)
+
+  module _ (z : k ≡ 0) where
+    pub unit-verdict : unit ≡ false → record { number = 9; detail = 0 } ≡ verdict k unit row
+    unfolding verdict
+    unit-verdict u = rw (z, u)
+
+    pub row-verdict : unit ≡ true → row ≡ false → record { number = 10; detail = 0 } ≡ verdict k unit row
+    unfolding verdict
+    row-verdict u w = rw (z, u, w)
+
+    pub well-verdict : unit ≡ true → row ≡ true → record { number = 0; detail = 0 } ≡ verdict k unit row
+    unfolding verdict
+    well-verdict u w = rw (z, u, w)
+
+-- ---- what is judged of the values
 
 module _ (l : Layout) (unit file : List ℕ) (row : Span) (places : List Span) (b : ℕ) (cells : List Cell) (gs : List Triple) (f : Filling l file row places b cells gs) where
   abbrev col : List (List ℕ)
@@ -102,7 +126,7 @@ module _ (l : Layout) (unit file : List ℕ) (row : Span) (places : List Span) (
     broken-is : k ≡ brokenIn (bodyOf l col)
     broken-is = q ∙ is-broken l col given (f .filled) n gs (f .triples)
 
-    pub broken-rule : (k ≡ 0 → ⊥) → Judged 8 k
+    broken-rule : (k ≡ 0 → ⊥) → Judged 8 k
     unfolding valued finished
     broken-rule h =
         let q : 0 < brokenIn (bodyOf l col) = omega (arith, broken-is, h) in
@@ -112,23 +136,38 @@ module _ (l : Layout) (unit file : List ℕ) (row : Span) (places : List Span) (
       unbroken : ltb 0 (brokenIn (bodyOf l col)) ≡ false
       unbroken = let h : brokenIn (bodyOf l col) ≤ 0 = omega (arith, broken-is, zero-k) in le-ltb 0 (brokenIn (bodyOf l col)) h
 
-      pub other-unit : same unit (partOf file (spanAt places 2)) ≡ false → Judged 9 0
+      other-unit : same unit (textAt col 2) ≡ false → Judged 9 0
       unfolding valued finished
-      other-unit u =
-          let w : same unit (textAt col 2) ≡ false = ap (same unit) (sym (unit-text l file places (f .placed))) ∙ u in
-          sym (answer-no 7 _ _ _ _ values ∙ answer-no 8 _ _ _ _ unbroken ∙ answer-yes 9 _ _ _ _ (ap not w))
+      other-unit u = sym (answer-no 7 _ _ _ _ values ∙ answer-no 8 _ _ _ _ unbroken ∙ answer-yes 9 _ _ _ _ (ap not u))
 
-      module _ (units : same unit (partOf file (spanAt places 2)) ≡ true) where
+      module _ (units : same unit (textAt col 2) ≡ true) where
         its-unit : not (same unit (textAt col 2)) ≡ false
-        its-unit = ap not (ap (same unit) (sym (unit-text l file places (f .placed))) ∙ units)
+        its-unit = ap not units
 
-        pub other-row : same (partOf file row) (rowOf l col) ≡ false → Judged 10 0
+        other-row : same (partOf file row) (rowOf l col) ≡ false → Judged 10 0
         unfolding valued finished
         other-row w =
             sym (answer-no 7 _ _ _ _ values ∙ answer-no 8 _ _ _ _ unbroken ∙ answer-no 9 _ _ _ _ its-unit ∙ answer-yes 10 _ _ _ _ (ap not w))
 
-        pub all-well : same (partOf file row) (rowOf l col) ≡ true → Judged 0 0
+        all-well : same (partOf file row) (rowOf l col) ≡ true → Judged 0 0
         unfolding valued finished
         all-well w =
             ap accepted (is-body l col given (f .filled) n gs (f .triples))
             ∙ sym (answer-no 7 _ _ _ _ values ∙ answer-no 8 _ _ _ _ unbroken ∙ answer-no 9 _ _ _ _ its-unit ∙ answer-no 10 _ _ _ _ (ap not w) ∙ none-given _ none)
+
+    -- by the verdict
+    pub by-verdict : (e : Early) → e ≡ verdict k (same unit (textAt col 2)) (same (partOf file row) (rowOf l col)) → Judged (e .number) (e .detail)
+    by-verdict e v =
+        by-eq k 0
+        (λ z.
+        by-test (same unit (textAt col 2))
+        (λ u.
+        by-test (same (partOf file row) (rowOf l col))
+        (λ w. of-early (well-verdict k _ _ z u w) (all-well z u w))
+        (λ w. of-early (row-verdict k _ _ z u w) (other-row z u w)))
+        (λ u. of-early (unit-verdict k _ _ z u) (other-unit z u)))
+        (λ h. of-early (rule-verdict k _ _ h) (broken-rule h))
+      where
+        of-early : {x : Early} → x ≡ verdict k (same unit (textAt col 2)) (same (partOf file row) (rowOf l col))
+            → Judged (x .number) (x .detail) → Judged (e .number) (e .detail)
+        of-early q j = subst (λ (y : Early). Judged (y .number) (y .detail)) (q ∙ sym v) j

@@ -5,3 +5,4 @@ pub mod Chosen
 pub mod Placing
 pub mod Walking
 pub mod Locating
+pub mod Going

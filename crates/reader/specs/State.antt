@@ -13,13 +13,14 @@ use Rattle.reader.specs.Messages.{valuesOf, isBad, bodyOf}
 use Rattle.reader.specs.Reader.{valued, messageOf, readOf}
 use Rattle.reader.specs.Refusals.{refused, accepted, answer}
 use Rattle.reader.specs.declared.Answer.{Answer}
+use Rattle.reader.specs.declared.Early.{Early}
 use Rattle.reader.specs.declared.Located.{Located}
 use Rattle.reader.specs.declared.Reading.{Reading}
 use Rattle.record.specs.declared.Cell.{Cell}
 use Rattle.walk.specs.State.{has}
 use Rattle.walk.specs.declared.Marks.{Marks}
 use lib.Count.{ones}
-use lib.Dec.{eqb}
+use lib.Dec.{eqb, ltb}
 use lib.ListN.{length, take, replicate}
 use mathlib.Core.Bool.{Bool, false, cond}
 use mathlib.Core.List.{List}
@@ -76,6 +77,10 @@ pub record Filling (l : Layout) (file : List ℕ) (row : Span) (places : List Sp
   pub placed : Placed (sizeOf l) file places
   pub filled : record { bad = bad; cells = cells } ≡ filledOf (kindsOf l) (columnAt l file places)
   pub triples : gradients ≡ triplesOf l (columnAt l file places)
+
+-- refusals 8 to 10, by the lowest broken rule, and whether the unit and the row are the file's own
+unfoldable pub verdict : ℕ → Bool → Bool → Early
+verdict broken unit row = record { number = cond (ltb 0 broken) 8 (cond unit (cond row 0 10) 9); detail = broken }
 
 -- the answer of what was judged on a column: its refusal, or the record with these cells and triples
 unfoldable pub finished : Layout → List (List ℕ) → ℕ → ℕ → List Cell → List Triple → Answer

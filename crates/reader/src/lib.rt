@@ -6,13 +6,15 @@ use name::MessageType;
 use record::Cell;
 use record::Record;
 use text::scan;
+use value::Got;
 use walk::Marks;
 ghost use Prim.Native.Nat.{_≤_};
 ghost use Rattle.layout.specs.Layouts.{sizeOf};
+ghost use Rattle.layout.specs.Rows.{textAt, rowOf};
 ghost use Rattle.lines.specs.Places.{partOf, Placed};
 ghost use Rattle.reader.specs.Reader.{readOf};
 ghost use Rattle.reader.specs.Refusals.{refused, accepted};
-ghost use Rattle.reader.specs.State.{nowhere, placedAs, columnAt, Walks, Locates, Filling, Judges, Values, concluded, Reads, isMfrr};
+ghost use Rattle.reader.specs.State.{nowhere, placedAs, columnAt, Walks, Locates, verdict, concluded, Reads, isMfrr};
 ghost use Rattle.text.specs.Bytes.{same};
 ghost use lib.Count.{ones};
 ghost use lib.ListN.{length};
@@ -187,27 +189,13 @@ fn is_at(text: &[u8], file: &[u8], p: Span) -> bool
     scan::same(text, &file[from..to])
 }
 
-// Refusals 7 to 10, on the values of a layout's fields.
-fn judge(
-    l: Layout,
-    unit: &[u8],
-    file: &[u8],
-    row: Span,
-    places: [Span; 27],
-    bad: usize,
-    cells: [Cell; 26],
-    gradients: [Triple; 16],
-) -> Early
-    requires { ⌜ Filling l (now file) row places bad cells gradients ⌝ }
-    ensures { λ r. ⌜ Judges l (now (unit .entry)) (partOf (now (file .entry)) row) (columnAt l (now (file .entry)) places) (r .number) (r .detail) cells gradients ⌝ }
+// Refusals 8 to 10: the lowest broken rule, the unit, the row.
+fn judge(l: Layout, unit: &[u8], file: &[u8], row: Span, places: [Span; 27], broken: u8) -> Early
+    requires { ⌜ (row .from ≤ row .to) × (row .to ≤ length (now file)) × Placed (sizeOf l) (now file) places ⌝ }
+    ensures { λ r. ⌜ r ≡ verdict broken
+        (same (now (unit .entry)) (textAt (columnAt l (now (file .entry)) places) 2))
+        (same (partOf (now (file .entry)) row) (rowOf l (columnAt l (now (file .entry)) places))) ⌝ }
 {
-    if bad != 0 {
-        return Early {
-            number: 7,
-            detail: bad,
-        };
-    }
-    let broken = rules::lowest_of(l, cells, gradients);
     if broken != 0 {
         return Early {
             number: 8,
@@ -232,26 +220,8 @@ fn judge(
     }
 }
 
-// The values at their places, judged.
-fn values_at(unit: &[u8], file: &[u8], l: Layout, row: Span, places: [Span; 27]) -> Reading
-    requires { ⌜ (row .from ≤ row .to) × (row .to ≤ length (now file)) × Placed (sizeOf l) (now file) places ⌝ }
-    ensures { λ r. ⌜ Values l (now (unit .entry)) (now (file .entry)) row places r ⌝ }
-{
-    let filled = fill::fill(l, file, places);
-    let cells = filled.cells;
-    let gradients = fill::triples_of(l, file, places);
-    let early = judge(l, unit, file, row, places, filled.bad, cells, gradients);
-    Reading {
-        number: early.number,
-        detail: early.detail,
-        layout: l,
-        cells,
-        gradients,
-        places,
-    }
-}
-
-// A file judged at an address of a plan.
+// A file judged at an address of a plan. The cells are filled where they are handed back, and those that a rule asks for are taken from there: an array that
+// is handed on, or a struct that is made in two places, is taken apart by the compiler, each piece by itself.
 pub fn judged(ca: u32, ioa: u32, plan: &[u8], file: &[u8]) -> Reading
     ensures { λ r. ⌜ Reads ca ioa (now (plan .entry)) (now (file .entry)) r ⌝ }
 {
@@ -259,18 +229,78 @@ pub fn judged(ca: u32, ioa: u32, plan: &[u8], file: &[u8]) -> Reading
     let l = x.layout;
     let row = x.row;
     let places = x.places;
+    let mut r = Reading {
+        number: x.number,
+        detail: x.detail,
+        layout: l,
+        cells: [record::EMPTY; 26],
+        gradients: [record::NO_TRIPLE; 16],
+        places,
+    };
     if x.number != 0 {
-        return Reading {
-            number: x.number,
-            detail: x.detail,
-            layout: l,
-            cells: [record::EMPTY; 26],
-            gradients: [record::NO_TRIPLE; 16],
-            places,
-        };
+        return r;
     }
+    let g = fill::gradients_of(l, file, places);
+    let list = g.list;
+    let gradients = list.values;
+    r.gradients = gradients;
+    let n = layout::size(l);
+    let mut k = 0;
+    while k < n {
+        let Got::Read(v) = fill::value_in(l, k + 1, file, places[k + 1], g.good, list.count) else {
+            r.number = 7;
+            r.detail = k + 1;
+            return r;
+        };
+        let c = Cell { value: v };
+        r.cells[k] = c;
+        k += 1;
+    }
+    let broken = match l {
+        Layout::Market => rules::of_market(
+            r.cells[2],
+            r.cells[3],
+            r.cells[17],
+            r.cells[18],
+            r.cells[19],
+            r.cells[20],
+            r.cells[21],
+            r.cells[22],
+            r.cells[23],
+            r.cells[24],
+            r.cells[25],
+            gradients,
+        ),
+        Layout::Mfrr => rules::of_ramps(r.cells[2], r.cells[3], r.cells[4], r.cells[5]),
+        Layout::Exclusion => rules::of_exclusion(r.cells[2], r.cells[3], r.cells[4], r.cells[6]),
+        Layout::Limitation => rules::of_limitation(
+            r.cells[2],
+            r.cells[3],
+            r.cells[4],
+            r.cells[5],
+            r.cells[6],
+            r.cells[8],
+        ),
+        Layout::Secondary => rules::of_secondary(r.cells[2], r.cells[3], r.cells[4], r.cells[5]),
+        Layout::VoltVar => rules::of_volt_var(
+            r.cells[2],
+            r.cells[3],
+            r.cells[4],
+            r.cells[5],
+            r.cells[6],
+            r.cells[7],
+            r.cells[8],
+            r.cells[9],
+            r.cells[10],
+        ),
+        Layout::Reserve => rules::of_reserve(r.cells[2], r.cells[3], r.cells[5], r.cells[6]),
+        _ => rules::of_order(r.cells[2], r.cells[3]),
+    };
     let unit = x.unit;
-    values_at(scan::front(&unit, x.size), file, l, row, places)
+    let early = judge(l, scan::front(&unit, x.size), file, row, places, broken);
+    r.number = early.number;
+    r.detail = early.detail;
+    r
 }
 
 // The answer of what was read: its refusal, or the record with the texts kept in their rooms.

@@ -9,6 +9,7 @@ use Rattle.record.specs.declared.Record.{Record}
 use Rattle.voltvar.specs.Table.{inTable}
 use Rattle.asked.specs.Values.{isFilled, instantIn, amountIn, isWord, triplesIn, notNegative}
 use Rattle.text.specs.Bytes.{all}
+use Rattle.value.specs.declared.Value.{Value}
 use lib.Dec.{leb, ltb}
 use lib.IntN.{pos}
 use lib.ListN.{take}
@@ -25,61 +26,84 @@ iff false b = not b
 abbrev pub onlyIf : Bool → Bool → Bool
 onlyIf a b = not a || b
 
-module _ (cells : List Cell) where
-  abbrev pub filled : ℕ → Bool
-  filled k = isFilled (fieldOf cells k)
+-- ---- each rule on the values that it asks for
 
-  abbrev pub says : ℕ → ℕ → Bool
-  says k w = isWord w (fieldOf cells k)
+-- 1. Start before end, by instant, where an end is filled.
+abbrev pub ordered : Value → Value → Bool
+ordered start end = onlyIf (isFilled end) (ltb (instantIn start) (instantIn end))
 
-  abbrev pub instantAt : ℕ → ℕ
-  instantAt k = instantIn (fieldOf cells k)
+-- 1. mFRR: TINI1 < TFIN1 ≤ TINI2 < TFIN2.
+abbrev pub ramped : Value → Value → Value → Value → Bool
+ramped tini1 tfin1 tini2 tfin2 =
+    ltb (instantIn tini1) (instantIn tfin1) && leb (instantIn tfin1) (instantIn tini2) && ltb (instantIn tini2) (instantIn tfin2)
 
-  -- 1. Start before end, by instant, where an end is filled.
-  unfoldable pub inOrder : Bool
-  inOrder = onlyIf (filled 4) (ltb (instantAt 3) (instantAt 4))
+-- 2. Update date filled exactly with SCWEB (word 7).
+abbrev pub updates : Value → Value → Bool
+updates origin update = iff (isFilled update) (isWord 7 origin)
 
-  -- 1. mFRR: TINI1 < TFIN1 ≤ TINI2 < TFIN2.
-  unfoldable pub ramps : Bool
-  ramps = ltb (instantAt 3) (instantAt 4) && leb (instantAt 4) (instantAt 5) && ltb (instantAt 5) (instantAt 6)
-
-  -- 2. Update date filled exactly with SCWEB (word 7).
-  unfoldable pub updated : Bool
-  updated = iff (filled 19) (says 18 7)
-
-  -- 3. Below a filled h line all are filled.
-  unfoldable pub profiled : Bool
-  profiled =
-      onlyIf (filled 20) (filled 21)
-      && onlyIf (filled 21) (filled 22)
-      && onlyIf (filled 22) (filled 23)
-      && onlyIf (filled 23) (filled 24)
-      && onlyIf (filled 24) (filled 25)
-
-  -- 5. EB reason filled exactly when `Riammissione` is NO (word 5).
-  unfoldable pub excluded : Bool
-  excluded = iff (filled 5) (says 7 5)
-
-  -- 6. LB: SI (word 4) leaves both limits and the reason blank; NO has a reason and at least one limit; minimum ≤ maximum if both.
-  unfoldable pub limited : Bool
-  limited =
-      cond (says 9 4) (not (filled 5) && not (filled 6) && not (filled 7))
-      (filled 7 && (filled 5 || filled 6) && onlyIf (filled 5 && filled 6) (leZ (amountIn (fieldOf cells 6)) (amountIn (fieldOf cells 5))))
-
-  -- 7. SR: two numbers, neither negative, or blank with SOSPENSIONE (word 10) only.
-  unfoldable pub banded : Bool
-  banded = cond (filled 6) (notNegative (fieldOf cells 6)) (says 5 10)
-
-  -- 9. QR: exactly one quantity filled.
-  unfoldable pub quantified : Bool
-  quantified = iff (filled 6) (not (filled 7))
+-- 3. Below a filled h line all are filled.
+abbrev pub fills : Value → Value → Value → Value → Value → Value → Bool
+fills h1 h2 h3 h4 h5 h6 =
+    onlyIf (isFilled h1) (isFilled h2)
+    && onlyIf (isFilled h2) (isFilled h3)
+    && onlyIf (isFilled h3) (isFilled h4)
+    && onlyIf (isFilled h4) (isFilled h5)
+    && onlyIf (isFilled h5) (isFilled h6)
 
 -- 4. Pmin ≤ Pmax; gradient above 0.
 unfoldable pub rises : Triple → Bool
 rises t = leZ (t .low) (t .high) && ltZ (pos 0) (t .gradient)
 
-unfoldable pub sloped : List Cell → List Triple → Bool
-sloped cells gradients = all rises (take (triplesIn (fieldOf cells 26)) gradients)
+abbrev pub slopes : Value → List Triple → Bool
+slopes bands gradients = all rises (take (triplesIn bands) gradients)
+
+-- 5. EB reason filled exactly when `Riammissione` is NO (word 5).
+abbrev pub excludes : Value → Value → Bool
+excludes reason again = iff (isFilled reason) (isWord 5 again)
+
+-- 6. LB: SI (word 4) leaves both limits and the reason blank; NO has a reason and at least one limit; minimum ≤ maximum if both.
+abbrev pub limits : Value → Value → Value → Value → Bool
+limits high low reason again =
+    cond (isWord 4 again) (not (isFilled high) && not (isFilled low) && not (isFilled reason))
+    (isFilled reason && (isFilled high || isFilled low) && onlyIf (isFilled high && isFilled low) (leZ (amountIn low) (amountIn high)))
+
+-- 7. SR: two numbers, neither negative, or blank with SOSPENSIONE (word 10) only.
+abbrev pub bands : Value → Value → Bool
+bands action band = cond (isFilled band) (notNegative band) (isWord 10 action)
+
+-- 9. QR: exactly one quantity filled.
+abbrev pub quantifies : Value → Value → Bool
+quantifies power energy = iff (isFilled power) (not (isFilled energy))
+
+-- ---- and on the fields of a message
+
+module _ (cells : List Cell) where
+  unfoldable pub inOrder : Bool
+  inOrder = ordered (fieldOf cells 3) (fieldOf cells 4)
+
+  unfoldable pub ramps : Bool
+  ramps = ramped (fieldOf cells 3) (fieldOf cells 4) (fieldOf cells 5) (fieldOf cells 6)
+
+  unfoldable pub updated : Bool
+  updated = updates (fieldOf cells 18) (fieldOf cells 19)
+
+  unfoldable pub profiled : Bool
+  profiled = fills (fieldOf cells 20) (fieldOf cells 21) (fieldOf cells 22) (fieldOf cells 23) (fieldOf cells 24) (fieldOf cells 25)
+
+  unfoldable pub sloped : List Triple → Bool
+  sloped gradients = slopes (fieldOf cells 26) gradients
+
+  unfoldable pub excluded : Bool
+  excluded = excludes (fieldOf cells 5) (fieldOf cells 7)
+
+  unfoldable pub limited : Bool
+  limited = limits (fieldOf cells 5) (fieldOf cells 6) (fieldOf cells 7) (fieldOf cells 9)
+
+  unfoldable pub banded : Bool
+  banded = bands (fieldOf cells 5) (fieldOf cells 6)
+
+  unfoldable pub quantified : Bool
+  quantified = quantifies (fieldOf cells 6) (fieldOf cells 7)
 
 -- ---- a rule's number and whether it holds
 

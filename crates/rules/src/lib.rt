@@ -9,73 +9,73 @@ use layout::Layout;
 use list::Triple;
 use record::Cell;
 use record::Record;
-ghost use Prim.Native.Nat.{_≤_};
-ghost use Rattle.record.specs.Records.{fieldOf};
-ghost use Rattle.rules.specs.Rules.{filled, says, instantAt, inOrder, ramps, updated, profiled, excluded, limited, banded, quantified, rises, sloped, rule, lowest, rulesOf, brokenIn};
-ghost use Rattle.asked.specs.Values.{amountIn};
+ghost use Rattle.rules.specs.Rules.{ordered, ramped, updates, fills, rises, slopes, excludes, limits, bands, quantifies, rule, lowest, rulesOf, brokenIn};
+ghost use Rattle.asked.specs.Values.{isFilled, isWord, instantIn, amountIn};
 ghost use Rattle.text.specs.Bytes.{all};
+ghost use Rattle.voltvar.specs.Table.{lineIn, isRow};
 ghost use lib.ListN.{take};
 ghost use lib.Signed.{leZ};
 ghost use mathlib.Core.List.{[], _∷_};
 ghost use mathlib.Core.Path.{_≡_};
 
-fn filled(cells: [Cell; 26], k: usize) -> bool
-    requires { ⌜ (1 ≤ k) × (k ≤ 26) ⌝ }
-    ensures { λ r. ⌜ r ≡ filled cells k ⌝ }
+// Whether a field is filled.
+fn filled(c: Cell) -> bool
+    ensures { λ r. ⌜ r ≡ isFilled (c .value) ⌝ }
 {
-    is_filled(record::field(cells, k))
+    let v = c.value;
+    is_filled(v)
 }
 
-// The field k is the word w.
-fn says(cells: [Cell; 26], k: usize, w: u8) -> bool
-    requires { ⌜ (1 ≤ k) × (k ≤ 26) ⌝ }
-    ensures { λ r. ⌜ r ≡ says cells k w ⌝ }
+// The field is the word w.
+fn says(c: Cell, w: u8) -> bool
+    ensures { λ r. ⌜ r ≡ isWord w (c .value) ⌝ }
 {
-    word_number(record::field(cells, k)) == w
+    let v = c.value;
+    word_number(v) == w
 }
 
-fn instant_at(cells: [Cell; 26], k: usize) -> u64
-    requires { ⌜ (1 ≤ k) × (k ≤ 26) ⌝ }
-    ensures { λ r. ⌜ r ≡ instantAt cells k ⌝ }
+fn instant_at(c: Cell) -> u64
+    ensures { λ r. ⌜ r ≡ instantIn (c .value) ⌝ }
 {
-    instant_in(record::field(cells, k))
+    let v = c.value;
+    instant_in(v)
 }
 
 // 1. Start before end, by instant, where an end is filled.
-fn in_order(cells: [Cell; 26]) -> bool
-    ensures { λ r. ⌜ r ≡ inOrder cells ⌝ }
+fn in_order(start: Cell, end: Cell) -> bool
+    ensures { λ r. ⌜ r ≡ ordered (start .value) (end .value) ⌝ }
 {
-    !filled(cells, 4) | (instant_at(cells, 3) < instant_at(cells, 4))
+    !filled(end) | (instant_at(start) < instant_at(end))
 }
 
 // 1. mFRR: TINI1 < TFIN1 <= TINI2 < TFIN2.
-fn ramps(cells: [Cell; 26]) -> bool
-    ensures { λ r. ⌜ r ≡ ramps cells ⌝ }
+fn ramps(c3: Cell, c4: Cell, c5: Cell, c6: Cell) -> bool
+    ensures { λ r. ⌜ r ≡ ramped (c3 .value) (c4 .value) (c5 .value) (c6 .value) ⌝ }
 {
-    let tini1 = instant_at(cells, 3);
-    let tfin1 = instant_at(cells, 4);
-    let tini2 = instant_at(cells, 5);
-    let tfin2 = instant_at(cells, 6);
+    let tini1 = instant_at(c3);
+    let tfin1 = instant_at(c4);
+    let tini2 = instant_at(c5);
+    let tfin2 = instant_at(c6);
     (tini1 < tfin1) & (tfin1 <= tini2) & (tini2 < tfin2)
 }
 
 // 2. Update date filled exactly with SCWEB.
-fn updated(cells: [Cell; 26]) -> bool
-    ensures { λ r. ⌜ r ≡ updated cells ⌝ }
+fn updated(origin: Cell, update: Cell) -> bool
+    ensures { λ r. ⌜ r ≡ updates (origin .value) (update .value) ⌝ }
 {
-    filled(cells, 19) == says(cells, 18, 7)
+    filled(update) == says(origin, 7)
 }
 
 // 3. Below a filled h line all are filled.
-fn profiled(cells: [Cell; 26]) -> bool
-    ensures { λ r. ⌜ r ≡ profiled cells ⌝ }
+fn profiled(c1: Cell, c2: Cell, c3: Cell, c4: Cell, c5: Cell, c6: Cell) -> bool
+    ensures { λ r. ⌜ r ≡ fills (c1 .value) (c2 .value) (c3 .value) (c4 .value) (c5 .value) (c6 .value) ⌝ }
 {
-    let h1 = filled(cells, 20);
-    let h2 = filled(cells, 21);
-    let h3 = filled(cells, 22);
-    let h4 = filled(cells, 23);
-    let h5 = filled(cells, 24);
-    let h6 = filled(cells, 25);
+    let h1 = filled(c1);
+    let h2 = filled(c2);
+    let h3 = filled(c3);
+    let h4 = filled(c4);
+    let h5 = filled(c5);
+    let h6 = filled(c6);
     (!h1 | h2) & (!h2 | h3) & (!h3 | h4) & (!h4 | h5) & (!h5 | h6)
 }
 
@@ -102,61 +102,65 @@ fn all_rise(gradients: [Triple; 16], n: usize) -> bool
     true
 }
 
-fn sloped(cells: [Cell; 26], gradients: [Triple; 16]) -> bool
-    ensures { λ r. ⌜ r ≡ sloped cells gradients ⌝ }
+fn sloped(bands: Cell, gradients: [Triple; 16]) -> bool
+    ensures { λ r. ⌜ r ≡ slopes (bands .value) gradients ⌝ }
 {
-    all_rise(gradients, triples_in(record::field(cells, 26)))
+    let v = bands.value;
+    all_rise(gradients, triples_in(v))
 }
 
 // 5. EB reason filled exactly when `Riammissione` is NO.
-fn excluded(cells: [Cell; 26]) -> bool
-    ensures { λ r. ⌜ r ≡ excluded cells ⌝ }
+fn excluded(reason: Cell, again: Cell) -> bool
+    ensures { λ r. ⌜ r ≡ excludes (reason .value) (again .value) ⌝ }
 {
-    filled(cells, 5) == says(cells, 7, 5)
+    filled(reason) == says(again, 5)
 }
 
 // The minimum of LB is at most its maximum.
-fn at_most(cells: [Cell; 26]) -> bool
-    ensures { λ r. ⌜ r ≡ leZ (amountIn (fieldOf cells 6)) (amountIn (fieldOf cells 5)) ⌝ }
+fn at_most(c5: Cell, c6: Cell) -> bool
+    ensures { λ r. ⌜ r ≡ leZ (amountIn (c6 .value)) (amountIn (c5 .value)) ⌝ }
 {
-    amount_in(record::field(cells, 6)) <= amount_in(record::field(cells, 5))
+    let high = c5.value;
+    let low = c6.value;
+    amount_in(low) <= amount_in(high)
 }
 
 // 6. LB: SI leaves both limits and the reason blank; NO has a reason and at least one limit; minimum <= maximum if both.
-fn limited(cells: [Cell; 26]) -> bool
-    ensures { λ r. ⌜ r ≡ limited cells ⌝ }
+fn limited(c5: Cell, c6: Cell, c7: Cell, c9: Cell) -> bool
+    ensures { λ r. ⌜ r ≡ limits (c5 .value) (c6 .value) (c7 .value) (c9 .value) ⌝ }
 {
-    let high = filled(cells, 5);
-    let low = filled(cells, 6);
-    let reason = filled(cells, 7);
-    if says(cells, 9, 4) {
+    let high = filled(c5);
+    let low = filled(c6);
+    let reason = filled(c7);
+    if says(c9, 4) {
         return !high & !low & !reason;
     }
-    reason & (high | low) & (!(high & low) | at_most(cells))
+    reason & (high | low) & (!(high & low) | at_most(c5, c6))
 }
 
 // 7. SR: two numbers, neither negative, or blank with SOSPENSIONE only.
-fn banded(cells: [Cell; 26]) -> bool
-    ensures { λ r. ⌜ r ≡ banded cells ⌝ }
+fn banded(c5: Cell, c6: Cell) -> bool
+    ensures { λ r. ⌜ r ≡ bands (c5 .value) (c6 .value) ⌝ }
 {
-    if filled(cells, 6) {
-        return not_negative(record::field(cells, 6));
+    if filled(c6) {
+        let v = c6.value;
+        return not_negative(v);
     }
-    says(cells, 5, 10)
+    says(c5, 10)
 }
 
 // 9. QR: exactly one quantity filled.
-fn quantified(cells: [Cell; 26]) -> bool
-    ensures { λ r. ⌜ r ≡ quantified cells ⌝ }
+fn quantified(c6: Cell, c7: Cell) -> bool
+    ensures { λ r. ⌜ r ≡ quantifies (c6 .value) (c7 .value) ⌝ }
 {
-    filled(cells, 6) == !filled(cells, 7)
+    filled(c6) == !filled(c7)
 }
 
 // Rule 1, then one more.
-fn order_and(cells: [Cell; 26], number: u8, holds: bool) -> u8
-    ensures { λ r. ⌜ r ≡ lowest (rule 1 (inOrder cells) ∷ rule number holds ∷ []) ⌝ }
+fn order_and(c3: Cell, c4: Cell, number: u8, holds: bool) -> u8
+    ensures { λ r. ⌜ r ≡ lowest (rule 1 (ordered (c3 .value) (c4 .value)) ∷ rule number holds ∷ []) ⌝ }
 {
-    if !in_order(cells) {
+    if !in_order(c3, c4) {
         return 1;
     }
     if !holds {
@@ -165,40 +169,103 @@ fn order_and(cells: [Cell; 26], number: u8, holds: bool) -> u8
     0
 }
 
-fn broken_in_market(cells: [Cell; 26], gradients: [Triple; 16]) -> u8
-    ensures { λ r. ⌜ r ≡ lowest (rulesOf Layout.Market cells gradients) ⌝ }
+// The lowest broken rule of each layout's values; 0 where all hold.
+
+pub fn of_market(
+    c3: Cell,
+    c4: Cell,
+    c18: Cell,
+    c19: Cell,
+    c20: Cell,
+    c21: Cell,
+    c22: Cell,
+    c23: Cell,
+    c24: Cell,
+    c25: Cell,
+    c26: Cell,
+    gradients: [Triple; 16],
+) -> u8
+    ensures { λ r. ⌜ r ≡ lowest (
+        rule 1 (ordered (c3 .value) (c4 .value))
+        ∷ rule 2 (updates (c18 .value) (c19 .value))
+        ∷ rule 3 (fills (c20 .value) (c21 .value) (c22 .value) (c23 .value) (c24 .value) (c25 .value))
+        ∷ rule 4 (slopes (c26 .value) gradients)
+        ∷ []) ⌝ }
 {
-    if !in_order(cells) {
+    if !in_order(c3, c4) {
         return 1;
     }
-    if !updated(cells) {
+    if !updated(c18, c19) {
         return 2;
     }
-    if !profiled(cells) {
+    if !profiled(c20, c21, c22, c23, c24, c25) {
         return 3;
     }
-    if !sloped(cells, gradients) {
+    if !sloped(c26, gradients) {
         return 4;
     }
     0
 }
 
-fn broken_in_ramps(cells: [Cell; 26]) -> u8
-    ensures { λ r. ⌜ r ≡ lowest (rule 1 (ramps cells) ∷ []) ⌝ }
+pub fn of_ramps(c3: Cell, c4: Cell, c5: Cell, c6: Cell) -> u8
+    ensures { λ r. ⌜ r ≡ lowest (rule 1 (ramped (c3 .value) (c4 .value) (c5 .value) (c6 .value)) ∷ []) ⌝ }
 {
-    if !ramps(cells) {
+    if !ramps(c3, c4, c5, c6) {
         return 1;
     }
     0
 }
 
-fn out_of_order(cells: [Cell; 26]) -> u8
-    ensures { λ r. ⌜ r ≡ lowest (rule 1 (inOrder cells) ∷ []) ⌝ }
+pub fn of_order(c3: Cell, c4: Cell) -> u8
+    ensures { λ r. ⌜ r ≡ lowest (rule 1 (ordered (c3 .value) (c4 .value)) ∷ []) ⌝ }
 {
-    if !in_order(cells) {
+    if !in_order(c3, c4) {
         return 1;
     }
     0
+}
+
+pub fn of_exclusion(c3: Cell, c4: Cell, c5: Cell, c7: Cell) -> u8
+    ensures { λ r. ⌜ r ≡ lowest (rule 1 (ordered (c3 .value) (c4 .value)) ∷ rule 5 (excludes (c5 .value) (c7 .value)) ∷ []) ⌝ }
+{
+    order_and(c3, c4, 5, excluded(c5, c7))
+}
+
+pub fn of_limitation(c3: Cell, c4: Cell, c5: Cell, c6: Cell, c7: Cell, c9: Cell) -> u8
+    ensures { λ r. ⌜ r ≡ lowest (rule 1 (ordered (c3 .value) (c4 .value)) ∷ rule 6 (limits (c5 .value) (c6 .value) (c7 .value) (c9 .value)) ∷ []) ⌝ }
+{
+    order_and(c3, c4, 6, limited(c5, c6, c7, c9))
+}
+
+pub fn of_secondary(c3: Cell, c4: Cell, c5: Cell, c6: Cell) -> u8
+    ensures { λ r. ⌜ r ≡ lowest (rule 1 (ordered (c3 .value) (c4 .value)) ∷ rule 7 (bands (c5 .value) (c6 .value)) ∷ []) ⌝ }
+{
+    order_and(c3, c4, 7, banded(c5, c6))
+}
+
+pub fn of_volt_var(
+    c3: Cell,
+    c4: Cell,
+    c5: Cell,
+    c6: Cell,
+    c7: Cell,
+    c8: Cell,
+    c9: Cell,
+    c10: Cell,
+    c11: Cell,
+) -> u8
+    ensures { λ r. ⌜ r ≡ lowest (
+        rule 1 (ordered (c3 .value) (c4 .value))
+        ∷ rule 8 (isRow (lineIn (c5 .value) (c6 .value) (c7 .value) (c8 .value) (c9 .value) (c10 .value) (c11 .value)))
+        ∷ []) ⌝ }
+{
+    order_and(c3, c4, 8, voltvar::in_table(c5, c6, c7, c8, c9, c10, c11))
+}
+
+pub fn of_reserve(c3: Cell, c4: Cell, c6: Cell, c7: Cell) -> u8
+    ensures { λ r. ⌜ r ≡ lowest (rule 1 (ordered (c3 .value) (c4 .value)) ∷ rule 9 (quantifies (c6 .value) (c7 .value)) ∷ []) ⌝ }
+{
+    order_and(c3, c4, 9, quantified(c6, c7))
 }
 
 // The lowest broken rule of a layout's values; 0 where all hold.
@@ -206,16 +273,44 @@ pub fn lowest_of(l: Layout, cells: [Cell; 26], gradients: [Triple; 16]) -> u8
     ensures { λ r. ⌜ r ≡ lowest (rulesOf l cells gradients) ⌝ }
 {
     match l {
-        Layout::Market => broken_in_market(cells, gradients),
-        Layout::Mfrr => broken_in_ramps(cells),
-        Layout::Exclusion => order_and(cells, 5, excluded(cells)),
-        Layout::Limitation => order_and(cells, 6, limited(cells)),
-        Layout::Secondary => order_and(cells, 7, banded(cells)),
-        Layout::VoltVar => order_and(cells, 8, voltvar::in_table(cells)),
-        Layout::Reserve => order_and(cells, 9, quantified(cells)),
-        Layout::Revocation => out_of_order(cells),
-        Layout::Generic => out_of_order(cells),
-        Layout::Rejection => out_of_order(cells),
+        Layout::Market => of_market(
+            cells[2],
+            cells[3],
+            cells[17],
+            cells[18],
+            cells[19],
+            cells[20],
+            cells[21],
+            cells[22],
+            cells[23],
+            cells[24],
+            cells[25],
+            gradients,
+        ),
+        Layout::Mfrr => of_ramps(cells[2], cells[3], cells[4], cells[5]),
+        Layout::Exclusion => of_exclusion(cells[2], cells[3], cells[4], cells[6]),
+        Layout::Limitation => of_limitation(
+            cells[2],
+            cells[3],
+            cells[4],
+            cells[5],
+            cells[6],
+            cells[8],
+        ),
+        Layout::Secondary => of_secondary(cells[2], cells[3], cells[4], cells[5]),
+        Layout::VoltVar => of_volt_var(
+            cells[2],
+            cells[3],
+            cells[4],
+            cells[5],
+            cells[6],
+            cells[7],
+            cells[8],
+            cells[9],
+            cells[10],
+        ),
+        Layout::Reserve => of_reserve(cells[2], cells[3], cells[5], cells[6]),
+        _ => of_order(cells[2], cells[3]),
     }
 }
 

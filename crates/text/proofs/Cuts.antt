@@ -55,21 +55,26 @@ drop-over s i k =
 
 -- n elements from i + k on, one by one
 module _ {A : Type 0} (d : A) (s : List A) (i : ℕ) where
-  abbrev each : ℕ → ℕ → List A
+  abbrev pub each : ℕ → ℕ → List A
   each zero k = []
   each (suc n) k = getD s (i + k) d ∷ each n (suc k)
 
-  take-each : (n k : ℕ) → i + k + n ≤ length s → take n (drop (i + k) s) ≡ each n k
+  pub take-each : (n k : ℕ) → i + k + n ≤ length s → take n (drop (i + k) s) ≡ each n k
   take-each zero k h = refl
   take-each (suc n) k h =
       let m : suc (i + k) ≡ i + suc k = omega arith in
       let g : i + k < length s = omega arith in
       rw (drop-cons s (i + k) d g, m) (ap (λ (l : List A). getD s (i + k) d ∷ l) (take-each n (suc k) (omega arith)))
 
-  eight : i + 8 ≤ length s → part i (i + 8) s ≡ getD s i d ∷ each 7 1
+  pub eight : i + 8 ≤ length s → part i (i + 8) s ≡ getD s i d ∷ each 7 1
   eight h =
       let m : i + 8 - i ≡ 8 = omega arith in
       rw m (rw add-zero at (take-each 8 0 (omega arith)))
+
+  pub four : i + 4 ≤ length s → part i (i + 4) s ≡ getD s i d ∷ each 3 1
+  four h =
+      let m : i + 4 - i ≡ 4 = omega arith in
+      rw m (rw add-zero at (take-each 4 0 (omega arith)))
 
 -- ---- one step at an index
 
@@ -402,6 +407,13 @@ starts-short (x ∷ t) (y ∷ s) h =
     let k : length s < length t = omega (arith, h) in
     let r = starts-short t s k in
     by-test (eqb x y) (λ e. rw e r) (λ e. rw e)
+
+-- one after the other
+pub starts-append : (a b s : List ℕ) → starts (a ++ b) s ≡ (starts a s && starts b (drop (length a) s))
+unfolding starts
+starts-append [] b s = refl
+starts-append (x ∷ a) b [] = refl
+starts-append (x ∷ a) b (y ∷ s) = by-test (eqb x y) (λ e. rw e (starts-append a b s)) (λ e. rw e)
 
 -- it is the one text, and then the rest
 pub starts-cut : (t s : List ℕ) → starts t s ≡ true → s ≡ t ++ drop (length t) s

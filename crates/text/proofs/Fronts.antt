@@ -58,11 +58,27 @@ module _ (p : ℕ → Bool) where
   run-front (suc m) (x ∷ t) e =
       by-test (p x) (λ y. rw y (run-front m t (omega (arith, run-yes x t y)))) (λ n. absurd (omega (arith, run-no x t n)))
 
+  -- within the run
+  pub run-holds : (m : ℕ) (t : List ℕ) → m < runOf p t → p (getD t m 0) ≡ true
+  unfolding skip
+  run-holds m [] h = absurd (omega arith)
+  run-holds zero (x ∷ t) h = by-test (p x) (λ y. y) (λ n. absurd (omega (arith, run-no x t n)))
+  run-holds (suc m) (x ∷ t) h =
+      by-test (p x) (λ y. run-holds m t (omega (arith, run-yes x t y))) (λ n. absurd (omega (arith, run-no x t n)))
+
   -- ---- a line that should be a run and then its end, b
 
   module _ (b : ℕ) (end : p b ≡ false) where
     other : (x : ℕ) → p x ≡ true → eqb x b ≡ false
     other x y = ne-eqb x b (λ e. true≢false (sym y ∙ ap p e ∙ end))
+
+    -- the line is as long as the run at least
+    pub run-within : (t : List ℕ) → runOf p t ≤ length (upto (is b) t)
+    unfolding upto skip
+    run-within [] = omega arith
+    run-within (x ∷ t) =
+        by-test (p x) (λ y. let h = run-within t in rw (other x y) (omega (arith, run-yes x t y)))
+        (λ n. omega (arith, run-no x t n))
 
     -- b is not reached
     pub run-open : (t : List ℕ) → runOf p t ≡ length t → any (is b) t ≡ false

@@ -5,3 +5,4 @@ pub mod Numerals
 pub mod Runs
 pub mod Tables
 pub mod Fronts
+pub mod Loads

@@ -1,19 +1,21 @@
 -- Digits: one step along them, what is told of digits that were read, and that digits which are written read back.
 -- All of it is shown once, over the number of digits. Assumes nothing.
-use Prim.Native.Nat.{ℕ, zero, suc, _+_, _-_, _*_, _/_, _%_, _^_, _≤_, _<_}
-use Rattle.text.proofs.Cuts.{drop-step}
+use Prim.Native.Nat.{ℕ, zero, suc, _+_, _-_, _*_, _/_, _%_, _^_, min, _≤_, _<_}
+use Rattle.text.proofs.Cuts.{drop-step, skip-length}
+use Rattle.text.proofs.Fronts.{run-here, run-end}
 use Rattle.text.proofs.Tests.{by-le, and-parts, within-tells, untold}
-use Rattle.text.specs.Bytes.{all, isDigit, upto, firstOf}
-use Rattle.text.specs.Digits.{numberFrom, numberIn, digitsOf, digitsText, wholeText}
+use Rattle.text.specs.Bytes.{all, isDigit, skip, upto, firstOf, runOf}
+use Rattle.text.specs.Digits.{numberFrom, numberIn, digitsOf, leadOf, digitsText, wholeText}
 use Rattle.text.specs.declared.digits.Digits.the-variants.{Are, Not}
-use borrow.Author.Tests.{le-leb, lt-leb, leb-true, ne-eqb, lt-ltb, le-ltb}
+use borrow.Author.Tests.{le-leb, lt-leb, leb-true, ne-eqb, lt-ltb, le-ltb, ltb-true, ltb-false}
 use lib.Arith.{mod-mul}
-use lib.Dec.{leb, lit<}
-use lib.ListN.{length, getD, drop, drop-of-length-le}
+use lib.Dec.{leb, ltb, lit<}
+use lib.ListN.{length, getD, take, drop, length-drop, drop-of-length-le}
+use lib.Seq.{take-suc}
 use mathlib.Core.Bool.{Bool, true, false, _&&_, and-false, cond, true≢false}
 use mathlib.Core.List.{List, [], _∷_, _++_}
 use mathlib.Core.Path.{_≡_, refl, sym, ap, _∙_}
-use native.Mathlib.Nat.{pow-suc, pow-succ', one-le-pow, pow-le-pow-right, mul-le-mul-right, mod-eq-of-lt, div-one, div-div-eq-div-mul, le-div-iff-mul-le, div-lt-iff-lt-mul}
+use native.Mathlib.Nat.{le-refl, pow-suc, pow-succ', one-le-pow, pow-le-pow-right, mul-le-mul-right, mod-eq-of-lt, div-one, div-div-eq-div-mul, le-div-iff-mul-le, div-lt-iff-lt-mul}
 use native.Mathlib.Numerals.{add-one}
 use native.Mathlib.Omega.{arith}
 
@@ -63,6 +65,47 @@ refused-other most s e = simp (e, and-false)
 pub taken : (most : ℕ) (s : List ℕ) → 1 ≤ length s → length s ≤ most → all isDigit s ≡ true → Are (numberIn s) ≡ digitsOf most s
 unfolding digitsOf
 taken most s h k e = simp (e, le-leb _ _ h, le-leb _ _ k)
+
+-- what is written is no less than what was written before
+number-least : (acc : ℕ) (s : List ℕ) → acc ≤ numberFrom acc s
+unfolding numberFrom
+number-least acc [] = le-refl acc
+number-least acc (b ∷ s) = omega (arith, number-least (acc * 10 + (b - 48)) s)
+
+-- digits that begin with no zero write no zero
+pub number-some : (s : List ℕ) → 1 ≤ length s → all isDigit s ≡ true → (getD s 0 0 ≡ 48 → ⊥) → 1 ≤ numberIn s
+unfolding numberFrom all
+number-some [] h e n = absurd (omega arith)
+number-some (b ∷ s) h e n =
+    let r = digit-range b (and-parts (isDigit b) (all isDigit s) e .0) in
+    omega (arith, number-least (0 * 10 + (b - 48)) s, n)
+
+-- ---- the digits at the front of a text
+
+number-last : (acc : ℕ) (l : List ℕ) (b : ℕ) → numberFrom acc (l ++ b ∷ []) ≡ numberFrom acc l * 10 + (b - 48)
+unfolding numberFrom
+number-last acc [] b = refl
+number-last acc (x ∷ l) b = number-last (acc * 10 + (x - 48)) l b
+
+-- one more of them
+pub lead-on : (s : List ℕ) (i v : ℕ) → i < length s → v ≡ numberIn (take i s) → v * 10 + (getD s i 0 - 48) ≡ numberIn (take (i + 1) s)
+lead-on s i v h e =
+    rw (e, add-one, take-suc s i 0 h) (sym (number-last 0 (take i s) (getD s i 0)))
+
+-- another byte, or none, or as many as may be
+module _ (s : List ℕ) (most i v : ℕ) (low : i ≤ most) (so-far : skip isDigit s ≡ skip isDigit (drop i s)) (read : v ≡ numberIn (take i s)) where
+  led : i ≡ min most (runOf isDigit s) → record { count = i; value = v } ≡ leadOf most s
+  led e = rw (read, ← e)
+
+  pub lead-here : (ltb i (length s) && ltb i most) ≡ true → isDigit (getD s i 0) ≡ false → record { count = i; value = v } ≡ leadOf most s
+  lead-here t n =
+      let h = and-parts (ltb i (length s)) (ltb i most) t in
+      led (omega (arith, run-here isDigit s i so-far (ltb-true _ _ (h .0)) n))
+
+  pub lead-end : i ≤ length s → (ltb i (length s) && ltb i most) ≡ false → record { count = i; value = v } ≡ leadOf most s
+  lead-end h n =
+      by-le (length s) i (λ k. led (omega (arith, run-end isDigit s i so-far h k)))
+      (λ k. let m : ltb i most ≡ false = rw (lt-ltb i (length s) k) at n in led (omega (arith, ltb-false i most m, ap length so-far, skip-length isDigit (drop i s), length-drop i s)))
 
 -- digits write less than the power of ten of their count
 number-below : (acc : ℕ) (s : List ℕ) → all isDigit s ≡ true → numberFrom acc s < (acc + 1) * 10 ^ length s

@@ -1,18 +1,19 @@
 -- Runs of stores into a buffer: one put after another, a text byte by byte, the digits of a number, and the whole write.
 -- Assumes nothing.
 use Prim.Native.Nat.{ℕ, zero, suc, _+_, _-_, _/_, _%_, min, _≤_, _<_}
-use Rattle.text.proofs.Cuts.{tail}
+use Rattle.text.proofs.Cuts.{tail, eight}
 use Rattle.text.proofs.Numerals.{length-text, digits-last}
 use Rattle.text.proofs.Tests.{by-le}
+use Rattle.text.specs.Bytes.{part}
 use Rattle.text.specs.Digits.{digitsText, wholeText}
 use Rattle.text.specs.Puts.{wroteOf, bufferOf, roomOf}
 use Rattle.text.specs.declared.put.Wrote.the-variants.{To, NoRoom}
 use borrow.Author.Tests.{le-leb, lt-leb}
-use lib.ListN.{length, getD, take, drop, set, replicate, length-append, length-drop, length-replicate, drop-of-length-le}
-use lib.Seq.{sets, sets-eq, set-out, set-comm, drop-cons, drop-drop}
+use lib.ListN.{length, getD, take, drop, set, replicate, length-append, length-drop, length-replicate, drop-of-length-le, take-append-drop}
+use lib.Seq.{sets, sets-eq, set-out, set-comm, set-set, length-sets, length-take-le, take-suc, take-add, drop-drop}
 use mathlib.Core.List.{List, [], _∷_, _++_, append-assoc, append-nil}
 use mathlib.Core.Path.{_≡_, refl, sym, ap, _∙_}
-use native.Mathlib.Nat.{add-zero}
+use native.Mathlib.Nat.{add-zero, div-one}
 use native.Mathlib.Numerals.{add-one}
 use native.Mathlib.Omega.{arith}
 
@@ -59,15 +60,95 @@ then {l} {at} {t} {a} {l₁} {u} {b} {l₂} p q =
 pub same-puts : {l : List ℕ} {at : ℕ} {t : List ℕ} {r : ℕ} {m : List ℕ} (u : List ℕ) → t ≡ u → Puts l at t r m → (r ≡ at + length u) × (m ≡ sets l at u)
 same-puts u e p = rw (sym e) (p .place, p .bytes)
 
--- ---- a text byte by byte
+-- ---- a text from its front on
 
-pub text-step : (l m : List ℕ) (p q : ℕ) (t : List ℕ) (i : ℕ) → i < length t → q ≡ p + 1 → m ≡ sets l p (getD t i 0 ∷ []) → sets m q (drop (i + 1) t) ≡ sets l p (drop i t)
-text-step l m p q t i h e f = rw (f, e, add-one, add-one, drop-cons t i 0 h)
+-- k more bytes, behind the first i
+pub front-next : (l m : List ℕ) (at : ℕ) (t : List ℕ) (i k : ℕ) → i + k ≤ length t
+    → l ≡ sets m at (take i t) → sets l (at + i) (part i (i + k) t) ≡ sets m at (take (i + k) t)
+front-next l m at t i k h e =
+    let n : i + k - i ≡ k = omega arith in
+    let w : length (take i t) ≡ i = length-take-le i t (omega arith) in
+    rw (e, n, take-add i k t) (rw w at (sets-append m at (take i t) (take k (drop i t))))
 
--- no byte is left, or no room
-pub text-end : (l : List ℕ) (at : ℕ) (t : List ℕ) (i : ℕ) → min (length t) (length l - at) ≤ i → sets l (at + i) (drop i t) ≡ l
-text-end l at t i h =
-    by-le (length t) i (λ e. rw (drop-of-length-le t e)) (λ e. sets-past l (at + i) (drop i t) (omega arith))
+-- one more
+pub front-one : (l m : List ℕ) (at : ℕ) (t : List ℕ) (i : ℕ) → i < length t
+    → l ≡ sets m at (take i t) → set l (at + i) (getD t i 0) ≡ sets m at (take (i + 1) t)
+front-one l m at t i h e =
+    let w : length (take i t) ≡ i = length-take-le i t (omega arith) in
+    rw (e, add-one, take-suc t i 0 h) (rw w at (sets-append m at (take i t) (getD t i 0 ∷ [])))
+
+-- a store before a run may be made after it
+set-before : (l : List ℕ) (p q b : ℕ) (t : List ℕ) → p < q → set (sets l q t) p b ≡ sets (set l p b) q t
+set-before l p q b [] h = refl
+set-before l p q b (x ∷ t) h =
+    set-before (set l q x) p (suc q) b t (omega arith)
+    ∙ ap (λ (m : List ℕ). sets m (suc q) t) (set-comm l q p x b (λ e. omega arith))
+
+-- what is put twice is put once
+sets-twice : (l : List ℕ) (p : ℕ) (t u : List ℕ) → sets (sets l p t) p (t ++ u) ≡ sets l p (t ++ u)
+sets-twice l p [] u = refl
+sets-twice l p (x ∷ t) u =
+    let e : set (sets (set l p x) (suc p) t) p x ≡ sets (set l p x) (suc p) t =
+    set-before (set l p x) p (suc p) x t (omega arith) ∙ ap (λ (m : List ℕ). sets m (suc p) t) (set-set l p x x) in
+    ap (λ (m : List ℕ). sets m (suc p) (t ++ u)) e ∙ sets-twice (set l p x) (suc p) t u
+
+-- the last k bytes of the first j + k, of which the first i are put already
+pub front-last : (l m : List ℕ) (at : ℕ) (t : List ℕ) (i j k : ℕ) → j ≤ i → i ≤ j + k → j + k ≤ length t
+    → l ≡ sets m at (take i t) → sets l (at + j) (part j (j + k) t) ≡ sets m at (take (j + k) t)
+front-last l m at t i j k g h f e =
+    let before = sets m at (take j t) in
+    let n : i - j + (j + k - i) ≡ j + k - j = omega arith in
+    let o : i ≡ j + (i - j) = omega arith in
+    let p : j + (i - j) - j ≡ i - j = omega arith in
+    let first : sets before (at + j) (take (i - j) (drop j t)) ≡ l =
+    rw p at (front-next before m at t j (i - j) (omega arith) refl) ∙ ap (λ (x : ℕ). sets m at (take x t)) (sym o) ∙ sym e in
+    let cut : part j (j + k) t ≡ take (i - j) (drop j t) ++ take (j + k - i) (drop (i - j) (drop j t)) =
+    ap (λ (x : ℕ). take x (drop j t)) (sym n) ∙ take-add (i - j) (j + k - i) (drop j t) in
+    rw (sym first, cut) (sets-twice before (at + j) (take (i - j) (drop j t)) (take (j + k - i) (drop (i - j) (drop j t))))
+    ∙ ap (sets before (at + j)) (sym cut)
+    ∙ front-next before m at t j k f refl
+
+-- eight bytes, one by one
+pub eight-put : (l t : List ℕ) (at i : ℕ) → i + 8 ≤ length t
+    → set
+    (set
+    (set
+    (set
+    (set
+    (set (set (set l at (getD t i 0)) (at + 1) (getD t (i + 1) 0)) (at + 2) (getD t (i + 2) 0))
+    (at + 3)
+    (getD t (i + 3) 0))
+    (at + 4)
+    (getD t (i + 4) 0))
+    (at + 5)
+    (getD t (i + 5) 0))
+    (at + 6)
+    (getD t (i + 6) 0))
+    (at + 7)
+    (getD t (i + 7) 0)
+    ≡ sets l at (part i (i + 8) t)
+eight-put l t at i h =
+    let one : at + 1 ≡ suc at = omega arith in
+    let two : at + 2 ≡ suc (suc at) = omega arith in
+    let three : at + 3 ≡ suc (suc (suc at)) = omega arith in
+    let four : at + 4 ≡ suc (suc (suc (suc at))) = omega arith in
+    let five : at + 5 ≡ suc (suc (suc (suc (suc at)))) = omega arith in
+    let six : at + 6 ≡ suc (suc (suc (suc (suc (suc at))))) = omega arith in
+    let seven : at + 7 ≡ suc (suc (suc (suc (suc (suc (suc at)))))) = omega arith in
+    rw (eight 0 t i h, one, two, three, four, five, six, seven)
+
+-- what there is no room for is not put
+pub text-clip : (l : List ℕ) (at : ℕ) (t : List ℕ) (n : ℕ) → n ≡ min (length t) (length l - at) → sets l at (take n t) ≡ sets l at t
+text-clip l at t n e =
+    let m = sets l at (take n t) in
+    let w : length (take n t) ≡ n = length-take-le n t (omega arith) in
+    let none : sets m (at + n) (drop n t) ≡ m =
+    by-le (length t) n (λ h. rw (drop-of-length-le t h))
+    (λ h. sets-past m (at + n) (drop n t) (omega (arith, length-sets l at (take n t)))) in
+    sym none ∙ rw w at (sets-append l at (take n t) (drop n t)) ∙ ap (sets l at) (take-append-drop n t)
+
+pub text-none : (l : List ℕ) (at : ℕ) (t : List ℕ) (n : ℕ) → n ≡ min (length t) (length l - at) → n ≡ 0 → l ≡ sets l at t
+text-none l at t n e z = rw z at (text-clip l at t n e)
 
 -- ---- digits, the last one first
 
@@ -86,6 +167,26 @@ digit-step l m at zero n h f = absurd (omega arith)
 digit-step l m at (suc j) n h f =
     let d : suc j - 1 ≡ j = omega arith in
     rw (f, d, digits-last j n, sets-last l at (digitsText j (n / 10)) (48 + n % 10), length-text j (n / 10))
+
+-- two digits at a time
+pub two-digits : (l : List ℕ) (at j n : ℕ) → 1 < j
+    → sets (set (set l (at + (j - 2)) (48 + n % 100 / 10)) (at + (j - 2) + 1) (48 + n % 100 % 10)) at (digitsText (j - 2) (n / 100))
+    ≡ sets l at (digitsText j n)
+two-digits l at j n h =
+    let tens : n % 100 / 10 ≡ n / 10 % 10 = omega arith in
+    let ones : n % 100 % 10 ≡ n % 10 = omega arith in
+    let rest : n / 100 ≡ n / 10 / 10 = omega arith in
+    let place : at + (j - 2) + 1 ≡ at + (j - 1) = omega arith in
+    let fewer : j - 2 ≡ j - 1 - 1 = omega arith in
+    let last = digit-step l (set l (at + (j - 1)) (48 + n % 10)) at j n (omega arith) refl in
+    let swap = set-comm l (at + (j - 1 - 1)) (at + (j - 1)) (48 + n / 10 % 10) (48 + n % 10) (λ e. omega arith) in
+    rw (tens, ones, rest, place, fewer, swap)
+    (digit-step (set l (at + (j - 1)) (48 + n % 10)) _ at (j - 1) (n / 10) (omega arith) refl ∙ last)
+
+-- the last one alone, or none
+pub one-digit : (l : List ℕ) (at j n : ℕ) → j ≡ 1 → set l at (48 + n % 10) ≡ sets l at (digitsText j n)
+unfolding digitsText
+one-digit l at j n e = rw (e, div-one)
 
 pub digit-end : (l : List ℕ) (p j n : ℕ) → j ≤ 0 → sets l p (digitsText j n) ≡ l
 unfolding digitsText

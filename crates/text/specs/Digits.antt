@@ -1,10 +1,11 @@
 -- Decimal digits: the number that they write, and the digits that write a number. Shown once, over the number of digits.
-use Prim.Native.Nat.{ℕ, zero, suc, _+_, _-_, _*_, _/_, _%_, _^_}
-use Rattle.text.specs.Bytes.{all, isDigit}
+use Prim.Native.Nat.{ℕ, zero, suc, _+_, _-_, _*_, _/_, _%_, _^_, min}
+use Rattle.text.specs.Bytes.{all, isDigit, runOf}
 use Rattle.text.specs.declared.digits.Digits.{Digits}
 use Rattle.text.specs.declared.digits.Digits.the-variants.{Are, Not}
+use Rattle.text.specs.declared.digits.Led.{Led}
 use lib.Dec.{leb, ltb}
-use lib.ListN.{length}
+use lib.ListN.{length, take}
 use mathlib.Core.Bool.{_&&_, cond}
 use mathlib.Core.List.{List, [], _∷_}
 
@@ -19,6 +20,10 @@ numberIn s = numberFrom 0 s
 -- 1 to most digits and nothing else
 unfoldable pub digitsOf : ℕ → List ℕ → Digits
 digitsOf most s = cond (leb 1 (length s) && leb (length s) most && all isDigit s) (Are (numberIn s)) Not
+
+-- the digits that a text begins with, at most `most` of them: how many, and the number that they write
+abbrev pub leadOf : ℕ → List ℕ → Led
+leadOf most s = record { count = min most (runOf isDigit s); value = numberIn (take (min most (runOf isDigit s)) s) }
 
 -- the last k digits of n, first digit first
 unfoldable pub digitsText : ℕ → ℕ → List ℕ

@@ -2,3 +2,4 @@ pub mod Bytes
 pub mod Digits
 pub mod Lists
 pub mod Puts
+pub mod Words

@@ -1,7 +1,7 @@
 // Decimal digits: reading them, and how many a number has.
 ghost use Prim.Native.Nat.{_^_, _≤_, _<_};
-ghost use Rattle.text.specs.Bytes.{isDigit, runOf};
-ghost use Rattle.text.specs.Digits.{digitsOf, digitsText, wholeText};
+ghost use Rattle.text.specs.Bytes.{isDigit};
+ghost use Rattle.text.specs.Digits.{digitsOf, leadOf, digitsText, wholeText};
 ghost use mathlib.Core.Path.{_≡_};
 
 // The number that digits write, or that they are none.
@@ -17,20 +17,6 @@ pub fn is_digit(b: u8) -> bool
         b'0'..=b'9' => true,
         _ => false,
     }
-}
-
-// How many digits it begins with.
-pub fn run(s: &[u8]) -> usize
-    ensures { λ r. ⌜ r ≡ runOf isDigit (now (s .entry)) ⌝ }
-{
-    let mut i = 0;
-    while i < s.len() {
-        if !is_digit(s[i]) {
-            return i;
-        }
-        i += 1;
-    }
-    i
 }
 
 // The number that s writes, where it is 1 to most digits and nothing else.
@@ -55,6 +41,30 @@ pub fn read_digits(s: &[u8], most: usize) -> Digits
         i += 1;
     }
     Digits::Are(acc)
+}
+
+// The digits that a text begins with: how many, and the number that they write.
+pub struct Led {
+    pub count: usize,
+    pub value: u64,
+}
+
+// The first digits of s, at most `most` of them.
+pub fn lead(s: &[u8], most: usize) -> Led
+    requires { ⌜ most ≤ 10 ⌝ }
+    ensures { λ r. ⌜ r ≡ leadOf most (now (s .entry)) ⌝ }
+{
+    let mut value: u64 = 0;
+    let mut i = 0;
+    while (i < s.len()) & (i < most) {
+        let b = s[i];
+        if !is_digit(b) {
+            break;
+        }
+        value = value * 10 + (b - 48) as u64;
+        i += 1;
+    }
+    Led { count: i, value }
 }
 
 pub fn pow10(k: usize) -> u64

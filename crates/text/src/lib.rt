@@ -3,3 +3,4 @@
 pub mod digits;
 pub mod put;
 pub mod scan;
+pub mod words;

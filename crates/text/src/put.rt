@@ -2,9 +2,10 @@
 // so the same functions give a text's length, on an empty part of the buffer, and then its bytes.
 use crate::digits;
 ghost use Prim.Native.Nat.{_+_, _-_, min, _≤_, _<_};
+ghost use Rattle.text.specs.Bytes.{part};
 ghost use Rattle.text.specs.Digits.{digitsText, wholeText};
 ghost use Rattle.text.specs.Puts.{limit};
-ghost use lib.ListN.{length};
+ghost use lib.ListN.{length, take};
 ghost use lib.Seq.{sets};
 ghost use mathlib.Core.List.{[], _∷_};
 ghost use mathlib.Core.Path.{_≡_};
@@ -40,22 +41,73 @@ fn room_for(out: &[u8], at: usize, n: usize) -> usize
     room
 }
 
-// One test of the room for the whole text, so that the copy is one of many bytes at a time.
-pub fn put_text(out: &mut [u8], at: usize, t: &[u8]) -> usize
-    requires { ⌜ at + length (now t) < limit ⌝ }
-    ensures { λ r. ⌜ (r ≡ at + length (now (t .entry))) × (now (out .exit) ≡ sets (now (out .entry)) at (now (t .entry))) ⌝ }
+// Eight bytes of t from i on, put at a place: all are read before one is written, so that they are moved as one word.
+fn put_eight(out: &mut [u8], at: usize, t: &[u8], i: usize)
+    requires { ⌜ (at + 8 ≤ length (now out)) × (i + 8 ≤ length (now t)) ⌝ }
+    ensures { λ r. ⌜ now (out .exit) ≡ sets (now (out .entry)) at (part i (i + 8) (now (t .entry))) ⌝ }
 {
-    let n = room_for(out, at, t.len());
+    let a = t[i];
+    let b = t[i + 1];
+    let c = t[i + 2];
+    let d = t[i + 3];
+    let e = t[i + 4];
+    let f = t[i + 5];
+    let g = t[i + 6];
+    let h = t[i + 7];
+    out[at] = a;
+    out[at + 1] = b;
+    out[at + 2] = c;
+    out[at + 3] = d;
+    out[at + 4] = e;
+    out[at + 5] = f;
+    out[at + 6] = g;
+    out[at + 7] = h;
+}
+
+// The first n bytes of t, fewer than eight.
+fn put_few(out: &mut [u8], at: usize, t: &[u8], n: usize)
+    requires { ⌜ (at + n ≤ length (now out)) × (n ≤ length (now t)) ⌝ }
+    ensures { λ r. ⌜ now (out .exit) ≡ sets (now (out .entry)) at (take n (now (t .entry))) ⌝ }
+{
     let mut i = 0;
     while i < n {
         out[at + i] = t[i];
         i += 1;
     }
+}
+
+// The first n bytes of t: eight at a time, the last eight of them perhaps partly once more.
+fn put_first(out: &mut [u8], at: usize, t: &[u8], n: usize)
+    requires { ⌜ (at + n ≤ length (now out)) × (n ≤ length (now t)) ⌝ }
+    ensures { λ r. ⌜ now (out .exit) ≡ sets (now (out .entry)) at (take n (now (t .entry))) ⌝ }
+{
+    if n < 8 {
+        put_few(out, at, t, n);
+        return;
+    }
+    let last = n - 8;
+    let mut i = 0;
+    while i < last {
+        put_eight(out, at + i, t, i);
+        i += 8;
+    }
+    put_eight(out, at + last, t, last);
+}
+
+// One test of the room for the whole text.
+pub fn put_text(out: &mut [u8], at: usize, t: &[u8]) -> usize
+    requires { ⌜ at + length (now t) < limit ⌝ }
+    ensures { λ r. ⌜ (r ≡ at + length (now (t .entry))) × (now (out .exit) ≡ sets (now (out .entry)) at (now (t .entry))) ⌝ }
+{
+    let n = room_for(out, at, t.len());
+    if n != 0 {
+        put_first(out, at, t, n);
+    }
     at + t.len()
 }
 
-// The last k digits of n, the last one first: a division by ten is cheap, one by a power of ten is not.
-pub fn put_digits(out: &mut [u8], at: usize, k: usize, n: u64) -> usize
+// The last k digits of n, the last one first, one by one, as far as there is room.
+fn put_digits_clipped(out: &mut [u8], at: usize, k: usize, n: u64) -> usize
     requires { ⌜ (at + k < limit) × (k ≤ 10) ⌝ }
     ensures { λ r. ⌜ (r ≡ at + k) × (now (out .exit) ≡ sets (now (out .entry)) at (digitsText k n)) ⌝ }
 {
@@ -65,6 +117,29 @@ pub fn put_digits(out: &mut [u8], at: usize, k: usize, n: u64) -> usize
         j -= 1;
         put_byte(out, at + j, 48 + (m % 10) as u8);
         m = m / 10;
+    }
+    at + k
+}
+
+// The last k digits of n: a division by ten is cheap, one by a power of ten is not. With room for all of them two at a time, the last ones first.
+pub fn put_digits(out: &mut [u8], at: usize, k: usize, n: u64) -> usize
+    requires { ⌜ (at + k < limit) × (k ≤ 10) ⌝ }
+    ensures { λ r. ⌜ (r ≡ at + k) × (now (out .exit) ≡ sets (now (out .entry)) at (digitsText k n)) ⌝ }
+{
+    if out.len() < at + k {
+        return put_digits_clipped(out, at, k, n);
+    }
+    let mut j = k;
+    let mut m = n;
+    while 1 < j {
+        j -= 2;
+        let two = m % 100;
+        out[at + j] = 48 + (two / 10) as u8;
+        out[at + j + 1] = 48 + (two % 10) as u8;
+        m = m / 100;
+    }
+    if j == 1 {
+        out[at] = 48 + (m % 10) as u8;
     }
     at + k
 }

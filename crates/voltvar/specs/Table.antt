@@ -34,11 +34,13 @@ table =
 unfoldable pub formOf : Value → ℕ
 formOf v = cond (isFilled v) (cond (eqb (wordNumber v) 0) 1 2) 0
 
--- the line of a message
+-- the line of a message's values: state, mode, regulation, voltage, regulator, change and reactive power, its fields 5 to 11
+abbrev pub lineIn : Value → Value → Value → Value → Value → Value → Value → Line
+lineIn s m g v r c q = line (wordNumber s) (wordNumber m) (wordNumber g) (formOf v) (formOf r) (formOf c) (formOf q)
+
 unfoldable pub lineOf : List Cell → Line
 lineOf cells =
-    line (wordNumber (fieldOf cells 5)) (wordNumber (fieldOf cells 6)) (wordNumber (fieldOf cells 7))
-    (formOf (fieldOf cells 8)) (formOf (fieldOf cells 9)) (formOf (fieldOf cells 10)) (formOf (fieldOf cells 11))
+    lineIn (fieldOf cells 5) (fieldOf cells 6) (fieldOf cells 7) (fieldOf cells 8) (fieldOf cells 9) (fieldOf cells 10) (fieldOf cells 11)
 
 abbrev pub takes : ℕ → ℕ → Bool
 takes asked is = eqb is asked || (eqb asked 3 && leb 1 is)
@@ -53,5 +55,9 @@ fits l row =
     && takes (row .change) (l .change)
     && takes (row .reactive) (l .reactive)
 
+-- a line of the table
+abbrev pub isRow : Line → Bool
+isRow l = any (fits l) table
+
 unfoldable pub inTable : List Cell → Bool
-inTable cells = any (fits (lineOf cells)) table
+inTable cells = isRow (lineOf cells)

@@ -4,7 +4,8 @@ use asked::word_number;
 use record::Cell;
 use value::Value;
 ghost use Prim.Native.Nat.{_<_};
-ghost use Rattle.voltvar.specs.Table.{line, table, formOf, lineOf, takes, fits, inTable};
+ghost use Rattle.voltvar.specs.Table.{line, table, formOf, lineIn, takes, fits, isRow};
+ghost use Rattle.asked.specs.Values.{wordNumber};
 ghost use lib.ListN.{getD};
 ghost use mathlib.Core.Path.{_≡_};
 
@@ -74,24 +75,32 @@ fn form_of(v: Value) -> u8
     2
 }
 
-fn line_of(cells: [Cell; 26]) -> Line
-    ensures { λ r. ⌜ r ≡ lineOf cells ⌝ }
+fn word_in(c: Cell) -> u8
+    ensures { λ r. ⌜ r ≡ wordNumber (c .value) ⌝ }
 {
-    let state = word_number(record::field(cells, 5));
-    let mode = word_number(record::field(cells, 6));
-    let regulation = word_number(record::field(cells, 7));
-    let voltage = form_of(record::field(cells, 8));
-    let regulator = form_of(record::field(cells, 9));
-    let change = form_of(record::field(cells, 10));
-    let reactive = form_of(record::field(cells, 11));
+    let v = c.value;
+    word_number(v)
+}
+
+fn form_in(c: Cell) -> u8
+    ensures { λ r. ⌜ r ≡ formOf (c .value) ⌝ }
+{
+    let v = c.value;
+    form_of(v)
+}
+
+// The line of the fields 5 to 11.
+fn line_of(c5: Cell, c6: Cell, c7: Cell, c8: Cell, c9: Cell, c10: Cell, c11: Cell) -> Line
+    ensures { λ r. ⌜ r ≡ lineIn (c5 .value) (c6 .value) (c7 .value) (c8 .value) (c9 .value) (c10 .value) (c11 .value) ⌝ }
+{
     row_of(
-        state,
-        mode,
-        regulation,
-        voltage,
-        regulator,
-        change,
-        reactive,
+        word_in(c5),
+        word_in(c6),
+        word_in(c7),
+        form_in(c8),
+        form_in(c9),
+        form_in(c10),
+        form_in(c11),
     )
 }
 
@@ -113,10 +122,10 @@ fn fits(l: Line, row: Line) -> bool
         & takes(row.reactive, l.reactive)
 }
 
-pub fn in_table(cells: [Cell; 26]) -> bool
-    ensures { λ r. ⌜ r ≡ inTable cells ⌝ }
+pub fn in_table(c5: Cell, c6: Cell, c7: Cell, c8: Cell, c9: Cell, c10: Cell, c11: Cell) -> bool
+    ensures { λ r. ⌜ r ≡ isRow (lineIn (c5 .value) (c6 .value) (c7 .value) (c8 .value) (c9 .value) (c10 .value) (c11 .value)) ⌝ }
 {
-    let l = line_of(cells);
+    let l = line_of(c5, c6, c7, c8, c9, c10, c11);
     let mut k = 0;
     while k < 11 {
         if fits(l, table_row(k)) {

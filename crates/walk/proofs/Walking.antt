@@ -14,7 +14,6 @@ use Rattle.lines.specs.declared.Break.the-variants.{After, Bad}
 use Rattle.lines.specs.declared.Span.{Span}
 use Rattle.name.specs.declared.MessageType.{MessageType}
 use Rattle.name.specs.declared.MessageType.the-variants.{Cb, Rc, Mg, Eb, Lb, Sr, Vq, Ri, Qr}
-use Rattle.text.proofs.Cuts.{tail}
 use Rattle.text.proofs.Tests.{by-le, cond-le}
 use Rattle.text.specs.Bytes.{part, trim}
 use Rattle.text.specs.Lists.{count, onto, sift}
@@ -49,48 +48,44 @@ second-few Vq = omega arith
 second-few Ri = omega arith
 second-few Qr = omega arith
 
--- ---- one line, from at: k bytes that can be printed, and what ends them
+-- ---- one line, from at to its end, and what ends it
 
-module _ (s : List ℕ) (at k : ℕ) (h : at < length s) (e : k ≡ plainRun (part at (length s) s)) where
-  run : k ≡ plainRun (drop at s)
-  run = e ∙ ap plainRun (tail s at)
-
-  pub end-near : at + k ≤ length s
-  end-near = omega (arith, run, run-length (drop at s), length-drop at s)
+module _ (s : List ℕ) (at end : ℕ) (h : at < length s) (e : end ≡ at + plainRun (drop at s)) where
+  pub end-near : end ≤ length s
+  end-near = omega (arith, run-length (drop at s), length-drop at s)
 
   -- the same in what is left
-  left : breakOf (drop (plainRun (drop at s)) (drop at s)) ≡ breakOf (drop (at + k) s)
-  left = ap (λ (j : ℕ). breakOf (drop j (drop at s))) (sym run) ∙ ap breakOf (drop-drop k at s)
+  left : breakOf (drop (plainRun (drop at s)) (drop at s)) ≡ breakOf (drop end s)
+  left = ap breakOf (drop-drop (plainRun (drop at s)) at s) ∙ ap (λ (j : ℕ). breakOf (drop j s)) (sym e)
 
-  module _ (n : ℕ) (g : After n ≡ breakOf (drop (at + k) s)) where
-    pub past-near : at + k + n ≤ length s
-    past-near = omega (arith, end-near, break-length (drop (at + k) s) n (sym g), length-drop (at + k) s)
+  module _ (n : ℕ) (g : After n ≡ breakOf (drop end s)) where
+    pub past-near : end + n ≤ length s
+    past-near = omega (arith, end-near, break-length (drop end s) n (sym g), length-drop end s)
 
-    forward : at < at + k + n
+    forward : at < end + n
     forward =
-        by-le (length s) (at + k) (λ j. omega arith)
+        by-le (length s) end (λ j. omega arith)
         (λ j.
-        let some-left : 0 < length (drop (at + k) s) = omega (arith, length-drop (at + k) s) in
-        omega (arith, break-some (drop (at + k) s) n some-left (sym g)))
+        let some-left : 0 < length (drop end s) = omega (arith, length-drop end s) in
+        omega (arith, break-some (drop end s) n some-left (sym g)))
 
-    pub shorter : length s - (at + k + n) < length s - at
+    pub shorter : length s - (end + n) < length s - at
     shorter = omega (arith, h, forward)
 
-    rest : drop (plainRun (drop at s) + n) (drop at s) ≡ drop (at + k + n) s
+    rest : drop (plainRun (drop at s) + n) (drop at s) ≡ drop (end + n) s
     rest =
-        let sum : at + (plainRun (drop at s) + n) ≡ at + k + n = omega (arith, run) in
+        let sum : at + (plainRun (drop at s) + n) ≡ end + n = omega arith in
         drop-drop (plainRun (drop at s) + n) at s ∙ ap (λ (j : ℕ). drop j s) sum
 
-    texts-step : texts (drop at s) ≡ trim (part at (at + k) s) ∷ texts (drop (at + k + n) s)
+    texts-step : texts (drop at s) ≡ trim (part at end s) ∷ texts (drop (end + n) s)
     texts-step =
         let some-left : 0 < length (drop at s) = omega (arith, length-drop at s) in
-        let size : plainRun (drop at s) ≡ at + k - at = omega (arith, run) in
+        let size : plainRun (drop at s) ≡ end - at = omega arith in
         line-step (drop at s) n some-left (left ∙ sym g)
         ∙ ap₂ (λ (j : ℕ) (r : List ℕ). trim (take j (drop at s)) ∷ texts r) size rest
 
-    allowed-more : allowedUpto (drop at s) ≡ (k + n) + allowedUpto (drop (at + k + n) s)
-    allowed-more =
-        allowed-step (drop at s) n (left ∙ sym g) ∙ ap₂ (λ (j : ℕ) (r : List ℕ). (j + n) + allowedUpto r) (sym run) rest
+    allowed-more : at + allowedUpto (drop at s) ≡ (end + n) + allowedUpto (drop (end + n) s)
+    allowed-more = omega (arith, allowed-step (drop at s) n (left ∙ sym g), ap allowedUpto rest)
 
 -- ---- the invariant: with `done`, the lines passed, which the code does not keep
 
@@ -153,25 +148,25 @@ module _ (t : MessageType) (s : List ℕ) (at : ℕ) (f : Frame) (m : Marks) (sp
   pub second-small : o .seen < 67108864
   second-small = seen-small s (secondLabels t) o others (sift (entryIn (secondLabels t)) (sift ifOutside (w .done))) (w .walked .second) (second-few t)
 
-  turn : (k n : ℕ) (i : Item) → at < length s → k ≡ plainRun (part at (length s) s) → After n ≡ breakOf (drop (at + k) s)
-      → IsItem t s (trim (part at (at + k) s)) (f .seps) i
-      → Sofar t s (at + k + n) (frameOf f (i .separator) (i .value)) (notedOf m (i .first) .marks) (set spans (notedOf m (i .first) .into) (i .value))
+  turn : (end n : ℕ) (i : Item) → at < length s → end ≡ at + plainRun (drop at s) → After n ≡ breakOf (drop end s)
+      → IsItem t s (trim (part at end s)) (f .seps) i
+      → Sofar t s (end + n) (frameOf f (i .separator) (i .value)) (notedOf m (i .first) .marks) (set spans (notedOf m (i .first) .into) (i .value))
       (notedOf o (i .second) .marks) (set others (notedOf o (i .second) .into) (i .value))
   unfolding seps count marked
-  turn k n i h e g it =
-      let x = trim (part at (at + k) s) in
-      let r = texts (drop (at + k + n) s) in
-      let step = texts-step s at k h e n g in
+  turn end n i h e g it =
+      let x = trim (part at end s) in
+      let r = texts (drop (end + n) s) in
+      let step = texts-step s at end h e n g in
       let counts : frameOf f (i .separator) (i .value) .seps ≡ f .seps + cond (isSep x) 1 0 =
       frame-seps f (i .separator) (i .value) ∙ ap (λ (b : Bool). f .seps + cond b 1 0) (it .sep) in
       let c : f .seps + (cond (isSep x) 1 0 + count isSep r) ≡ count isSep (texts s) = rw step at (w .counted) in
       let a : w .done ++ onto (mark (f .seps) x) (marked (f .seps + cond (isSep x) 1 0) r) ≡ marked 0 (texts s) = rw step at (w .all) in
       let one : cond (isSep x) 1 0 ≤ 1 = cond-le (isSep x) (omega arith) (omega arith) in
       record {
-        near = past-near s at k h e n g;
-        allowed = omega (arith, w .allowed, allowed-more s at k h e n g);
-        few-seps = omega (arith, w .few-seps, counts, one, forward s at k h e n g);
-        few-inside = omega (arith, w .few-inside, frame-inside f (i .separator) (i .value), forward s at k h e n g);
+        near = past-near s at end h e n g;
+        allowed = omega (arith, w .allowed, allowed-more s at end h e n g);
+        few-seps = omega (arith, w .few-seps, counts, one, forward s at end h e n g);
+        few-inside = omega (arith, w .few-inside, frame-inside f (i .separator) (i .value), forward s at end h e n g);
         counted = omega (arith, counts, c);
         done = w .done ++ onto (mark (f .seps) x) [];
         all = rw counts (onto-append (mark (f .seps) x) (w .done) (marked (f .seps + cond (isSep x) 1 0) r) ∙ a);
@@ -179,11 +174,11 @@ module _ (t : MessageType) (s : List ℕ) (at : ℕ) (f : Frame) (m : Marks) (sp
       }
 
   -- the same of what the code has
-  pub turned : (k n : ℕ) (i : Item) (g : Frame) (a b : Noted) → at < length s → k ≡ plainRun (part at (length s) s) → After n ≡ breakOf (drop (at + k) s)
-      → IsItem t s (trim (part at (at + k) s)) (f .seps) i
+  pub turned : (n : ℕ) (i : Item) (g : Frame) (a b : Noted) → at < length s
+      → (i .end ≡ at + plainRun (drop at s)) × IsItem t s (trim (part at (i .end) s)) (f .seps) i → After n ≡ breakOf (drop (i .end) s)
       → g ≡ frameOf f (i .separator) (i .value) → a ≡ notedOf m (i .first) → b ≡ notedOf o (i .second)
-      → Sofar t s (at + k + n) g (a .marks) (set spans (a .into) (i .value)) (b .marks) (set others (b .into) (i .value))
-  turned k n i g a b h e br it p q r = rw (p, q, r) (turn k n i h e br it)
+      → Sofar t s (i .end + n) g (a .marks) (set spans (a .into) (i .value)) (b .marks) (set others (b .into) (i .value))
+  turned n i g a b h it br p q r = rw (p, q, r) (turn (i .end) n i h (it .0) br (it .1))
 
   -- ---- the two ends
 
@@ -191,11 +186,11 @@ module _ (t : MessageType) (s : List ℕ) (at : ℕ) (f : Frame) (m : Marks) (sp
   found stop = record { stop = stop; frame = f; first = m; places = spans; second = o; others = others }
 
   -- a byte that is not allowed
-  pub stop : (k : ℕ) → at < length s → k ≡ plainRun (part at (length s) s) → Bad ≡ breakOf (drop (at + k) s) → Whole t s (found (at + k))
-  stop k h e g =
-      let bad = left s at k h e ∙ sym g in
-      let here : allowedUpto s ≡ at + k = omega (arith, w .allowed, allowed-stop (drop at s) bad, run s at k h e) in
-      let less : at + k < length s = omega (arith, stop-length (drop at s) bad, run s at k h e, length-drop at s) in
+  pub stop : (end : ℕ) → at < length s → end ≡ at + plainRun (drop at s) → Bad ≡ breakOf (drop end s) → Whole t s (found end)
+  stop end h e g =
+      let bad = left s at end h e ∙ sym g in
+      let here : allowedUpto s ≡ end = omega (arith, w .allowed, allowed-stop (drop at s) bad) in
+      let less : end < length s = omega (arith, stop-length (drop at s) bad, length-drop at s) in
       record { stop = sym here; seps = λ q. absurd (omega (arith, q, here, less)); lines = λ q. absurd (omega (arith, q, here, less)) }
 
   -- the file's end

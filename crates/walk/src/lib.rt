@@ -148,12 +148,12 @@ pub fn walk(t: MessageType, s: &[u8]) -> Found
     let mut turn = 1;
     let mut at = 0;
     while at < s.len() {
-        let end = at + lines::plain_run(&s[at..]);
+        let item = entry::line_of(t, s, at, frame.seps, turn);
+        let end = item.end;
         let Break::After(n) = lines::break_at(s, end) else {
             at = end;
             break;
         };
-        let item = entry::line_of(t, s, at, end, frame.seps, turn);
         let value = item.value;
         frame = frame_in(frame, item.separator, value);
         let a = note(first, item.first);

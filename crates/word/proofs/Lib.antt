@@ -1,4 +1,5 @@
 pub mod Table
 pub mod RoundTrip
 pub mod Arms
+pub mod Numbers
 pub mod Search

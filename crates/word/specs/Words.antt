@@ -1,15 +1,14 @@
 -- The constants of the layouts. Document 01, "Values": constants as printed in the layout; `Tipo Comando` is `SA` or `DA`; `V MAX` and `V MIN`
 -- with the space. They are numbered from 1, once for all layouts, so that what one field may hold is a run of them. 0 is no word.
 use Prim.Native.Nat.{ℕ, zero, suc, _-_}
-use Rattle.text.specs.Bytes.{bytes, same}
-use Rattle.word.specs.declared.Met.{Met}
+use Rattle.text.specs.Bytes.{bytes, part, same}
+use Rattle.text.specs.Words.{wordOf}
+use Rattle.word.specs.declared.Spelling.{Spelling}
 use Rattle.word.specs.declared.Word.{Word}
 use Rattle.word.specs.declared.Word.the-variants.{Is, Not}
 use lib.ListN.{length, getD}
-use lib.Seq.{sets}
 use mathlib.Core.Bool.{cond}
 use mathlib.Core.List.{List, [], _∷_, _++_}
-use mathlib.Core.Path.{_≡_}
 
 -- 1 to 12, of CB, EB, LB and SR: gradient, continuation, SI and NO, origin of data, kind of auction, operation
 unfoldable pub commandWords : List (List ℕ)
@@ -74,11 +73,12 @@ wordFrom (suc n) w s = cond (same (word w) s) (Is w) (wordFrom n (suc w) s)
 abbrev pub wordIn : ℕ → ℕ → List ℕ → Word
 wordIn first last s = wordFrom (suc last - first) first s
 
--- ---- a word against a text, and in a buffer
+-- ---- a word as numbers of eight bytes, past its end zero
 
-unfoldable pub metOf : List ℕ → List ℕ → Met
-metOf w s = record { size = length w; is = same w s }
+-- the bytes of a room, of which the word is the first `size`
+unfoldable pub roomSpelling : ℕ → List ℕ → Spelling
+roomSpelling size text =
+    record { size = size; first = wordOf (part 0 8 text); second = wordOf (part 8 16 text); last = wordOf (part 16 20 text) }
 
--- the word w met the text s, and stands in the buffer from the place `at` on, as far as there is room
-abbrev pub Spells : List ℕ → List ℕ → List ℕ → ℕ → List ℕ → Met → Type 0
-Spells w s before at after r = (r ≡ metOf w s) × (after ≡ sets before at w)
+unfoldable pub spellingOf : List ℕ → Spelling
+spellingOf w = record { size = length w; first = wordOf (part 0 8 w); second = wordOf (part 8 16 w); last = wordOf (part 16 24 w) }

@@ -1,12 +1,18 @@
--- Another key, no LF, another byte before it, or what the digits write. (r is the place where they were counted.)
-use Rattle.address.proofs.Lines.{number-key, number-open, number-inside, number-more, number-not, number-is}
+-- Another key, no LF after the digits, a number that may not stand, or what the digits write.
+use Rattle.address.proofs.Lines.{number-key, number-place, number-open, number-inside, number-not, number-is}
 use Rattle.address.proofs.number_line.Statement.{statement}
 use Rattle.address.proofs.number_line.Tie as tie
 use Rattle.text.proofs.Cuts.{starts-length}
+use Rattle.text.specs.Bytes.{starts}
+use Rattle.text.specs.Puts.{limit}
+use Prim.Native.Nat.{ℕ, _+_, _≤_, _<_}
 use borrow.Author.Needs.{needs}
 use borrow.Author.Tests.{not-true, not-false}
-use mathlib.Core.Path.{sym, _∙_}
-use native.Mathlib.Nat.{le-of-lt}
+use lib.ListN.{length}
+use mathlib.Core.Bool.{true}
+use mathlib.Core.List.{List}
+use mathlib.Core.Path.{_≡_, sym, _∙_}
+use native.Mathlib.Omega.{arith}
 
 starts-requires : tie.Need-starts-requires
 starts-requires c κs = search needs
@@ -14,65 +20,61 @@ starts-requires c κs = search needs
 returns : tie.Need-returns
 returns c = number-key _ _ _ _ (c .before .starts .ensures) (not-true _ (c .if1 .taken))
 
-sub-run : tie.Need-sub-run
-sub-run c = starts-length _ _ (sym (c .before .starts .ensures) ∙ not-false _ (c .if1 .left))
+sub-lead : tie.Need-sub-lead
+sub-lead c = starts-length _ _ (sym (c .before .starts .ensures) ∙ not-false _ (c .if1 .left))
 
-part-run-start : tie.Need-part-run-start
-part-run-start c = starts-length _ _ (sym (c .before .starts .ensures) ∙ not-false _ (c .if1 .left))
+part-lead-start : tie.Need-part-lead-start
+part-lead-start c = starts-length _ _ (sym (c .before .starts .ensures) ∙ not-false _ (c .if1 .left))
 
-part-run-end : tie.Need-part-run-end
-part-run-end c = search needs
+part-lead-end : tie.Need-part-lead-end
+part-lead-end c = search needs
 
-run-requires : tie.Need-run-requires
-run-requires c κs = search needs
+lead-requires : tie.Need-lead-requires
+lead-requires c κs = search needs
+
+-- where the digits were read: the key, what stands before it, and that the place past them is in the text
+abbrev key-of : tie.After-lead → List ℕ
+key-of c = c .before .before .before .before .before .before .args .key .now
+
+abbrev s-of : tie.After-lead → List ℕ
+s-of c = c .before .before .before .before .before .before .args .s .now
+
+abbrev most-of : tie.After-lead → ℕ
+most-of c = c .before .before .before .before .before .before .args .most
+
+place : (c : tie.After-lead) → length (key-of c) + c .lead .result .count ≤ length (s-of c)
+place c =
+    let t = c .before .before .before in
+    number-place (key-of c) (most-of c) (s-of c) _ (t .starts .ensures) (c .before .before .before .before .before .before .pre) (not-false _ (c .before .before .if1 .left)) _ (c .lead .ensures)
 
 add-e : tie.Need-add-e
-add-e c = search needs
+add-e c = omega (arith, place (c .before))
 
 returns-2 : tie.Need-returns-2
 returns-2 c =
-    let r = c .before in
-    number-open _ _ _ _ (r .before .before .before .starts .ensures) (r .before .before .before .before .before .before .pre) (not-false _ (r .before .before .if1 .left)) _ (r .run .ensures) (c .if2 .taken)
+    let r = c .before .before in
+    let t = r .before .before .before in
+    number-open _ _ _ _ (t .starts .ensures) (t .before .before .before .pre) (not-false _ (r .before .before .if1 .left)) _ (r .lead .ensures) (c .if2 .taken)
 
 shared-slice-read-if3 : tie.Need-shared-slice-read-if3
-shared-slice-read-if3 c =
-    let r = c .before .before in
-    number-inside _ (r .before .before .before .before .before .before .args .most) _ _ (r .before .before .before .starts .ensures) (r .before .before .before .before .before .before .pre) (not-false _ (r .before .before .if1 .left)) _ (r .run .ensures) (c .before .if2 .left)
+shared-slice-read-if3 c = omega (arith, place (c .before .before .before))
+
+shared-slice-read-if3-2 : tie.Need-shared-slice-read-if3-2
+shared-slice-read-if3-2 c = omega (arith, place (c .before .before .before .before))
 
 returns-3 : tie.Need-returns-3
 returns-3 c =
-    let r = c .before .before .before in
-    number-more _ _ _ _ (r .before .before .before .starts .ensures) (r .before .before .before .before .before .before .pre) (not-false _ (r .before .before .if1 .left)) _ (r .run .ensures) (c .before .before .if2 .left) (c .if3 .taken)
-
-sub-whole : tie.Need-sub-whole
-sub-whole c = search needs
-
-part-whole-start : tie.Need-part-whole-start
-part-whole-start c = search needs
-
-part-whole-end : tie.Need-part-whole-end
-part-whole-end c =
-    let r = c .before .before .before in
-    le-of-lt (number-inside _ (r .before .before .before .before .before .before .args .most) _ _ (r .before .before .before .starts .ensures) (r .before .before .before .before .before .before .pre) (not-false _ (r .before .before .if1 .left)) _ (r .run .ensures) (c .before .before .if2 .left))
-
-whole-requires : tie.Need-whole-requires
-whole-requires c κs = search needs
-
-enum-known-number : tie.Need-enum-known-number
-enum-known-number c = search needs
-
-enum-told : tie.Need-enum-told
-enum-told c = search needs
+    let u = c .before .before .before .before .before in
+    let r = u .before .before in
+    let t = r .before .before .before in
+    number-not _ _ _ _ (t .starts .ensures) (t .before .before .before .pre) (not-false _ (r .before .before .if1 .left)) _ (r .lead .ensures) (u .if2 .left) (c .if3 .taken)
 
 returns-4 : tie.Need-returns-4
 returns-4 c =
-    let r = c .before .before .before .before .before .before .before in
-    number-not _ _ _ _ (r .before .before .before .starts .ensures) (r .before .before .before .before .before .before .pre) (not-false _ (r .before .before .if1 .left)) _ (r .run .ensures) (c .before .before .before .before .before .before .if2 .left) (c .before .before .before .before .if3 .left) _ (c .before .before .whole .ensures) (c .enum-told .given .1)
-
-returns-5 : tie.Need-returns-5
-returns-5 c =
-    let r = c .before .before .before .before .before .before .before .before in
-    number-is _ _ _ _ (r .before .before .before .starts .ensures) (r .before .before .before .before .before .before .pre) (not-false _ (r .before .before .if1 .left)) _ (r .run .ensures) (c .before .before .before .before .before .before .before .if2 .left) (c .before .before .before .before .before .if3 .left) _ (c .before .before .before .whole .ensures) _ (c .before .number .given .1)
+    let u = c .before .before .before .before .before in
+    let r = u .before .before in
+    let t = r .before .before .before in
+    number-is _ _ _ _ (t .starts .ensures) (t .before .before .before .pre) (not-false _ (r .before .before .if1 .left)) _ (r .lead .ensures) (u .if2 .left) (c .if3 .left)
 
 pub number-line-spec : {M : Type 1} → statement M
 number-line-spec =
@@ -80,19 +82,13 @@ number-line-spec =
     (tie.spec
     starts-requires
     returns
-    sub-run
-    part-run-start
-    part-run-end
-    run-requires
+    sub-lead
+    part-lead-start
+    part-lead-end
+    lead-requires
     add-e
     returns-2
     shared-slice-read-if3
+    shared-slice-read-if3-2
     returns-3
-    sub-whole
-    part-whole-start
-    part-whole-end
-    whole-requires
-    enum-known-number
-    enum-told
-    returns-4
-    returns-5)
+    returns-4)

@@ -65,14 +65,14 @@ key-of-requires c κs =
     let o = c .before .before .before .before .before .before in
     (omega (arith, ca-told (o .before .before .before .before .before .before .before .args .keys .now) (o .before .before .before .before .before .before .before .args .s .now) _ (o .before .before .before .number-line .ensures) _ _ (o .before .ca .given .1)), ioa-told (o .before .before .before .before .before .before .before .args .keys .now) (o .before .before .before .before .before .before .before .args .s .now) _ (o .before .before .before .number-line .ensures) _ _ (o .before .ca .given .1) _ (c .before .before .before .number-line2 .ensures) _ _ (c .before .ioa .given .1) .1)
 
-taken-requires : tie.Need-taken-requires
-taken-requires c κs = search needs
+stands-requires : tie.Need-stands-requires
+stands-requires c κs = search needs
 
 returns-3 : tie.Need-returns-3
 returns-3 c =
     let w = c .before .before .before in
     let o = w .before .before .before .before .before .before in
-    twice _ _ _ (o .before .before .before .number-line .ensures) _ _ (o .before .ca .given .1) _ (w .before .before .before .number-line2 .ensures) _ _ (w .before .ioa .given .1) _ _ (c .before .before .key-of .ensures) (c .before .taken .ensures) (c .if1 .taken)
+    twice _ _ _ (o .before .before .before .number-line .ensures) _ _ (o .before .ca .given .1) _ (w .before .before .before .number-line2 .ensures) _ _ (w .before .ioa .given .1) _ _ (c .before .before .key-of .ensures) (c .before .stands .ensures) (c .if1 .taken)
 
 add-third : tie.Need-add-third
 add-third c =
@@ -114,35 +114,35 @@ returns-4 : tie.Need-returns-4
 returns-4 c =
     let w = c .before .before .before .before .before .before .before in
     let o = w .before .before .before .before .before .before in
-    bad-unit _ _ _ (o .before .before .before .number-line .ensures) _ _ (o .before .ca .given .1) _ (w .before .before .before .number-line2 .ensures) _ _ (w .before .ioa .given .1) _ _ (c .before .before .before .before .before .before .key-of .ensures) (c .before .before .before .before .before .taken .ensures) (c .before .before .before .before .if1 .left) _ (c .before .before .unit-line .ensures) (c .enum-told3 .given .1)
+    bad-unit _ _ _ (o .before .before .before .number-line .ensures) _ _ (o .before .ca .given .1) _ (w .before .before .before .number-line2 .ensures) _ _ (w .before .ioa .given .1) _ _ (c .before .before .before .before .before .before .key-of .ensures) (c .before .before .before .before .before .stands .ensures) (c .before .before .before .before .if1 .left) _ (c .before .before .unit-line .ensures) (c .enum-told3 .given .1)
 
 add-fourth : tie.Need-add-fourth
 add-fourth c =
     let v = c in
     let w = v .before .before .before .before .before .before .before .before in
     let o = w .before .before .before .before .before .before in
-    omega (arith, short o, at-four (o .before .before .before .before .before .before .before .args .keys .now) (o .before .before .before .before .before .before .before .args .s .now) _ (o .before .before .before .number-line .ensures) _ _ (o .before .ca .given .1) _ (w .before .before .before .number-line2 .ensures) _ _ (w .before .ioa .given .1) _ _ (v .before .before .before .before .before .before .before .key-of .ensures) (v .before .before .before .before .before .before .taken .ensures) (v .before .before .before .before .before .if1 .left) _ (v .before .before .before .unit-line .ensures) _ (v .before .c .given .1) .inside)
+    omega (arith, short o, at-four (o .before .before .before .before .before .before .before .args .keys .now) (o .before .before .before .before .before .before .before .args .s .now) _ (o .before .before .before .number-line .ensures) _ _ (o .before .ca .given .1) _ (w .before .before .before .number-line2 .ensures) _ _ (w .before .ioa .given .1) _ _ (v .before .before .before .before .before .before .before .key-of .ensures) (v .before .before .before .before .before .before .stands .ensures) (v .before .before .before .before .before .if1 .left) _ (v .before .before .before .unit-line .ensures) _ (v .before .c .given .1) .inside)
 
 add-fourth-2 : tie.Need-add-fourth-2
 add-fourth-2 c =
     let v = c in
     let w = v .before .before .before .before .before .before .before .before in
     let o = w .before .before .before .before .before .before in
-    omega (arith, short o, at-four (o .before .before .before .before .before .before .before .args .keys .now) (o .before .before .before .before .before .before .before .args .s .now) _ (o .before .before .before .number-line .ensures) _ _ (o .before .ca .given .1) _ (w .before .before .before .number-line2 .ensures) _ _ (w .before .ioa .given .1) _ _ (v .before .before .before .before .before .before .before .key-of .ensures) (v .before .before .before .before .before .before .taken .ensures) (v .before .before .before .before .before .if1 .left) _ (v .before .before .before .unit-line .ensures) _ (v .before .c .given .1) .inside)
+    omega (arith, short o, at-four (o .before .before .before .before .before .before .before .args .keys .now) (o .before .before .before .before .before .before .before .args .s .now) _ (o .before .before .before .number-line .ensures) _ _ (o .before .ca .given .1) _ (w .before .before .before .number-line2 .ensures) _ _ (w .before .ioa .given .1) _ _ (v .before .before .before .before .before .before .before .key-of .ensures) (v .before .before .before .before .before .before .stands .ensures) (v .before .before .before .before .before .if1 .left) _ (v .before .before .before .unit-line .ensures) _ (v .before .c .given .1) .inside)
 
 sub-type-line : tie.Need-sub-type-line
 sub-type-line c =
     let v = c in
     let w = v .before .before .before .before .before .before .before .before in
     let o = w .before .before .before .before .before .before in
-    at-four (o .before .before .before .before .before .before .before .args .keys .now) (o .before .before .before .before .before .before .before .args .s .now) _ (o .before .before .before .number-line .ensures) _ _ (o .before .ca .given .1) _ (w .before .before .before .number-line2 .ensures) _ _ (w .before .ioa .given .1) _ _ (v .before .before .before .before .before .before .before .key-of .ensures) (v .before .before .before .before .before .before .taken .ensures) (v .before .before .before .before .before .if1 .left) _ (v .before .before .before .unit-line .ensures) _ (v .before .c .given .1) .inside
+    at-four (o .before .before .before .before .before .before .before .args .keys .now) (o .before .before .before .before .before .before .before .args .s .now) _ (o .before .before .before .number-line .ensures) _ _ (o .before .ca .given .1) _ (w .before .before .before .number-line2 .ensures) _ _ (w .before .ioa .given .1) _ _ (v .before .before .before .before .before .before .before .key-of .ensures) (v .before .before .before .before .before .before .stands .ensures) (v .before .before .before .before .before .if1 .left) _ (v .before .before .before .unit-line .ensures) _ (v .before .c .given .1) .inside
 
 part-type-line-start : tie.Need-part-type-line-start
 part-type-line-start c =
     let v = c in
     let w = v .before .before .before .before .before .before .before .before in
     let o = w .before .before .before .before .before .before in
-    at-four (o .before .before .before .before .before .before .before .args .keys .now) (o .before .before .before .before .before .before .before .args .s .now) _ (o .before .before .before .number-line .ensures) _ _ (o .before .ca .given .1) _ (w .before .before .before .number-line2 .ensures) _ _ (w .before .ioa .given .1) _ _ (v .before .before .before .before .before .before .before .key-of .ensures) (v .before .before .before .before .before .before .taken .ensures) (v .before .before .before .before .before .if1 .left) _ (v .before .before .before .unit-line .ensures) _ (v .before .c .given .1) .inside
+    at-four (o .before .before .before .before .before .before .before .args .keys .now) (o .before .before .before .before .before .before .before .args .s .now) _ (o .before .before .before .number-line .ensures) _ _ (o .before .ca .given .1) _ (w .before .before .before .number-line2 .ensures) _ _ (w .before .ioa .given .1) _ _ (v .before .before .before .before .before .before .before .key-of .ensures) (v .before .before .before .before .before .before .stands .ensures) (v .before .before .before .before .before .if1 .left) _ (v .before .before .before .unit-line .ensures) _ (v .before .c .given .1) .inside
 
 part-type-line-end : tie.Need-part-type-line-end
 part-type-line-end c = search needs
@@ -161,35 +161,35 @@ returns-5 c =
     let v = c .before .before .before .before in
     let w = v .before .before .before .before .before .before .before .before in
     let o = w .before .before .before .before .before .before in
-    bad-type _ _ _ (o .before .before .before .number-line .ensures) _ _ (o .before .ca .given .1) _ (w .before .before .before .number-line2 .ensures) _ _ (w .before .ioa .given .1) _ _ (v .before .before .before .before .before .before .before .key-of .ensures) (v .before .before .before .before .before .before .taken .ensures) (v .before .before .before .before .before .if1 .left) _ (v .before .before .before .unit-line .ensures) _ (v .before .c .given .1) _ (c .before .before .type-line .ensures) (c .enum-told4 .given .1)
+    bad-type _ _ _ (o .before .before .before .number-line .ensures) _ _ (o .before .ca .given .1) _ (w .before .before .before .number-line2 .ensures) _ _ (w .before .ioa .given .1) _ _ (v .before .before .before .before .before .before .before .key-of .ensures) (v .before .before .before .before .before .before .stands .ensures) (v .before .before .before .before .before .if1 .left) _ (v .before .before .before .unit-line .ensures) _ (v .before .c .given .1) _ (c .before .before .type-line .ensures) (c .enum-told4 .given .1)
 
-add-t22 : tie.Need-add-t22
-add-t22 c =
+add-t23 : tie.Need-add-t23
+add-t23 c =
     let v = c .before .before .before .before .before in
     let w = v .before .before .before .before .before .before .before .before in
     let o = w .before .before .before .before .before .before in
-    omega (arith, short o, unit-from (o .before .before .before .before .before .before .before .args .keys .now) (o .before .before .before .before .before .before .before .args .s .now) _ (o .before .before .before .number-line .ensures) _ _ (o .before .ca .given .1) _ (w .before .before .before .number-line2 .ensures) _ _ (w .before .ioa .given .1) _ _ (v .before .before .before .before .before .before .before .key-of .ensures) (v .before .before .before .before .before .before .taken .ensures) (v .before .before .before .before .before .if1 .left) _ (v .before .before .before .unit-line .ensures) _ (v .before .c .given .1))
-
-add-t34 : tie.Need-add-t34
-add-t34 c =
-    let v = c .before .before .before .before .before in
-    let w = v .before .before .before .before .before .before .before .before in
-    let o = w .before .before .before .before .before .before in
-    omega (arith, short o, at-four (o .before .before .before .before .before .before .before .args .keys .now) (o .before .before .before .before .before .before .before .args .s .now) _ (o .before .before .before .number-line .ensures) _ _ (o .before .ca .given .1) _ (w .before .before .before .number-line2 .ensures) _ _ (w .before .ioa .given .1) _ _ (v .before .before .before .before .before .before .before .key-of .ensures) (v .before .before .before .before .before .before .taken .ensures) (v .before .before .before .before .before .if1 .left) _ (v .before .before .before .unit-line .ensures) _ (v .before .c .given .1) .inside)
+    omega (arith, short o, unit-from (o .before .before .before .before .before .before .before .args .keys .now) (o .before .before .before .before .before .before .before .args .s .now) _ (o .before .before .before .number-line .ensures) _ _ (o .before .ca .given .1) _ (w .before .before .before .number-line2 .ensures) _ _ (w .before .ioa .given .1) _ _ (v .before .before .before .before .before .before .before .key-of .ensures) (v .before .before .before .before .before .before .stands .ensures) (v .before .before .before .before .before .if1 .left) _ (v .before .before .before .unit-line .ensures) _ (v .before .c .given .1))
 
 add-t35 : tie.Need-add-t35
 add-t35 c =
     let v = c .before .before .before .before .before in
     let w = v .before .before .before .before .before .before .before .before in
     let o = w .before .before .before .before .before .before in
-    omega (arith, short o, at-five (o .before .before .before .before .before .before .before .args .keys .now) (o .before .before .before .before .before .before .before .args .s .now) _ (o .before .before .before .number-line .ensures) _ _ (o .before .ca .given .1) _ (w .before .before .before .number-line2 .ensures) _ _ (w .before .ioa .given .1) _ _ (v .before .before .before .before .before .before .before .key-of .ensures) (v .before .before .before .before .before .before .taken .ensures) (v .before .before .before .before .before .if1 .left) _ (v .before .before .before .unit-line .ensures) _ (v .before .c .given .1) _ (c .before .before .before .type-line .ensures) _ (c .before .kind .given .1) .inside)
+    omega (arith, short o, at-four (o .before .before .before .before .before .before .before .args .keys .now) (o .before .before .before .before .before .before .before .args .s .now) _ (o .before .before .before .number-line .ensures) _ _ (o .before .ca .given .1) _ (w .before .before .before .number-line2 .ensures) _ _ (w .before .ioa .given .1) _ _ (v .before .before .before .before .before .before .before .key-of .ensures) (v .before .before .before .before .before .before .stands .ensures) (v .before .before .before .before .before .if1 .left) _ (v .before .before .before .unit-line .ensures) _ (v .before .c .given .1) .inside)
+
+add-t36 : tie.Need-add-t36
+add-t36 c =
+    let v = c .before .before .before .before .before in
+    let w = v .before .before .before .before .before .before .before .before in
+    let o = w .before .before .before .before .before .before in
+    omega (arith, short o, at-five (o .before .before .before .before .before .before .before .args .keys .now) (o .before .before .before .before .before .before .before .args .s .now) _ (o .before .before .before .number-line .ensures) _ _ (o .before .ca .given .1) _ (w .before .before .before .number-line2 .ensures) _ _ (w .before .ioa .given .1) _ _ (v .before .before .before .before .before .before .before .key-of .ensures) (v .before .before .before .before .before .before .stands .ensures) (v .before .before .before .before .before .if1 .left) _ (v .before .before .before .unit-line .ensures) _ (v .before .c .given .1) _ (c .before .before .before .type-line .ensures) _ (c .before .kind .given .1) .inside)
 
 returns-6 : tie.Need-returns-6
 returns-6 c =
     let v = c .before .before .before .before .before in
     let w = v .before .before .before .before .before .before .before .before in
     let o = w .before .before .before .before .before .before in
-    good-row _ _ _ (o .before .before .before .number-line .ensures) _ _ (o .before .ca .given .1) _ (w .before .before .before .number-line2 .ensures) _ _ (w .before .ioa .given .1) _ _ (v .before .before .before .before .before .before .before .key-of .ensures) (v .before .before .before .before .before .before .taken .ensures) (v .before .before .before .before .before .if1 .left) _ (v .before .before .before .unit-line .ensures) _ (v .before .c .given .1) _ (c .before .before .before .type-line .ensures) _ (c .before .kind .given .1)
+    good-row _ _ _ (o .before .before .before .number-line .ensures) _ _ (o .before .ca .given .1) _ (w .before .before .before .number-line2 .ensures) _ _ (w .before .ioa .given .1) _ _ (v .before .before .before .before .before .before .before .key-of .ensures) (v .before .before .before .before .before .before .stands .ensures) (v .before .before .before .before .before .if1 .left) _ (v .before .before .before .unit-line .ensures) _ (v .before .c .given .1) _ (c .before .before .before .type-line .ensures) _ (c .before .kind .given .1)
 
 pub row-at-spec : {M : Type 1} → statement M
 row-at-spec =
@@ -210,7 +210,7 @@ row-at-spec =
     enum-told-2
     returns-2
     key-of-requires
-    taken-requires
+    stands-requires
     returns-3
     add-third
     add-third-2
@@ -230,7 +230,7 @@ row-at-spec =
     enum-known-kind
     enum-told-4
     returns-5
-    add-t22
-    add-t34
+    add-t23
     add-t35
+    add-t36
     returns-6)

@@ -1,13 +1,9 @@
 -- A date is put as its instant, and a blank as nothing.
-use Rattle.brief.proofs.Fields.{filled-is, blank-is}
-use Rattle.brief.proofs.Puts.{same-line}
+use Rattle.brief.proofs.Puts.{instant-put, blank-put}
+use mathlib.Core.Path.{sym, _∙_}
+use borrow.Author.Needs.{needs}
 use Rattle.brief.proofs.put_instant.Statement.{statement}
 use Rattle.brief.proofs.put_instant.Tie as tie
-use Rattle.brief.specs.Brief.{instantText}
-use Rattle.text.specs.Digits.{wholeText}
-use borrow.Author.Needs.{needs}
-use mathlib.Core.List.{[]}
-use mathlib.Core.Path.{sym, _∙_}
 
 is-filled-requires : tie.Need-is-filled-requires
 is-filled-requires c κs = search needs
@@ -15,30 +11,24 @@ is-filled-requires c κs = search needs
 instant-in-requires : tie.Need-instant-in-requires
 instant-in-requires c κs = search needs
 
-put-number-requires : tie.Need-put-number-requires
-put-number-requires c κs = search needs
+put-whole-requires : tie.Need-put-whole-requires
+put-whole-requires c κs = search needs
 
 same-length : tie.Need-same-length
 same-length c = search needs
 
 returns : tie.Need-returns
 returns c =
-    let s = c .before .before .before .before .before .before .before .before .before in
-    same-line (s .args .key .now) (wholeText 9 (c .before .before .before .instant-in .result)) (instantText (s .args .v)) (s .args .out .now) _ _ _ (filled-is (s .args .v) _ (sym (c .before .before .before .before .before .before .is-filled .ensures) ∙ c .before .before .before .before .before .if1 .taken) (c .before .before .before .instant-in .ensures)) (c .before .before .put-number .ensures)
-
-slice-aggregate-put-line : tie.Need-slice-aggregate-put-line
-slice-aggregate-put-line c = search needs
-
-put-line-requires : tie.Need-put-line-requires
-put-line-requires c κs = search needs
-
-same-length-2 : tie.Need-same-length-2
-same-length-2 c = search needs
+    let test = c .before .before .before .before .before in
+    let a = test .before .before .before .args in
+    let n = c .before .before .before .instant-in in
+    let filled = sym (test .before .is-filled .ensures) ∙ test .if1 .taken in
+    instant-put (a .v) (n .result) (a .out .now) (a .at) _ _ filled (n .ensures) (c .before .before .put-whole .ensures)
 
 returns-2 : tie.Need-returns-2
 returns-2 c =
-    let s = c .before .before .before .before .before .before .before .before .before in
-    same-line (s .args .key .now) [] (instantText (s .args .v)) (s .args .out .now) _ _ _ (blank-is (s .args .v) (sym (c .before .before .before .before .before .before .is-filled .ensures) ∙ c .before .before .before .before .before .if1 .left)) (c .before .before .put-line .ensures)
+    let a = c .before .before .before .args in
+    blank-put (a .v) (a .out .now) (a .at) (sym (c .before .is-filled .ensures) ∙ c .if1 .left)
 
 pub put-instant-spec : {M : Type 1} → statement M
 put-instant-spec =
@@ -46,10 +36,7 @@ put-instant-spec =
     (tie.spec
     is-filled-requires
     instant-in-requires
-    put-number-requires
+    put-whole-requires
     same-length
     returns
-    slice-aggregate-put-line
-    put-line-requires
-    same-length-2
     returns-2)

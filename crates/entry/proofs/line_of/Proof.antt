@@ -1,98 +1,99 @@
--- A row, the label that was expected, a separator, or any other line.
-use Rattle.entry.proofs.Meanings.{is-separator, expected-fits, as-expected, by-place, below-one}
+-- The label that is expected, and what stands behind it; or any other line.
+use Prim.Native.Nat.{_+_, _≤_}
+use Rattle.entry.proofs.Tries.{head-inside, run-inside, met, not-met}
 use Rattle.entry.proofs.line_of.Statement.{statement}
 use Rattle.entry.proofs.line_of.Tie as tie
 use borrow.Author.Needs.{needs}
-use mathlib.Core.Path.{sym, _∙_}
+use lib.ListN.{length}
 use native.Mathlib.Omega.{arith}
 
-row-item-requires : tie.Need-row-item-requires
-row-item-requires c κs = search needs
+abbrev start : tie.After-expected-head → tie.Start
+start c = c .before .before .before .before
 
-returns : tie.Need-returns
-returns c = below-one _ _ _ _ _ (c .before .if1 .taken) (c .row-item .ensures)
+-- the label's head lies within the file, and so does the line's end
+
+head-near : (c : tie.After-expected-head) → start c .args .at + c .expected-head .result ≤ length (start c .args .s .now)
+head-near c =
+    let z = start c .args in
+    head-inside (z .t) (z .s .now) (z .at) (z .seps) (c .before .before .expect .result) (c .before .before .expect .ensures) (c .expected-head .result) 0 (start c .pre .0) (c .expected-head .ensures)
+
+end-near : (c : tie.After-plain-run)
+    → start (c .before .before) .args .at + c .before .before .expected-head .result + c .plain-run .result ≤ length (start (c .before .before) .args .s .now)
+end-near c =
+    let head = c .before .before in
+    let z = start head .args in
+    run-inside (z .t) (z .s .now) (z .at) (z .seps) (head .before .before .expect .result) (head .before .before .expect .ensures) _ _ (start head .pre .0) (head .expected-head .ensures)
+    (c .plain-run .ensures)
 
 expect-requires : tie.Need-expect-requires
 expect-requires c κs = search needs
 
-sub-head : tie.Need-sub-head
-sub-head c = search needs
+sub-expected-head : tie.Need-sub-expected-head
+sub-expected-head c = search needs
 
-part-head-start : tie.Need-part-head-start
-part-head-start c = search needs
+part-expected-head-start : tie.Need-part-expected-head-start
+part-expected-head-start c = search needs
 
-part-head-end : tie.Need-part-head-end
-part-head-end c = search needs
+part-expected-head-end : tie.Need-part-expected-head-end
+part-expected-head-end c = search needs
 
-head-requires : tie.Need-head-requires
-head-requires c κs = search needs
+expected-head-requires : tie.Need-expected-head-requires
+expected-head-requires c κs = search needs
 
-add-trim-span : tie.Need-add-trim-span
-add-trim-span c =
-    let z = c .before .before .before .before .before .before in
-    omega (arith, expected-fits (z .args .t) (z .args .s .now) (z .args .at) (z .args .end) (z .args .seps) (c .before .head .result) (c .before .before .before .expect .result) (c .before .before .before .expect .ensures) (c .before .head .ensures) (c .if2 .taken) (z .pre .0) (z .pre .1))
+add-from : tie.Need-add-from
+add-from c = let near = head-near c in omega arith
+
+sub-plain-run : tie.Need-sub-plain-run
+sub-plain-run c = head-near c
+
+part-plain-run-start : tie.Need-part-plain-run-start
+part-plain-run-start c = head-near c
+
+part-plain-run-end : tie.Need-part-plain-run-end
+part-plain-run-end c = search needs
+
+plain-run-requires : tie.Need-plain-run-requires
+plain-run-requires c κs = search needs
+
+add-end : tie.Need-add-end
+add-end c = let near = end-near c in omega arith
 
 trim-span-requires : tie.Need-trim-span-requires
-trim-span-requires c κs =
-    let z = c .before .before .before .before .before .before in
-    omega (arith, expected-fits (z .args .t) (z .args .s .now) (z .args .at) (z .args .end) (z .args .seps) (c .before .head .result) (c .before .before .before .expect .result) (c .before .before .before .expect .ensures) (c .before .head .ensures) (c .if2 .taken) (z .pre .0) (z .pre .1))
+trim-span-requires c κs = let near = end-near (c .before) in (omega arith, near, omega arith)
+
+returns : tie.Need-returns
+returns c =
+    let run = c .before .before in
+    let head = run .before .before in
+    met _ _ _ _ _ (head .before .before .expect .ensures) _ _ (start head .pre .0) (head .expected-head .ensures)
+    (run .plain-run .ensures) (c .before .if1 .taken) _ (c .trim-span .ensures)
+
+other-item-requires : tie.Need-other-item-requires
+other-item-requires c κs = let near = end-near (c .before) in (omega arith, near, omega arith)
 
 returns-2 : tie.Need-returns-2
-returns-2 c = as-expected _ _ _ _ _ _ _ (c .before .before .before .before .expect .ensures) (c .before .before .head .ensures) (c .before .if2 .taken) _ (c .before .before .before .before .before .if1 .left) (c .trim-span .ensures)
-
-trim-span-requires-2 : tie.Need-trim-span-requires-2
-trim-span-requires-2 c κs = search needs
-
-cast-a : tie.Need-cast-a
-cast-a c = search needs
-
-cast-z : tie.Need-cast-z
-cast-z c = search needs
-
-sub-is-separator : tie.Need-sub-is-separator
-sub-is-separator c = search needs
-
-part-is-separator-start : tie.Need-part-is-separator-start
-part-is-separator-start c = search needs
-
-part-is-separator-end : tie.Need-part-is-separator-end
-part-is-separator-end c = search needs
-
-is-separator-requires : tie.Need-is-separator-requires
-is-separator-requires c κs = search needs
-
-returns-3 : tie.Need-returns-3
-returns-3 c = is-separator _ _ _ _ _ (sym (c .before .is-separator .ensures) ∙ c .if3 .taken) (c .before .before .before .before .before .trim-span2 .ensures)
-
-param-item-requires : tie.Need-param-item-requires
-param-item-requires c κs =
-    let w = c .before .before .before .before .before .trim-span2 .ensures in
-    (w .ordered, w .inside, sym (c .before .is-separator .ensures) ∙ c .if3 .left, c .before .before .before .before .before .before .before .before .before .before .if1 .left)
-
-returns-4 : tie.Need-returns-4
-returns-4 c = by-place _ _ _ _ _ _ (c .before .before .before .before .before .before .trim-span2 .ensures) (c .param-item .ensures)
+returns-2 c =
+    let run = c .before .before in
+    let head = run .before .before in
+    not-met _ _ _ _ _ (head .before .before .expect .ensures) _ _ (start head .pre .0) (head .expected-head .ensures)
+    (run .plain-run .ensures) (c .before .if1 .left) _ (c .other-item .ensures)
 
 pub line-of-spec : {M : Type 1} → statement M
 line-of-spec =
     tie.close
     (tie.spec
-    row-item-requires
-    returns
     expect-requires
-    sub-head
-    part-head-start
-    part-head-end
-    head-requires
-    add-trim-span
+    sub-expected-head
+    part-expected-head-start
+    part-expected-head-end
+    expected-head-requires
+    add-from
+    sub-plain-run
+    part-plain-run-start
+    part-plain-run-end
+    plain-run-requires
+    add-end
     trim-span-requires
-    returns-2
-    trim-span-requires-2
-    cast-a
-    cast-z
-    sub-is-separator
-    part-is-separator-start
-    part-is-separator-end
-    is-separator-requires
-    returns-3
-    param-item-requires
-    returns-4)
+    returns
+    other-item-requires
+    returns-2)

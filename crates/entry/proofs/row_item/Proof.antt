@@ -3,6 +3,7 @@ use Rattle.entry.proofs.Meanings.{is-row}
 use Rattle.entry.proofs.row_item.Statement.{statement}
 use Rattle.entry.proofs.row_item.Tie as tie
 use borrow.Author.Needs.{needs}
+use mathlib.Core.Path.{refl}
 
 trim-span-requires : tie.Need-trim-span-requires
 trim-span-requires c κs = search needs
@@ -26,7 +27,7 @@ is-separator-requires : tie.Need-is-separator-requires
 is-separator-requires c κs = search needs
 
 returns : tie.Need-returns
-returns c = is-row _ _ _ _ _ (c .is-separator .ensures) (c .before .before .before .before .trim-span .ensures)
+returns c = (refl, is-row _ _ _ _ _ _ (c .is-separator .ensures) (c .before .before .before .before .trim-span .ensures))
 
 pub row-item-spec : {M : Type 1} → statement M
 row-item-spec =

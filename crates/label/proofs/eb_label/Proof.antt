@@ -2,7 +2,7 @@
 use Rattle.label.proofs.Arms.{arm, found, short-of}
 use Rattle.label.proofs.eb_label.Statement.{statement}
 use Rattle.label.proofs.eb_label.Tie as tie
-use Rattle.label.specs.Labels.{padded}
+use Rattle.label.specs.Labels.{labelOf, padded}
 use Rattle.layout.specs.Fields.{eb, ri}
 use Rattle.layout.specs.Layouts.{fieldsOf, labelsOf, labelAt}
 use Rattle.layout.specs.declared.Layout.the-variants.{Exclusion, Rejection}
@@ -20,37 +20,19 @@ created-requires c κs = search needs
 ri-label-requires : tie.Need-ri-label-requires
 ri-label-requires c κs = search needs
 
-same-length : tie.Need-same-length
-same-length c = search needs
-
 returns : tie.Need-returns
-unfolding labelAt labelsOf fieldsOf eb padded
-returns c = arm _ _ _ (labelAt Exclusion) (c .before .before .before .before .before .before .match .keys1) (c .before .before .labelled .ensures)
-
-same-length-2 : tie.Need-same-length-2
-same-length-2 c = search needs
+unfolding labelAt labelsOf fieldsOf eb labelOf padded
+returns c = arm (labelAt Exclusion) (c .before .before .before .match .keys1) (c .labelled .ensures)
 
 returns-2 : tie.Need-returns-2
 unfolding labelAt labelsOf fieldsOf eb
-returns-2 c = arm _ _ _ (labelAt Exclusion) (c .before .before .before .before .match .keys2) (c .before .before .created .ensures)
-
-same-length-3 : tie.Need-same-length-3
-same-length-3 c = search needs
+returns-2 c = arm (labelAt Exclusion) (c .before .match .keys2) (c .created .ensures)
 
 returns-3 : tie.Need-returns-3
 unfolding labelAt labelsOf fieldsOf ri eb
-returns-3 c = found _ _ _ (short-of ([] ∷ labelsOf Rejection) (drop 7 ([] ∷ labelsOf Exclusion)) (c .before .before .before .before .before .before .before .args .k) (above 7 2 (c .before .before .before .before .before .before .before .args .k) (c .before .before .before .before .match .rest))) (c .before .before .ri-label .ensures)
+returns-3 c = found (short-of ([] ∷ labelsOf Rejection) (drop 7 ([] ∷ labelsOf Exclusion)) (c .before .before .args .k) (above 7 2 (c .before .before .args .k) (c .before .match .rest))) (c .ri-label .ensures)
 
 pub eb-label-spec : {M : Type 1} → statement M
 eb-label-spec =
     tie.close
-    (tie.spec
-    labelled-requires
-    created-requires
-    ri-label-requires
-    same-length
-    returns
-    same-length-2
-    returns-2
-    same-length-3
-    returns-3)
+    (tie.spec labelled-requires created-requires ri-label-requires returns returns-2 returns-3)

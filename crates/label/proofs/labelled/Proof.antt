@@ -1,46 +1,55 @@
--- The first bytes against the text, and all of them into the buffer.
-use Rattle.label.proofs.Arms.{met}
+-- Each word of its part.
 use Rattle.label.proofs.labelled.Statement.{statement}
 use Rattle.label.proofs.labelled.Tie as tie
+use Rattle.label.specs.Labels.{wordsOf}
 use borrow.Author.Needs.{needs}
-use native.Mathlib.Omega.{arith}
 
-sub-starts : tie.Need-sub-starts
-sub-starts c = search needs
+slice-aggregate-eight : tie.Need-slice-aggregate-eight
+slice-aggregate-eight c = search needs
 
-part-starts-start : tie.Need-part-starts-start
-part-starts-start c = search needs
+eight-requires : tie.Need-eight-requires
+eight-requires c κs = search needs
 
-part-starts-end : tie.Need-part-starts-end
-part-starts-end c = search needs
+slice-aggregate-eight-2 : tie.Need-slice-aggregate-eight-2
+slice-aggregate-eight-2 c = search needs
 
-starts-requires : tie.Need-starts-requires
-starts-requires c κs = search needs
+eight-requires-2 : tie.Need-eight-requires-2
+eight-requires-2 c κs = search needs
 
-slice-aggregate-put-text : tie.Need-slice-aggregate-put-text
-slice-aggregate-put-text c = search needs
+slice-aggregate-eight-3 : tie.Need-slice-aggregate-eight-3
+slice-aggregate-eight-3 c = search needs
 
-put-text-requires : tie.Need-put-text-requires
-put-text-requires c κs = search needs
+eight-requires-3 : tie.Need-eight-requires-3
+eight-requires-3 c κs = search needs
 
-same-length : tie.Need-same-length
-same-length c = search needs
+slice-aggregate-eight-4 : tie.Need-slice-aggregate-eight-4
+slice-aggregate-eight-4 c = search needs
+
+eight-requires-4 : tie.Need-eight-requires-4
+eight-requires-4 c κs = search needs
+
+slice-aggregate-four : tie.Need-slice-aggregate-four
+slice-aggregate-four c = search needs
+
+four-requires : tie.Need-four-requires
+four-requires c κs = search needs
 
 returns : tie.Need-returns
-returns c =
-    let first = c .before .before .before .before .before in
-    let a = first .before .before .before .before .before .args in
-    (met (a .size) (a .t2) (a .s .now) (first .starts .result) (omega arith) (first .starts .ensures), c .before .before .put-text .ensures .1)
+unfolding wordsOf
+returns c = rw (c .before .before .before .before .before .before .before .before .eight .ensures, c .before .before .before .before .before .before .eight2 .ensures, c .before .before .before .before .eight3 .ensures, c .before .before .eight4 .ensures, c .four .ensures)
 
 pub labelled-spec : {M : Type 1} → statement M
 labelled-spec =
     tie.close
     (tie.spec
-    sub-starts
-    part-starts-start
-    part-starts-end
-    starts-requires
-    slice-aggregate-put-text
-    put-text-requires
-    same-length
+    slice-aggregate-eight
+    eight-requires
+    slice-aggregate-eight-2
+    eight-requires-2
+    slice-aggregate-eight-3
+    eight-requires-3
+    slice-aggregate-eight-4
+    eight-requires-4
+    slice-aggregate-four
+    four-requires
     returns)

@@ -2,7 +2,7 @@
 use Rattle.label.proofs.Arms.{arm, no-arm-at, since}
 use Rattle.label.proofs.market_label.Statement.{statement}
 use Rattle.label.proofs.market_label.Tie as tie
-use Rattle.label.specs.Labels.{padded}
+use Rattle.label.specs.Labels.{labelOf, padded}
 use Rattle.layout.specs.Fields.{market, command, technical}
 use Rattle.layout.specs.Layouts.{fieldsOf, labelsOf, labelAt}
 use Rattle.layout.specs.declared.Layout.the-variants.{Market}
@@ -27,43 +27,25 @@ profile-label-requires c κs = search needs
 no-label-requires : tie.Need-no-label-requires
 no-label-requires c κs = search needs
 
-same-length : tie.Need-same-length
-same-length c = search needs
-
 returns : tie.Need-returns
-unfolding labelAt labelsOf fieldsOf market command technical padded
-returns c = arm _ _ _ (labelAt Market) (c .before .before .before .before .before .before .match .keys1) (c .before .before .labelled .ensures)
-
-same-length-2 : tie.Need-same-length-2
-same-length-2 c = search needs
+unfolding labelAt labelsOf fieldsOf market command technical labelOf padded
+returns c = arm (labelAt Market) (c .before .before .before .match .keys1) (c .labelled .ensures)
 
 returns-2 : tie.Need-returns-2
 returns-2 c = search needs
 
-same-length-3 : tie.Need-same-length-3
-same-length-3 c = search needs
-
 returns-3 : tie.Need-returns-3
 returns-3 c = search needs
-
-same-length-4 : tie.Need-same-length-4
-same-length-4 c = search needs
 
 returns-4 : tie.Need-returns-4
 returns-4 c = search needs
 
-same-length-5 : tie.Need-same-length-5
-same-length-5 c = search needs
-
 returns-5 : tie.Need-returns-5
 returns-5 c = search needs
 
-same-length-6 : tie.Need-same-length-6
-same-length-6 c = search needs
-
 returns-6 : tie.Need-returns-6
 unfolding labelsOf fieldsOf market command technical
-returns-6 c = no-arm-at _ _ _ Market 26 1 (c .before .before .before .before .before .before .before .before .args .k) (c .before .before .before .before .before .match .rest) refl (λ h. since (c .before .before .before .before .if1 .came) (λ t. t .taken) (λ e. e .4 .left) h) (c .before .before .no-label .ensures)
+returns-6 c = no-arm-at Market 26 1 (c .before .before .before .args .k) (c .before .before .match .rest) refl (λ h. since (c .before .if1 .came) (λ t. t .taken) (λ e. e .4 .left) h) (c .no-label .ensures)
 
 pub market-label-spec : {M : Type 1} → statement M
 market-label-spec =
@@ -75,15 +57,9 @@ market-label-spec =
     technical-label-requires
     profile-label-requires
     no-label-requires
-    same-length
     returns
-    same-length-2
     returns-2
-    same-length-3
     returns-3
-    same-length-4
     returns-4
-    same-length-5
     returns-5
-    same-length-6
     returns-6)

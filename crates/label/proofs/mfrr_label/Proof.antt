@@ -17,24 +17,15 @@ power-label-requires c κs = search needs
 no-label-requires : tie.Need-no-label-requires
 no-label-requires c κs = search needs
 
-same-length : tie.Need-same-length
-same-length c = search needs
-
 returns : tie.Need-returns
 returns c = search needs
-
-same-length-2 : tie.Need-same-length-2
-same-length-2 c = search needs
 
 returns-2 : tie.Need-returns-2
 returns-2 c = search needs
 
-same-length-3 : tie.Need-same-length-3
-same-length-3 c = search needs
-
 returns-3 : tie.Need-returns-3
 unfolding labelsOf fieldsOf mfrr
-returns-3 c = no-arm-at _ _ _ Mfrr 13 0 (c .before .before .before .before .before .before .before .args .k) tt refl (λ h. since (c .before .before .before .before .if1 .came) (λ t. t .taken) (λ e. e .2 .left) h) (c .before .before .no-label .ensures)
+returns-3 c = no-arm-at Mfrr 13 0 (c .before .before .args .k) tt refl (λ h. since (c .before .if1 .came) (λ t. t .taken) (λ e. e .2 .left) h) (c .no-label .ensures)
 
 pub mfrr-label-spec : {M : Type 1} → statement M
 mfrr-label-spec =
@@ -43,9 +34,6 @@ mfrr-label-spec =
     ramp-label-requires
     power-label-requires
     no-label-requires
-    same-length
     returns
-    same-length-2
     returns-2
-    same-length-3
     returns-3)

@@ -16,21 +16,13 @@ created-requires c κs = search needs
 ri-label-requires : tie.Need-ri-label-requires
 ri-label-requires c κs = search needs
 
-same-length : tie.Need-same-length
-same-length c = search needs
-
 returns : tie.Need-returns
 unfolding labelAt labelsOf fieldsOf mg
-returns c = arm _ _ _ (labelAt Generic) (c .before .before .before .before .match .keys1) (c .before .before .created .ensures)
-
-same-length-2 : tie.Need-same-length-2
-same-length-2 c = search needs
+returns c = arm (labelAt Generic) (c .before .match .keys1) (c .created .ensures)
 
 returns-2 : tie.Need-returns-2
 unfolding labelAt labelsOf fieldsOf ri mg
-returns-2 c = found _ _ _ (short-of ([] ∷ labelsOf Rejection) (drop 7 ([] ∷ labelsOf Generic)) (c .before .before .before .before .before .before .before .args .k) (above 7 1 (c .before .before .before .before .before .before .before .args .k) (c .before .before .before .before .match .rest))) (c .before .before .ri-label .ensures)
+returns-2 c = found (short-of ([] ∷ labelsOf Rejection) (drop 7 ([] ∷ labelsOf Generic)) (c .before .before .args .k) (above 7 1 (c .before .before .args .k) (c .before .match .rest))) (c .ri-label .ensures)
 
 pub mg-label-spec : {M : Type 1} → statement M
-mg-label-spec =
-    tie.close
-    (tie.spec created-requires ri-label-requires same-length returns same-length-2 returns-2)
+mg-label-spec = tie.close (tie.spec created-requires ri-label-requires returns returns-2)

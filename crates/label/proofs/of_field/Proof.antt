@@ -66,65 +66,35 @@ enum-told-10 c = search needs
 qr-label-requires : tie.Need-qr-label-requires
 qr-label-requires c κs = search needs
 
-same-length : tie.Need-same-length
-same-length c = search needs
-
 returns : tie.Need-returns
-returns c = found _ _ _ (of-layout (λ l. labelAt l (c .before .before .before .before .before .before .before .before .args .k)) (c .before .before .before .before .enum-told .given .1)) (c .before .before .market-label .ensures)
-
-same-length-2 : tie.Need-same-length-2
-same-length-2 c = search needs
+returns c = found (of-layout (λ l. labelAt l (c .before .before .before .args .k)) (c .before .enum-told .given .1)) (c .market-label .ensures)
 
 returns-2 : tie.Need-returns-2
-returns-2 c = found _ _ _ (of-layout (λ l. labelAt l (c .before .before .before .before .before .before .before .before .args .k)) (c .before .before .before .before .enum-told2 .given .1)) (c .before .before .mfrr-label .ensures)
-
-same-length-3 : tie.Need-same-length-3
-same-length-3 c = search needs
+returns-2 c = found (of-layout (λ l. labelAt l (c .before .before .before .args .k)) (c .before .enum-told2 .given .1)) (c .mfrr-label .ensures)
 
 returns-3 : tie.Need-returns-3
-returns-3 c = found _ _ _ (of-layout (λ l. labelAt l (c .before .before .before .before .before .before .before .before .args .k)) (c .before .before .before .before .enum-told3 .given .1)) (c .before .before .rc-label .ensures)
-
-same-length-4 : tie.Need-same-length-4
-same-length-4 c = search needs
+returns-3 c = found (of-layout (λ l. labelAt l (c .before .before .before .args .k)) (c .before .enum-told3 .given .1)) (c .rc-label .ensures)
 
 returns-4 : tie.Need-returns-4
-returns-4 c = found _ _ _ (of-layout (λ l. labelAt l (c .before .before .before .before .before .before .before .before .args .k)) (c .before .before .before .before .enum-told4 .given .1)) (c .before .before .mg-label .ensures)
-
-same-length-5 : tie.Need-same-length-5
-same-length-5 c = search needs
+returns-4 c = found (of-layout (λ l. labelAt l (c .before .before .before .args .k)) (c .before .enum-told4 .given .1)) (c .mg-label .ensures)
 
 returns-5 : tie.Need-returns-5
-returns-5 c = found _ _ _ (of-layout (λ l. labelAt l (c .before .before .before .before .before .before .before .before .args .k)) (c .before .before .before .before .enum-told5 .given .1)) (c .before .before .eb-label .ensures)
-
-same-length-6 : tie.Need-same-length-6
-same-length-6 c = search needs
+returns-5 c = found (of-layout (λ l. labelAt l (c .before .before .before .args .k)) (c .before .enum-told5 .given .1)) (c .eb-label .ensures)
 
 returns-6 : tie.Need-returns-6
-returns-6 c = found _ _ _ (of-layout (λ l. labelAt l (c .before .before .before .before .before .before .before .before .args .k)) (c .before .before .before .before .enum-told6 .given .1)) (c .before .before .lb-label .ensures)
-
-same-length-7 : tie.Need-same-length-7
-same-length-7 c = search needs
+returns-6 c = found (of-layout (λ l. labelAt l (c .before .before .before .args .k)) (c .before .enum-told6 .given .1)) (c .lb-label .ensures)
 
 returns-7 : tie.Need-returns-7
-returns-7 c = found _ _ _ (of-layout (λ l. labelAt l (c .before .before .before .before .before .before .before .before .args .k)) (c .before .before .before .before .enum-told7 .given .1)) (c .before .before .sr-label .ensures)
-
-same-length-8 : tie.Need-same-length-8
-same-length-8 c = search needs
+returns-7 c = found (of-layout (λ l. labelAt l (c .before .before .before .args .k)) (c .before .enum-told7 .given .1)) (c .sr-label .ensures)
 
 returns-8 : tie.Need-returns-8
-returns-8 c = found _ _ _ (of-layout (λ l. labelAt l (c .before .before .before .before .before .before .before .before .args .k)) (c .before .before .before .before .enum-told8 .given .1)) (c .before .before .vq-label .ensures)
-
-same-length-9 : tie.Need-same-length-9
-same-length-9 c = search needs
+returns-8 c = found (of-layout (λ l. labelAt l (c .before .before .before .args .k)) (c .before .enum-told8 .given .1)) (c .vq-label .ensures)
 
 returns-9 : tie.Need-returns-9
-returns-9 c = found _ _ _ (of-layout (λ l. labelAt l (c .before .before .before .before .before .before .before .before .args .k)) (c .before .before .before .before .enum-told9 .given .1)) (c .before .before .ri-label .ensures)
-
-same-length-10 : tie.Need-same-length-10
-same-length-10 c = search needs
+returns-9 c = found (of-layout (λ l. labelAt l (c .before .before .before .args .k)) (c .before .enum-told9 .given .1)) (c .ri-label .ensures)
 
 returns-10 : tie.Need-returns-10
-returns-10 c = found _ _ _ (of-layout (λ l. labelAt l (c .before .before .before .before .before .before .before .before .args .k)) (c .before .before .before .before .enum-told10 .given .1)) (c .before .before .qr-label .ensures)
+returns-10 c = found (of-layout (λ l. labelAt l (c .before .before .before .args .k)) (c .before .enum-told10 .given .1)) (c .qr-label .ensures)
 
 pub of-field-spec : {M : Type 1} → statement M
 of-field-spec =
@@ -150,23 +120,13 @@ of-field-spec =
     ri-label-requires
     enum-told-10
     qr-label-requires
-    same-length
     returns
-    same-length-2
     returns-2
-    same-length-3
     returns-3
-    same-length-4
     returns-4
-    same-length-5
     returns-5
-    same-length-6
     returns-6
-    same-length-7
     returns-7
-    same-length-8
     returns-8
-    same-length-9
     returns-9
-    same-length-10
     returns-10)

@@ -1,62 +1,69 @@
--- The six lines differ in one byte.
-use Prim.Native.Nat.{ℕ, zero, suc, _+_, _-_, _≤_}
-use Rattle.label.proofs.Arms.{found}
+-- Each arm is the entry of the table at its number.
+use Rattle.label.proofs.Arms.{arm, last-arm}
 use Rattle.label.proofs.profile_label.Statement.{statement}
 use Rattle.label.proofs.profile_label.Tie as tie
-use Rattle.label.specs.Labels.{padded}
-use Rattle.layout.specs.Fields.{command, technical, market}
+use Rattle.label.specs.Labels.{labelOf, padded}
+use Rattle.layout.specs.Fields.{market, command, technical}
 use Rattle.layout.specs.Layouts.{fieldsOf, labelsOf, labelAt}
 use Rattle.layout.specs.declared.Layout.the-variants.{Market}
-use Rattle.text.specs.Bytes.{bytes}
 use borrow.Author.Needs.{needs}
-use mathlib.Core.List.{List, [], _∷_, _++_}
-use mathlib.Core.Path.{_≡_, refl, ap, _∙_}
 use native.Mathlib.Omega.{arith}
-
-abbrev line : ℕ → List ℕ
-line i = bytes "Profilo normalizzato di rampa h" ++ (49 + i) ∷ []
-
--- the line i from 0
-line-at : (i : ℕ) → i ≤ 5 → line i ≡ labelAt Market (20 + i)
-unfolding labelAt labelsOf fieldsOf market command technical
-line-at zero h = refl
-line-at (suc zero) h = refl
-line-at (suc (suc zero)) h = refl
-line-at (suc (suc (suc zero))) h = refl
-line-at (suc (suc (suc (suc zero)))) h = refl
-line-at (suc (suc (suc (suc (suc zero))))) h = refl
-line-at (suc (suc (suc (suc (suc (suc i)))))) h = absurd (omega arith)
-
-of-number : (k : ℕ) → 20 ≤ k → k ≤ 25 → line (k - 20) ≡ labelAt Market k
-of-number k h j =
-    let e : 20 + (k - 20) ≡ k = omega arith in
-    line-at (k - 20) (omega arith) ∙ ap (labelAt Market) e
-
-sub-text : tie.Need-sub-text
-sub-text c = search needs
-
-cast-text : tie.Need-cast-text
-cast-text c = search needs
-
-add-text : tie.Need-add-text
-add-text c = search needs
-
-array-write-text : tie.Need-array-write-text
-array-write-text c = search needs
 
 labelled-requires : tie.Need-labelled-requires
 labelled-requires c κs = search needs
 
-same-length : tie.Need-same-length
-same-length c = search needs
+labelled-requires-2 : tie.Need-labelled-requires-2
+labelled-requires-2 c κs = search needs
+
+labelled-requires-3 : tie.Need-labelled-requires-3
+labelled-requires-3 c κs = search needs
+
+labelled-requires-4 : tie.Need-labelled-requires-4
+labelled-requires-4 c κs = search needs
+
+labelled-requires-5 : tie.Need-labelled-requires-5
+labelled-requires-5 c κs = search needs
+
+labelled-requires-6 : tie.Need-labelled-requires-6
+labelled-requires-6 c κs = search needs
 
 returns : tie.Need-returns
-unfolding padded
-returns c =
-    let k = c .before .before .before .before .before .before .before .before .args .k in
-    found _ _ _ (of-number k (omega arith) (omega arith)) (c .before .before .labelled .ensures)
+unfolding labelAt labelsOf fieldsOf market command technical labelOf padded
+returns c = arm (labelAt Market) (c .before .before .before .match .keys1) (c .labelled .ensures)
+
+returns-2 : tie.Need-returns-2
+unfolding labelAt labelsOf fieldsOf market command technical labelOf padded
+returns-2 c = arm (labelAt Market) (c .before .before .before .match .keys2) (c .labelled2 .ensures)
+
+returns-3 : tie.Need-returns-3
+unfolding labelAt labelsOf fieldsOf market command technical labelOf padded
+returns-3 c = arm (labelAt Market) (c .before .before .before .match .keys3) (c .labelled3 .ensures)
+
+returns-4 : tie.Need-returns-4
+unfolding labelAt labelsOf fieldsOf market command technical labelOf padded
+returns-4 c = arm (labelAt Market) (c .before .before .before .match .keys4) (c .labelled4 .ensures)
+
+returns-5 : tie.Need-returns-5
+unfolding labelAt labelsOf fieldsOf market command technical labelOf padded
+returns-5 c = arm (labelAt Market) (c .before .before .before .match .keys5) (c .labelled5 .ensures)
+
+returns-6 : tie.Need-returns-6
+unfolding labelAt labelsOf fieldsOf market command technical labelOf padded
+returns-6 c = last-arm (labelAt Market) 20 5 (c .before .before .before .before .args .k) (c .before .before .before .match .rest) (omega arith) (omega arith) (c .labelled6 .ensures)
 
 pub profile-label-spec : {M : Type 1} → statement M
 profile-label-spec =
     tie.close
-    (tie.spec sub-text cast-text add-text array-write-text labelled-requires same-length returns)
+    (tie.spec
+    labelled-requires
+    labelled-requires-2
+    labelled-requires-3
+    labelled-requires-4
+    labelled-requires-5
+    labelled-requires-6
+    returns
+    returns-2
+    returns-3
+    returns-4
+    returns-5
+    returns-6)

@@ -29,54 +29,33 @@ note-requires c κs = search needs
 no-label-requires : tie.Need-no-label-requires
 no-label-requires c κs = search needs
 
-same-length : tie.Need-same-length
-same-length c = search needs
-
 returns : tie.Need-returns
 unfolding labelAt labelsOf fieldsOf ri
-returns c = arm _ _ _ (labelAt Rejection) (c .before .before .before .before .match .keys1) (c .before .before .identifier .ensures)
-
-same-length-2 : tie.Need-same-length-2
-same-length-2 c = search needs
+returns c = arm (labelAt Rejection) (c .before .match .keys1) (c .identifier .ensures)
 
 returns-2 : tie.Need-returns-2
 unfolding labelAt labelsOf fieldsOf ri
-returns-2 c = arm _ _ _ (labelAt Rejection) (c .before .before .before .before .match .keys2) (c .before .before .unit .ensures)
-
-same-length-3 : tie.Need-same-length-3
-same-length-3 c = search needs
+returns-2 c = arm (labelAt Rejection) (c .before .match .keys2) (c .unit .ensures)
 
 returns-3 : tie.Need-returns-3
 unfolding labelAt labelsOf fieldsOf ri
-returns-3 c = arm _ _ _ (labelAt Rejection) (c .before .before .before .before .match .keys3) (c .before .before .start .ensures)
-
-same-length-4 : tie.Need-same-length-4
-same-length-4 c = search needs
+returns-3 c = arm (labelAt Rejection) (c .before .match .keys3) (c .start .ensures)
 
 returns-4 : tie.Need-returns-4
 unfolding labelAt labelsOf fieldsOf ri
-returns-4 c = arm _ _ _ (labelAt Rejection) (c .before .before .before .before .match .keys4) (c .before .before .end .ensures)
-
-same-length-5 : tie.Need-same-length-5
-same-length-5 c = search needs
+returns-4 c = arm (labelAt Rejection) (c .before .match .keys4) (c .end .ensures)
 
 returns-5 : tie.Need-returns-5
 unfolding labelAt labelsOf fieldsOf ri
-returns-5 c = arm _ _ _ (labelAt Rejection) (c .before .before .before .before .match .keys5) (c .before .before .reason .ensures)
-
-same-length-6 : tie.Need-same-length-6
-same-length-6 c = search needs
+returns-5 c = arm (labelAt Rejection) (c .before .match .keys5) (c .reason .ensures)
 
 returns-6 : tie.Need-returns-6
 unfolding labelAt labelsOf fieldsOf ri
-returns-6 c = arm _ _ _ (labelAt Rejection) (c .before .before .before .before .match .keys6) (c .before .before .note .ensures)
-
-same-length-7 : tie.Need-same-length-7
-same-length-7 c = search needs
+returns-6 c = arm (labelAt Rejection) (c .before .match .keys6) (c .note .ensures)
 
 returns-7 : tie.Need-returns-7
 unfolding labelsOf fieldsOf ri
-returns-7 c = no-arm-at _ _ _ Rejection 1 6 (c .before .before .before .before .before .before .before .args .k) (c .before .before .before .before .match .rest) refl (λ h. h) (c .before .before .no-label .ensures)
+returns-7 c = no-arm-at Rejection 1 6 (c .before .before .args .k) (c .before .match .rest) refl (λ h. h) (c .no-label .ensures)
 
 pub ri-label-spec : {M : Type 1} → statement M
 ri-label-spec =
@@ -89,17 +68,10 @@ ri-label-spec =
     reason-requires
     note-requires
     no-label-requires
-    same-length
     returns
-    same-length-2
     returns-2
-    same-length-3
     returns-3
-    same-length-4
     returns-4
-    same-length-5
     returns-5
-    same-length-6
     returns-6
-    same-length-7
     returns-7)

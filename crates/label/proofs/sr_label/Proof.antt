@@ -2,7 +2,7 @@
 use Rattle.label.proofs.Arms.{alike, arm, found, no-arm-at, since}
 use Rattle.label.proofs.sr_label.Statement.{statement}
 use Rattle.label.proofs.sr_label.Tie as tie
-use Rattle.label.specs.Labels.{padded}
+use Rattle.label.specs.Labels.{labelOf, padded}
 use Rattle.layout.specs.Fields.{sr, ri}
 use Rattle.layout.specs.Layouts.{fieldsOf, labelsOf, labelAt}
 use Rattle.layout.specs.declared.Layout.the-variants.{Secondary, Rejection}
@@ -33,54 +33,33 @@ ri-label-requires c κs = search needs
 no-label-requires : tie.Need-no-label-requires
 no-label-requires c κs = search needs
 
-same-length : tie.Need-same-length
-same-length c = search needs
-
 returns : tie.Need-returns
-unfolding labelAt labelsOf fieldsOf sr padded
-returns c = arm _ _ _ (labelAt Secondary) (c .before .before .before .before .before .before .match .keys1) (c .before .before .labelled .ensures)
-
-same-length-2 : tie.Need-same-length-2
-same-length-2 c = search needs
+unfolding labelAt labelsOf fieldsOf sr labelOf padded
+returns c = arm (labelAt Secondary) (c .before .before .before .match .keys1) (c .labelled .ensures)
 
 returns-2 : tie.Need-returns-2
-unfolding labelAt labelsOf fieldsOf sr padded
-returns-2 c = arm _ _ _ (labelAt Secondary) (c .before .before .before .before .before .before .match .keys2) (c .before .before .labelled2 .ensures)
-
-same-length-3 : tie.Need-same-length-3
-same-length-3 c = search needs
+unfolding labelAt labelsOf fieldsOf sr labelOf padded
+returns-2 c = arm (labelAt Secondary) (c .before .before .before .match .keys2) (c .labelled2 .ensures)
 
 returns-3 : tie.Need-returns-3
 unfolding labelAt labelsOf fieldsOf sr
-returns-3 c = arm _ _ _ (labelAt Secondary) (c .before .before .before .before .match .keys3) (c .before .before .reason .ensures)
-
-same-length-4 : tie.Need-same-length-4
-same-length-4 c = search needs
+returns-3 c = arm (labelAt Secondary) (c .before .match .keys3) (c .reason .ensures)
 
 returns-4 : tie.Need-returns-4
 unfolding labelAt labelsOf fieldsOf sr
-returns-4 c = arm _ _ _ (labelAt Secondary) (c .before .before .before .before .match .keys4) (c .before .before .note .ensures)
-
-same-length-5 : tie.Need-same-length-5
-same-length-5 c = search needs
+returns-4 c = arm (labelAt Secondary) (c .before .match .keys4) (c .note .ensures)
 
 returns-5 : tie.Need-returns-5
 unfolding labelAt labelsOf fieldsOf sr
-returns-5 c = arm _ _ _ (labelAt Secondary) (c .before .before .before .before .match .keys5) (c .before .before .created .ensures)
-
-same-length-6 : tie.Need-same-length-6
-same-length-6 c = search needs
+returns-5 c = arm (labelAt Secondary) (c .before .match .keys5) (c .created .ensures)
 
 returns-6 : tie.Need-returns-6
 unfolding labelAt labelsOf fieldsOf ri sr
-returns-6 c = found _ _ _ (alike (take 5 ([] ∷ labelsOf Rejection)) (drop 5 ([] ∷ labelsOf Rejection)) (drop 5 ([] ∷ labelsOf Secondary)) (c .before .before .before .before .before .before .before .before .before .args .k) (omega arith)) (c .before .before .ri-label .ensures)
-
-same-length-7 : tie.Need-same-length-7
-same-length-7 c = search needs
+returns-6 c = found (alike (take 5 ([] ∷ labelsOf Rejection)) (drop 5 ([] ∷ labelsOf Rejection)) (drop 5 ([] ∷ labelsOf Secondary)) (c .before .before .before .before .args .k) (omega arith)) (c .ri-label .ensures)
 
 returns-7 : tie.Need-returns-7
 unfolding labelsOf fieldsOf sr
-returns-7 c = no-arm-at _ _ _ Secondary 5 5 (c .before .before .before .before .before .before .before .before .args .k) (c .before .before .before .before .before .match .rest) refl (λ h. since (c .before .before .before .before .if1 .came) (λ t. t .taken) (λ e. e .1 .left) h) (c .before .before .no-label .ensures)
+returns-7 c = no-arm-at Secondary 5 5 (c .before .before .before .args .k) (c .before .before .match .rest) refl (λ h. since (c .before .if1 .came) (λ t. t .taken) (λ e. e .1 .left) h) (c .no-label .ensures)
 
 pub sr-label-spec : {M : Type 1} → statement M
 sr-label-spec =
@@ -93,17 +72,10 @@ sr-label-spec =
     created-requires
     ri-label-requires
     no-label-requires
-    same-length
     returns
-    same-length-2
     returns-2
-    same-length-3
     returns-3
-    same-length-4
     returns-4
-    same-length-5
     returns-5
-    same-length-6
     returns-6
-    same-length-7
     returns-7)

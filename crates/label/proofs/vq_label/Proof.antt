@@ -26,39 +26,24 @@ setting-label-requires c κs = search needs
 no-label-requires : tie.Need-no-label-requires
 no-label-requires c κs = search needs
 
-same-length : tie.Need-same-length
-same-length c = search needs
-
 returns : tie.Need-returns
 unfolding labelAt labelsOf fieldsOf vq
-returns c = arm _ _ _ (labelAt VoltVar) (c .before .before .before .before .match .keys1) (c .before .before .note .ensures)
-
-same-length-2 : tie.Need-same-length-2
-same-length-2 c = search needs
+returns c = arm (labelAt VoltVar) (c .before .match .keys1) (c .note .ensures)
 
 returns-2 : tie.Need-returns-2
 unfolding labelAt labelsOf fieldsOf vq
-returns-2 c = arm _ _ _ (labelAt VoltVar) (c .before .before .before .before .match .keys2) (c .before .before .created .ensures)
-
-same-length-3 : tie.Need-same-length-3
-same-length-3 c = search needs
+returns-2 c = arm (labelAt VoltVar) (c .before .match .keys2) (c .created .ensures)
 
 returns-3 : tie.Need-returns-3
 unfolding labelAt labelsOf fieldsOf ri vq
-returns-3 c = found _ _ _ (alike (take 5 ([] ∷ labelsOf Rejection)) (drop 5 ([] ∷ labelsOf Rejection)) (drop 5 ([] ∷ labelsOf VoltVar)) (c .before .before .before .before .before .before .before .before .before .args .k) (omega arith)) (c .before .before .ri-label .ensures)
-
-same-length-4 : tie.Need-same-length-4
-same-length-4 c = search needs
+returns-3 c = found (alike (take 5 ([] ∷ labelsOf Rejection)) (drop 5 ([] ∷ labelsOf Rejection)) (drop 5 ([] ∷ labelsOf VoltVar)) (c .before .before .before .before .args .k) (omega arith)) (c .ri-label .ensures)
 
 returns-4 : tie.Need-returns-4
 returns-4 c = search needs
 
-same-length-5 : tie.Need-same-length-5
-same-length-5 c = search needs
-
 returns-5 : tie.Need-returns-5
 unfolding labelsOf fieldsOf vq
-returns-5 c = no-arm-at _ _ _ VoltVar 12 2 (c .before .before .before .before .before .before .before .before .args .k) (c .before .before .before .before .before .match .rest) refl (λ h. since (c .before .before .before .before .if1 .came) (λ t. t .taken) (λ e. e .2 .left) h) (c .before .before .no-label .ensures)
+returns-5 c = no-arm-at VoltVar 12 2 (c .before .before .before .args .k) (c .before .before .match .rest) refl (λ h. since (c .before .if1 .came) (λ t. t .taken) (λ e. e .2 .left) h) (c .no-label .ensures)
 
 pub vq-label-spec : {M : Type 1} → statement M
 vq-label-spec =
@@ -69,13 +54,8 @@ vq-label-spec =
     ri-label-requires
     setting-label-requires
     no-label-requires
-    same-length
     returns
-    same-length-2
     returns-2
-    same-length-3
     returns-3
-    same-length-4
     returns-4
-    same-length-5
     returns-5)

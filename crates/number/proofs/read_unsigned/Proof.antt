@@ -1,94 +1,98 @@
--- The parts before and from the first point are what the two readers are lent.
-use Prim.Native.Nat.{_^_, _<_}
-use Rattle.number.proofs.Laws.{fraction-below, unsigned-at}
+-- The digits that it begins with, and what follows them: nothing, a point, or what no number has.
+use Prim.Native.Nat.{ℕ, _<_}
+use Rattle.number.proofs.Laws.{fraction-below}
+use Rattle.number.proofs.Leads.{lead-refused, lead-other, lead-taken, count-short, whole-below}
+use Rattle.number.specs.Number.{fractionOf, joined}
+use Rattle.text.specs.declared.digits.Digits.the-variants.{Are, Not}
+use Rattle.text.specs.declared.digits.Led.{Led}
+use lib.ListN.{length, getD, drop}
+use mathlib.Core.List.{List}
+use mathlib.Core.Logic.{⊎-elim}
+use mathlib.Core.Path.{_≡_, sym, _∙_}
+use native.Mathlib.Omega.{arith}
+use borrow.Author.Needs.{needs}
 use Rattle.number.proofs.read_unsigned.Statement.{statement}
 use Rattle.number.proofs.read_unsigned.Tie as tie
-use Rattle.number.specs.Number.{joined}
-use Rattle.text.proofs.Cuts.{front-count, upto-length}
-use Rattle.text.proofs.Numerals.{below}
-use Rattle.text.specs.Bytes.{is}
-use Rattle.text.specs.declared.digits.Digits.the-variants.{Are, Not}
-use borrow.Author.Needs.{needs}
-use mathlib.Core.Path.{refl, sym, _∙_}
-use native.Mathlib.Omega.{arith}
 
-first-requires : tie.Need-first-requires
-first-requires c κs = search needs
-
-slice-aggregate-read-digits : tie.Need-slice-aggregate-read-digits
-slice-aggregate-read-digits c = front-count _ _ (omega (arith, upto-length (is 46) (c .before .before .before .args .s .now)))
-
-read-digits-requires : tie.Need-read-digits-requires
-read-digits-requires c κs = search needs
-
-enum-known-w : tie.Need-enum-known-w
-enum-known-w c = search needs
-
-enum-told : tie.Need-enum-told
-enum-told c = search needs
+lead-requires : tie.Need-lead-requires
+lead-requires c κs = search needs
 
 returns : tie.Need-returns
-unfolding joined
-returns c =
-    let d = c .before .before in
-    unsigned-at _ _ Not _ (d .before .before .first .ensures) (sym (c .enum-told .given .1) ∙ d .read-digits .ensures) refl
+returns c = lead-refused _ _ (c .before .before .before .lead .ensures) (c .if1 .taken)
+
+shared-slice-read-if3 : tie.Need-shared-slice-read-if3
+shared-slice-read-if3 c = search needs
+
+returns-2 : tie.Need-returns-2
+returns-2 c =
+    let t = c .before .before .before in
+    lead-other _ _ (t .before .before .before .lead .ensures) (t .if1 .left) (c .before .before .if2 .taken) (c .if3 .taken)
+
+-- once they are read: the slice, and the digits
+abbrev s-of : tie.Joined2 → List ℕ
+s-of c = c .before .before .before .before .before .before .args .s .now
+
+abbrev w-of : tie.Joined2 → Led
+w-of c = c .before .before .before .before .lead .result
+
+-- behind the digits, where anything follows them, stands a point
+point-at : (c : tie.Joined2) → w-of c .count < length (s-of c) → getD (s-of c) (w-of c .count) 0 ≡ 46
+point-at c h = ⊎-elim (λ w. w .2 .left) (λ w. absurd (omega (arith, w .left))) (c .if2 .came)
 
 read-fraction-requires : tie.Need-read-fraction-requires
-read-fraction-requires c κs = omega (arith, upto-length (is 46) (c .before .before .before .before .before .before .before .args .s .now))
+read-fraction-requires c κs =
+    count-short (s-of c) (w-of c) (c .before .before .before .before .lead .ensures) (c .before .if1 .left)
 
 enum-known-f : tie.Need-enum-known-f
 enum-known-f c = search needs
 
-enum-told-2 : tie.Need-enum-told-2
-enum-told-2 c = search needs
-
-returns-2 : tie.Need-returns-2
-unfolding joined
-returns-2 c =
-    let w = c .before .before .before .before in
-    let d = w .before .before in
-    unsigned-at _ _ (Are (w .w .given .0 .0)) Not (d .before .before .first .ensures)
-    (sym (w .w .given .1) ∙ d .read-digits .ensures)
-    (sym (c .enum-told2 .given .1) ∙ c .before .before .read-fraction .ensures)
-
-w-below : (c : tie.After-known-told2) → c .before .before .before .before .before .w .given .0 .0 < 10 ^ 6
-w-below c =
-    let d = c .before .before .before .before .before in
-    below 6 _ _ (sym (d .before .before .read-digits .ensures) ∙ d .w .given .1)
-
-f-below : (c : tie.After-known-told2) → c .before .f .given .0 .0 < 1000
-f-below c = fraction-below _ _ (sym (c .before .before .before .read-fraction .ensures) ∙ c .before .f .given .1)
-
-mul-t9 : tie.Need-mul-t9
-mul-t9 c = omega (arith, w-below c)
-
-add-t10 : tie.Need-add-t10
-add-t10 c = omega (arith, w-below c, f-below c)
+enum-told : tie.Need-enum-told
+enum-told c = search needs
 
 returns-3 : tie.Need-returns-3
 unfolding joined
 returns-3 c =
-    let f = c .before in
-    let w = f .before .before .before .before in
-    let d = w .before .before in
-    unsigned-at _ _ (Are (w .w .given .0 .0)) (Are (f .f .given .0 .0)) (d .before .before .first .ensures)
-    (sym (w .w .given .1) ∙ d .read-digits .ensures)
-    (sym (f .f .given .1) ∙ f .before .before .read-fraction .ensures)
+    let j = c .before .before .before in
+    let t = j .before in
+    let l = t .before .before .before in
+    lead-taken _ _ (l .lead .ensures) (t .if1 .left) (point-at j) Not (sym (c .enum-told .given .1) ∙ c .before .before .read-fraction .ensures)
+
+-- what was read: the digits before the point, and the decimals
+abbrev joined-at : tie.After-struct-known3 → tie.Joined2
+joined-at c = c .before .before .before .before .before
+
+whole : (c : tie.After-struct-known3) → w-of (joined-at c) .value < 1000000
+whole c =
+    let j = joined-at c in
+    whole-below (s-of j) (w-of j) (j .before .before .before .before .lead .ensures) (j .before .if1 .left) (point-at j)
+
+decimals : (c : tie.After-struct-known3) → Are (c .before .before .f .given .0 .0) ≡ fractionOf (drop (w-of (joined-at c) .count) (s-of (joined-at c)))
+decimals c = sym (c .before .before .f .given .1) ∙ c .before .before .before .before .read-fraction .ensures
+
+mul-t13 : tie.Need-mul-t13
+mul-t13 c = omega (arith, whole c)
+
+add-t14 : tie.Need-add-t14
+add-t14 c = omega (arith, whole c, fraction-below _ _ (sym (decimals c)))
+
+returns-4 : tie.Need-returns-4
+unfolding joined
+returns-4 c =
+    let j = joined-at c in
+    lead-taken _ _ (j .before .before .before .before .lead .ensures) (j .before .if1 .left) (point-at j) _ (decimals c)
 
 pub read-unsigned-spec : {M : Type 1} → statement M
 read-unsigned-spec =
     tie.close
     (tie.spec
-    first-requires
-    slice-aggregate-read-digits
-    read-digits-requires
-    enum-known-w
-    enum-told
+    lead-requires
     returns
+    shared-slice-read-if3
+    returns-2
     read-fraction-requires
     enum-known-f
-    enum-told-2
-    returns-2
-    mul-t9
-    add-t10
-    returns-3)
+    enum-told
+    returns-3
+    mul-t13
+    add-t14
+    returns-4)

@@ -1,19 +1,24 @@
 -- One loop over the rows: what is read so far, and what the rest gives below it, is the plan. (r is the place where a row was read.)
-use Prim.Native.Nat.{_-_}
-use Rattle.plan.proofs.Walks.{Sofar, empty, begin, finish, too-many, bad-line, unit-inside, row-inside, next-row}
+use Prim.Native.Nat.{_-_, _≤_, _<_}
+use Rattle.address.proofs.Addresses.{none-more}
+use Rattle.plan.proofs.Walks.{Sofar, empty, begin, finish, too-many, none-there, bad-line, unit-inside, row-inside, next-row}
 use Rattle.plan.proofs.seek.Statement.{statement}
 use Rattle.plan.proofs.seek.Tie as tie
+use Rattle.text.specs.Bytes.{any}
 use borrow.Author.Needs.{needs}
-use lib.ListN.{length}
+use lib.Dec.{ltb}
+use lib.ListN.{length, take}
+use mathlib.Core.Bool.{false}
 use mathlib.Core.Logic.{inl, inr, ⊎-elim}
 use mathlib.Core.Path.{_≡_, refl, _∙_}
 use native.Mathlib.Omega.{arith}
 
 abbrev Inv-loop : tie.InvT-loop
-Inv-loop plan ca ioa sought keys₀ count₀ found₀ rest₀ keys count found rest = (length keys ≡ 64) × Sofar plan ca ioa keys count found rest
+Inv-loop plan ca ioa sought keys₀ count₀ greatest₀ found₀ rest₀ keys count greatest found rest =
+    (length keys ≡ 64) × Sofar plan ca ioa keys count found rest × (any (ltb greatest) (take count keys) ≡ false)
 
 abbrev μ-loop : tie.MeasureT-loop
-μ-loop plan ca ioa sought keys₀ count₀ found₀ rest₀ keys count found rest = 64 - count
+μ-loop plan ca ioa sought keys₀ count₀ greatest₀ found₀ rest₀ keys count greatest found rest = 64 - count
 
 refused-requires : tie.Need-refused-requires Inv-loop μ-loop
 refused-requires c κs = search needs
@@ -28,7 +33,8 @@ refused-requires-2 : tie.Need-refused-requires-2 Inv-loop μ-loop
 refused-requires-2 c κs = search needs
 
 loop-holds : tie.Need-loop-holds Inv-loop μ-loop
-loop-holds c = (refl, begin _ _ _ _ _ (c .before .before .if1 .left) (c .refused2 .ensures))
+unfolding any
+loop-holds c = (refl, begin _ _ _ _ _ (c .before .before .if1 .left) (c .refused2 .ensures), refl)
 
 mul-line : tie.Need-mul-line Inv-loop μ-loop
 mul-line c = search needs
@@ -52,7 +58,7 @@ part-row-at-end : tie.Need-part-row-at-end Inv-loop μ-loop
 part-row-at-end c = search needs
 
 row-at-requires : tie.Need-row-at-requires Inv-loop μ-loop
-row-at-requires c κs = search needs
+row-at-requires c κs = let l = c .before .before .before .before .loop in none-there (l .keys) (l .count) (l .greatest) (l .inv .2)
 
 enum-known-k : tie.Need-enum-known-k Inv-loop μ-loop
 enum-known-k c = search needs
@@ -85,18 +91,25 @@ mul-keys c = search needs
 array-write-keys : tie.Need-array-write-keys Inv-loop μ-loop
 array-write-keys c = search needs
 
+larger-requires : tie.Need-larger-requires Inv-loop μ-loop
+larger-requires c κs = search needs
+
 add-count : tie.Need-add-count Inv-loop μ-loop
 add-count c = search needs
 
+-- where a row was read: its end is in the text
+end-inside : (c : tie.After-larger Inv-loop μ-loop) → c .before .before .before .before .e .given .0 .0 .end ≤ length (c .before .before .before .before .before .before .before .before .before .before .before .loop .rest .now)
+end-inside c =
+    let e = c .before .before .before .before in
+    let r = e .before .before in
+    let l = r .before .before .before .before .before in
+    row-inside _ _ _ _ _ _ _ (l .loop .inv .1) (r .before .before .before .before .loop-test .taken) _ (r .before .before .before .if2 .left) (r .row-at .ensures) _ (e .e .given .1)
+
 sub-next : tie.Need-sub-next Inv-loop μ-loop
-sub-next c =
-    let r = c .before .before .before .before .before in
-    row-inside _ _ _ _ _ _ _ (r .before .before .before .before .before .loop .inv .1) (r .before .before .before .before .loop-test .taken) _ (r .before .before .before .if2 .left) (r .row-at .ensures) _ (c .before .before .before .e .given .1)
+sub-next c = end-inside c
 
 part-next-start : tie.Need-part-next-start Inv-loop μ-loop
-part-next-start c =
-    let r = c .before .before .before .before .before in
-    row-inside _ _ _ _ _ _ _ (r .before .before .before .before .before .loop .inv .1) (r .before .before .before .before .loop-test .taken) _ (r .before .before .before .if2 .left) (r .row-at .ensures) _ (c .before .before .before .e .given .1)
+part-next-start c = end-inside c
 
 part-next-end : tie.Need-part-next-end Inv-loop μ-loop
 part-next-end c = search needs
@@ -106,8 +119,15 @@ loop-less c = search needs
 
 loop-again : tie.Need-loop-again Inv-loop μ-loop
 loop-again c =
-    let r = c .before .before .before .before .before .before in
-    (search needs, next-row _ _ _ _ _ _ _ (r .before .before .before .before .before .loop .inv .1) (r .before .before .before .before .loop-test .taken) _ (r .before .before .before .if2 .left) (r .row-at .ensures) _ (c .before .before .before .before .e .given .1) _ _ (r .before .before .before .before .before .before .before .sought-key .ensures) (⊎-elim (λ w. inl (w .0 .taken, w .2 ∙ w .1 .ensures)) (λ w. inr (w .0 .left, w .1)) (c .before .if3 .came)) (omega arith))
+    let f = c .before .before in
+    let e = f .before .before .before in
+    let r = e .before .before in
+    let l = r .before .before .before .before .before in
+    let h : l .loop .count < length (l .loop .keys) = omega arith in (
+      search needs,
+      next-row _ _ _ _ _ _ _ (l .loop .inv .1) (r .before .before .before .before .loop-test .taken) _ (r .before .before .before .if2 .left) (r .row-at .ensures) _ (e .e .given .1) _ _ (l .before .before .sought-key .ensures) (⊎-elim (λ w. inl (w .0 .taken, w .2 ∙ w .1 .ensures)) (λ w. inr (w .0 .left, w .1)) (f .if3 .came)) h,
+      none-more _ _ _ _ _ (l .loop .inv .2) (c .before .larger .ensures) h,
+    )
 
 returns-4 : tie.Need-returns-4 Inv-loop μ-loop
 returns-4 c = finish _ _ _ _ _ _ _ (c .before .loop .inv .1) (c .loop-test .left)
@@ -140,6 +160,7 @@ seek-spec =
     found-in-requires
     mul-keys
     array-write-keys
+    larger-requires
     add-count
     sub-next
     part-next-start

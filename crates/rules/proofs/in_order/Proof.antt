@@ -1,8 +1,7 @@
 -- The rule, test by test as its definition says.
+use borrow.Author.Needs.{needs}
 use Rattle.rules.proofs.in_order.Statement.{statement}
 use Rattle.rules.proofs.in_order.Tie as tie
-use Rattle.rules.specs.Rules.{inOrder}
-use borrow.Author.Needs.{needs}
 
 filled-requires : tie.Need-filled-requires
 filled-requires c κs = search needs
@@ -14,7 +13,6 @@ instant-at-requires-2 : tie.Need-instant-at-requires-2
 instant-at-requires-2 c κs = search needs
 
 returns : tie.Need-returns
-unfolding inOrder
 returns c = rw (c .before .before .filled .ensures, c .before .instant-at .ensures, c .instant-at2 .ensures)
 
 pub in-order-spec : {M : Type 1} → statement M

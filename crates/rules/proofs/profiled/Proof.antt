@@ -1,8 +1,7 @@
 -- The rule, test by test as its definition says.
+use borrow.Author.Needs.{needs}
 use Rattle.rules.proofs.profiled.Statement.{statement}
 use Rattle.rules.proofs.profiled.Tie as tie
-use Rattle.rules.specs.Rules.{profiled}
-use borrow.Author.Needs.{needs}
 
 filled-requires : tie.Need-filled-requires
 filled-requires c κs = search needs
@@ -23,8 +22,10 @@ filled-requires-6 : tie.Need-filled-requires-6
 filled-requires-6 c κs = search needs
 
 returns : tie.Need-returns
-unfolding profiled
-returns c = rw (c .before .before .before .before .before .filled .ensures, c .before .before .before .before .filled2 .ensures, c .before .before .before .filled3 .ensures, c .before .before .filled4 .ensures, c .before .filled5 .ensures, c .filled6 .ensures)
+returns c =
+    let h = c .before .before .before in
+    let b = c .before in
+    rw (h .before .before .filled .ensures, h .before .filled2 .ensures, h .filled3 .ensures, b .before .filled4 .ensures, b .filled5 .ensures, c .filled6 .ensures)
 
 pub profiled-spec : {M : Type 1} → statement M
 profiled-spec =

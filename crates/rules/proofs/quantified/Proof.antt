@@ -1,11 +1,10 @@
 -- The rule, test by test as its definition says.
 use Rattle.rules.proofs.Steps.{same-iff}
-use Rattle.rules.proofs.quantified.Statement.{statement}
-use Rattle.rules.proofs.quantified.Tie as tie
-use Rattle.rules.specs.Rules.{quantified}
-use borrow.Author.Needs.{needs}
 use mathlib.Core.Bool.{not}
 use mathlib.Core.Path.{ap}
+use borrow.Author.Needs.{needs}
+use Rattle.rules.proofs.quantified.Statement.{statement}
+use Rattle.rules.proofs.quantified.Tie as tie
 
 filled-requires : tie.Need-filled-requires
 filled-requires c κs = search needs
@@ -14,7 +13,6 @@ filled-requires-2 : tie.Need-filled-requires-2
 filled-requires-2 c κs = search needs
 
 returns : tie.Need-returns
-unfolding quantified
 returns c = same-iff (c .before .filled .ensures) (ap not (c .filled2 .ensures))
 
 pub quantified-spec : {M : Type 1} → statement M

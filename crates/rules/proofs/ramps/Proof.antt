@@ -1,8 +1,7 @@
 -- The rule, test by test as its definition says.
+use borrow.Author.Needs.{needs}
 use Rattle.rules.proofs.ramps.Statement.{statement}
 use Rattle.rules.proofs.ramps.Tie as tie
-use Rattle.rules.specs.Rules.{ramps}
-use borrow.Author.Needs.{needs}
 
 instant-at-requires : tie.Need-instant-at-requires
 instant-at-requires c κs = search needs
@@ -17,8 +16,9 @@ instant-at-requires-4 : tie.Need-instant-at-requires-4
 instant-at-requires-4 c κs = search needs
 
 returns : tie.Need-returns
-unfolding ramps
-returns c = rw (c .before .before .before .instant-at .ensures, c .before .before .instant-at2 .ensures, c .before .instant-at3 .ensures, c .instant-at4 .ensures)
+returns c =
+    let b = c .before .before in
+    rw (b .before .instant-at .ensures, b .instant-at2 .ensures, c .before .instant-at3 .ensures, c .instant-at4 .ensures)
 
 pub ramps-spec : {M : Type 1} → statement M
 ramps-spec =

@@ -1,5 +1,5 @@
--- What is passed and what is left make the whole: the laws of the walk, one a need.
-use Prim.Native.Nat.{_-_}
+-- The lines passed and what is left make the whole; a line more is passed by one turn.
+use Prim.Native.Nat.{_-_, _≤_}
 use Rattle.walk.proofs.Line.{first-le, second-le, kept-le}
 use Rattle.walk.proofs.Walking.{Sofar, begin, first-small, second-small, end-near, finish, past-near, turned, stop, shorter}
 use Rattle.walk.proofs.walk.Statement.{statement}
@@ -15,30 +15,40 @@ Inv-loop t s frame₀ first₀ second₀ places₀ others₀ turn₀ at₀ frame
 abbrev μ-loop : tie.MeasureT-loop
 μ-loop t s frame₀ first₀ second₀ places₀ others₀ turn₀ at₀ frame first second places others turn at = length s - at
 
+-- ---- the places of a turn, each from a later one
+
+abbrev begun : tie.After-line-of Inv-loop μ-loop → tie.Start Inv-loop μ-loop
+begun c = c .before .before .before .before
+
+abbrev lined : tie.After-frame-in Inv-loop μ-loop → tie.After-line-of Inv-loop μ-loop
+lined c = c .before .before .before .before .before .before
+
+abbrev framed : tie.After-second Inv-loop μ-loop → tie.After-frame-in Inv-loop μ-loop
+framed c = c .before .before .before .before
+
+-- ---- what is known of a line
+
+first-near : (c : tie.After-line-of Inv-loop μ-loop) → c .line-of .result .first ≤ 26
+first-near c = first-le _ _ _ _ _ (c .line-of .ensures .1)
+
+second-near : (c : tie.After-line-of Inv-loop μ-loop) → c .line-of .result .second ≤ 26
+second-near c = second-le _ _ _ _ _ (c .line-of .ensures .1)
+
+kept-first : (c : tie.After-note Inv-loop μ-loop) → c .note .result .into ≤ 26
+kept-first c = kept-le _ _ _ (first-near (lined (c .before))) (c .note .ensures)
+
+kept-second : (c : tie.After-note2 Inv-loop μ-loop) → c .note2 .result .into ≤ 26
+kept-second c = kept-le _ _ _ (second-near (lined (c .before .before .before))) (c .note2 .ensures)
+
 loop-holds : tie.Need-loop-holds Inv-loop μ-loop
 loop-holds c = begin _ _
 
-sub-plain-run : tie.Need-sub-plain-run Inv-loop μ-loop
-sub-plain-run c = search needs
-
-part-plain-run-start : tie.Need-part-plain-run-start Inv-loop μ-loop
-part-plain-run-start c = search needs
-
-part-plain-run-end : tie.Need-part-plain-run-end Inv-loop μ-loop
-part-plain-run-end c = search needs
-
-plain-run-requires : tie.Need-plain-run-requires Inv-loop μ-loop
-plain-run-requires c κs = search needs
-
-add-end : tie.Need-add-end Inv-loop μ-loop
-add-end c =
-    let start = c .before .before .before .before .before in
-    omega (arith, end-near (start .args .s .now) (c .before .before .before .loop .at) (c .plain-run .result) (c .before .before .loop-test .taken) (c .plain-run .ensures))
+line-of-requires : tie.Need-line-of-requires Inv-loop μ-loop
+line-of-requires c κs = let z = c .before .before .before in (c .before .loop .inv .near, omega (arith, z .pre))
 
 break-at-requires : tie.Need-break-at-requires Inv-loop μ-loop
 break-at-requires c κs =
-    let start = c .before .before .before .before .before in
-    end-near (start .args .s .now) (c .before .before .before .loop .at) (c .plain-run .result) (c .before .before .loop-test .taken) (c .plain-run .ensures)
+    end-near (begun c .args .s .now) (c .before .before .loop .at) (c .line-of .result .end) (c .before .loop-test .taken) (c .line-of .ensures .0)
 
 enum-known-n : tie.Need-enum-known-n Inv-loop μ-loop
 enum-known-n c = search needs
@@ -46,86 +56,67 @@ enum-known-n c = search needs
 enum-told : tie.Need-enum-told Inv-loop μ-loop
 enum-told c = search needs
 
-line-of-requires : tie.Need-line-of-requires Inv-loop μ-loop
-line-of-requires c κs =
-    let run = c .before .before .before .before in
-    let start = run .before .before .before .before .before in
-    let near = end-near (start .args .s .now) (run .before .before .before .loop .at) (run .plain-run .result) (run .before .before .loop-test .taken) (run .plain-run .ensures) in
-    (omega arith, near, omega (arith, near, start .pre))
-
 frame-in-requires : tie.Need-frame-in-requires Inv-loop μ-loop
 frame-in-requires c κs = search needs
 
 note-requires : tie.Need-note-requires Inv-loop μ-loop
-note-requires c κs =
-    let line = c .before .before in
-    (first-le _ _ _ _ _ (line .line-of .ensures), first-small _ _ _ _ _ _ _ _ (line .before .before .before .before .before .before .before .before .loop .inv))
+note-requires c κs = (first-near (lined c), first-small _ _ _ _ _ _ _ _ (lined c .before .before .loop .inv))
 
 mul-places : tie.Need-mul-places Inv-loop μ-loop
-mul-places c =
-    let near = kept-le _ _ _ (first-le _ _ _ _ _ (c .before .before .before .before .line-of .ensures)) (c .before .note .ensures) in
-    omega arith
+mul-places c = let near = kept-first (c .before) in omega arith
 
 array-set-from-places : tie.Need-array-set-from-places Inv-loop μ-loop
-array-set-from-places c =
-    let near = kept-le _ _ _ (first-le _ _ _ _ _ (c .before .before .before .before .line-of .ensures)) (c .before .note .ensures) in
-    omega arith
+array-set-from-places c = let near = kept-first (c .before) in omega arith
 
 note-requires-2 : tie.Need-note-requires-2 Inv-loop μ-loop
 note-requires-2 c κs =
-    let line = c .before .before .before .before in
-    (second-le _ _ _ _ _ (line .line-of .ensures), second-small _ _ _ _ _ _ _ _ (line .before .before .before .before .before .before .before .before .loop .inv))
+    let line = lined (c .before .before) in
+    (second-near line, second-small _ _ _ _ _ _ _ _ (line .before .before .loop .inv))
 
 mul-others : tie.Need-mul-others Inv-loop μ-loop
-mul-others c =
-    let near = kept-le _ _ _ (second-le _ _ _ _ _ (c .before .before .before .before .before .before .line-of .ensures)) (c .before .note2 .ensures) in
-    omega arith
+mul-others c = let near = kept-second (c .before) in omega arith
 
 array-set-from-others : tie.Need-array-set-from-others Inv-loop μ-loop
-array-set-from-others c =
-    let near = kept-le _ _ _ (second-le _ _ _ _ _ (c .before .before .before .before .before .before .line-of .ensures)) (c .before .note2 .ensures) in
-    omega arith
+array-set-from-others c = let near = kept-second (c .before) in omega arith
 
 turn-after-requires : tie.Need-turn-after-requires Inv-loop μ-loop
-turn-after-requires c κs =
-    let line = c .before .before .before .before .before .before in
-    (first-le _ _ _ _ _ (line .line-of .ensures), second-le _ _ _ _ _ (line .line-of .ensures))
+turn-after-requires c κs = let line = lined (framed c) in (first-near line, second-near line)
 
 add-at : tie.Need-add-at Inv-loop μ-loop
 add-at c =
-    let told = c .before .before .before .before .before .before .before .before .before in
-    let run = told .before .before .before in
-    let start = run .before .before .before .before .before in
-    omega (
-      arith,
-      past-near (start .args .s .now) (run .before .before .before .loop .at) (run .plain-run .result) (run .before .before .loop-test .taken) (run .plain-run .ensures) (told .n .given .0 .0)
-          (sym (told .n .given .1) ∙ told .before .before .break-at .ensures),
-      start .good .1 .0,
-    )
+    let frame = framed (c .before) in
+    let line = lined frame in
+    let told = frame .before .before .before in
+    let ended = sym (told .n .given .1) ∙ told .before .before .break-at .ensures in
+    let near =
+    past-near (begun line .args .s .now) (line .before .before .loop .at) (line .line-of .result .end) (line .before .loop-test .taken) (line .line-of .ensures .0)
+    _ ended in
+    omega (arith, near, begun line .good .1 .0)
 
 loop-less : tie.Need-loop-less Inv-loop μ-loop
 loop-less c =
-    let told = c .before .before .before .before .before .before .before .before .before in
-    let run = told .before .before .before in
-    let start = run .before .before .before .before .before in
-    shorter (start .args .s .now) (run .before .before .before .loop .at) (run .plain-run .result) (run .before .before .loop-test .taken) (run .plain-run .ensures) _
-    (sym (told .n .given .1) ∙ told .before .before .break-at .ensures)
+    let frame = framed (c .before) in
+    let line = lined frame in
+    let told = frame .before .before .before in
+    shorter _ _ _ (line .before .loop-test .taken) (line .line-of .ensures .0) _ (sym (told .n .given .1) ∙ told .before .before .break-at .ensures)
 
 loop-again : tie.Need-loop-again Inv-loop μ-loop
 loop-again c =
-    let told = c .before .before .before .before .before .before .before .before .before in
-    let run = told .before .before .before in
-    turned _ _ _ _ _ _ _ _ (run .before .before .before .loop .inv) _ _ _ _ _ _
-    (run .before .before .loop-test .taken) (run .plain-run .ensures) (sym (told .n .given .1) ∙ told .before .before .break-at .ensures)
-    (c .before .before .before .before .before .before .before .line-of .ensures) (c .before .before .before .before .before .frame-in .ensures) (c .before .before .before .before .note .ensures) (c .before .before .note2 .ensures)
+    let second = c .before in
+    let frame = framed second in
+    let line = lined frame in
+    let told = frame .before .before .before in
+    turned _ _ _ _ _ _ _ _ (line .before .before .loop .inv) _ _ _ _ _ (line .before .loop-test .taken) (line .line-of .ensures)
+    (sym (told .n .given .1) ∙ told .before .before .break-at .ensures)
+    (frame .frame-in .ensures) (second .before .before .before .note .ensures) (second .before .note2 .ensures)
 
 returns : tie.Need-returns Inv-loop μ-loop
 returns c = finish _ _ _ _ _ _ _ _ (c .before .loop .inv) (c .loop-test .left)
 
 returns-2 : tie.Need-returns-2 Inv-loop μ-loop
 returns-2 c =
-    let run = c .before .before .before in
-    stop _ _ _ _ _ _ _ _ (run .before .before .before .loop .inv) _ (run .before .before .loop-test .taken) (run .plain-run .ensures)
+    let line = c .before .before .before in
+    stop _ _ _ _ _ _ _ _ (line .before .before .loop .inv) _ (line .before .loop-test .taken) (line .line-of .ensures .0)
     (sym (c .enum-told .given .1) ∙ c .before .before .break-at .ensures)
 
 pub walk-spec : {M : Type 1} → statement M
@@ -135,15 +126,10 @@ walk-spec =
     Inv-loop
     μ-loop
     loop-holds
-    sub-plain-run
-    part-plain-run-start
-    part-plain-run-end
-    plain-run-requires
-    add-end
+    line-of-requires
     break-at-requires
     enum-known-n
     enum-told
-    line-of-requires
     frame-in-requires
     note-requires
     mul-places

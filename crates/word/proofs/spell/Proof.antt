@@ -1,4 +1,4 @@
--- The three tables are the parts of one.
+-- Each arm is a part of the table.
 use Rattle.word.proofs.Arms.{found}
 use Rattle.word.proofs.Table.{command-is, mode-is, setting-is, none-below, none-above}
 use Rattle.word.proofs.spell.Statement.{statement}
@@ -19,31 +19,19 @@ setting-word-requires c κs = search needs
 no-word-requires : tie.Need-no-word-requires
 no-word-requires c κs = search needs
 
-same-length : tie.Need-same-length
-same-length c = search needs
-
 returns : tie.Need-returns
-returns c = found _ _ _ (command-is (c .before .before .before .before .before .before .before .before .args .w) (omega arith) (omega arith)) (c .before .before .command-word .ensures)
-
-same-length-2 : tie.Need-same-length-2
-same-length-2 c = search needs
+returns c = found (command-is (c .before .before .before .args .w) (omega arith) (omega arith)) (c .command-word .ensures)
 
 returns-2 : tie.Need-returns-2
-returns-2 c = found _ _ _ (mode-is (c .before .before .before .before .before .before .before .before .before .args .w) (omega arith) (omega arith)) (c .before .before .mode-word .ensures)
-
-same-length-3 : tie.Need-same-length-3
-same-length-3 c = search needs
+returns-2 c = found (mode-is (c .before .before .before .before .args .w) (omega arith) (omega arith)) (c .mode-word .ensures)
 
 returns-3 : tie.Need-returns-3
-returns-3 c = found _ _ _ (setting-is (c .before .before .before .before .before .before .before .before .before .before .args .w) (omega arith) (omega arith)) (c .before .before .setting-word .ensures)
-
-same-length-4 : tie.Need-same-length-4
-same-length-4 c = search needs
+returns-3 c = found (setting-is (c .before .before .before .before .before .args .w) (omega arith) (omega arith)) (c .setting-word .ensures)
 
 returns-4 : tie.Need-returns-4
 returns-4 c =
-    let w = c .before .before .before .before .before .before .before .args .w in
-    found _ _ _ (⊎-elim (λ h. none-below w (h .taken)) (λ h. none-above w (omega (arith, h .3 .left))) (c .before .before .before .before .if1 .came)) (c .before .before .no-word .ensures)
+    let w = c .before .before .args .w in
+    found (⊎-elim (λ h. none-below w (h .taken)) (λ h. none-above w (omega (arith, h .3 .left))) (c .before .if1 .came)) (c .no-word .ensures)
 
 pub spell-spec : {M : Type 1} → statement M
 spell-spec =
@@ -53,11 +41,7 @@ spell-spec =
     mode-word-requires
     setting-word-requires
     no-word-requires
-    same-length
     returns
-    same-length-2
     returns-2
-    same-length-3
     returns-3
-    same-length-4
     returns-4)

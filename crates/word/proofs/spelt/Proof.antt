@@ -1,43 +1,43 @@
--- The first bytes against the text, and into the buffer.
-use Rattle.text.proofs.Cuts.{front-count}
-use Rattle.word.proofs.Arms.{met}
+-- Each number of its part.
 use Rattle.word.proofs.spelt.Statement.{statement}
 use Rattle.word.proofs.spelt.Tie as tie
+use Rattle.word.specs.Words.{roomSpelling}
 use borrow.Author.Needs.{needs}
-use native.Mathlib.Omega.{arith}
 
-array-share-prefix-bytes : tie.Need-array-share-prefix-bytes
-array-share-prefix-bytes c = search needs
+slice-aggregate-eight : tie.Need-slice-aggregate-eight
+slice-aggregate-eight c = search needs
 
-slice-aggregate-word : tie.Need-slice-aggregate-word
-slice-aggregate-word c =
-    let a = c .before .before .before .args in
-    front-count (a .t2) (a .size) (omega arith)
+eight-requires : tie.Need-eight-requires
+eight-requires c κs = search needs
 
-same-requires : tie.Need-same-requires
-same-requires c κs = search needs
+slice-aggregate-eight-2 : tie.Need-slice-aggregate-eight-2
+slice-aggregate-eight-2 c = search needs
 
-put-text-requires : tie.Need-put-text-requires
-put-text-requires c κs =
-    let a = c .before .before .before .before .before .args in
-    omega (arith, front-count (a .t2) (a .size) (omega arith))
+eight-requires-2 : tie.Need-eight-requires-2
+eight-requires-2 c κs = search needs
 
-same-length : tie.Need-same-length
-same-length c = search needs
+slice-aggregate-four : tie.Need-slice-aggregate-four
+slice-aggregate-four c = search needs
+
+four-requires : tie.Need-four-requires
+four-requires c κs = search needs
+
+cast-t13 : tie.Need-cast-t13
+cast-t13 c = search needs
 
 returns : tie.Need-returns
-returns c =
-    let a = c .before .before .before .before .before .before .before .before .args in
-    let is = c .before .before .before .before .same in
-    (met (a .size) (a .t2) (a .s .now) (is .result) (omega arith) (is .ensures), c .before .before .put-text .ensures .1)
+unfolding roomSpelling
+returns c = rw (c .before .before .before .before .eight .ensures, c .before .before .eight2 .ensures, c .four .ensures)
 
 pub spelt-spec : {M : Type 1} → statement M
 spelt-spec =
     tie.close
     (tie.spec
-    array-share-prefix-bytes
-    slice-aggregate-word
-    same-requires
-    put-text-requires
-    same-length
+    slice-aggregate-eight
+    eight-requires
+    slice-aggregate-eight-2
+    eight-requires-2
+    slice-aggregate-four
+    four-requires
+    cast-t13
     returns)

@@ -1,0 +1,110 @@
+-- The loop of `judged` over the fields: what holds at its head, and where each way out of it leads. Assumes nothing.
+use Prim.Native.Nat.{ℕ, _+_, _≤_, _<_}
+use Rattle.fill.proofs.Gradients.{field-value}
+use Rattle.fill.proofs.Steps.{turn, stop, finish, Head}
+use Rattle.fill.specs.Filled.{filledOf, triplesOf, valueWith}
+use Rattle.layout.specs.Layouts.{kindsOf, kindAt, sizeOf}
+use Rattle.layout.specs.Rows.{textAt, rowOf}
+use Rattle.layout.specs.declared.Layout.{Layout}
+use Rattle.lines.specs.Places.{partOf, spanAt}
+use Rattle.lines.specs.declared.Span.{Span}
+use Rattle.list.specs.Forms.{gradientsIn}
+use Rattle.list.specs.declared.GradientsRead.{GradientsRead}
+use Rattle.list.specs.declared.Triple.{Triple}
+use Rattle.reader.proofs.Concluding.{values-read}
+use Rattle.reader.proofs.Judging.{bad-value, by-verdict}
+use Rattle.reader.specs.State.{columnAt, Locates, Filling, verdict, Reads}
+use Rattle.reader.specs.declared.Early.{Early}
+use Rattle.reader.specs.declared.Located.{Located}
+use Rattle.reader.specs.declared.Reading.{Reading}
+use Rattle.record.specs.Records.{cell, gradientsField}
+use Rattle.record.specs.declared.Cell.{Cell}
+use Rattle.rules.specs.Rules.{rulesOf, lowest}
+use Rattle.text.specs.Bytes.{same}
+use Rattle.value.specs.Kinds.{valueOf}
+use Rattle.value.specs.declared.Got.{Got}
+use Rattle.value.specs.declared.Got.the-variants.{Read, Bad}
+use Rattle.value.specs.declared.Value.{Value}
+use lib.ListN.{take, set, length-set}
+use mathlib.Core.List.{List}
+use mathlib.Core.Path.{_≡_, refl, sym, ap, _∙_}
+use native.Mathlib.Omega.{arith}
+
+-- what holds at the head: the reading has its layout, places and triples, and the values of the first k fields
+pub record Going (l : Layout) (file : List ℕ) (places : List Span) (gs : List Triple) (n k : ℕ) (r : Reading) : Type 0 where
+  pub layout-is : r .layout ≡ l
+  pub places-are : r .places ≡ places
+  pub triples-are : r .gradients ≡ gs
+  pub head : Head l file places n k (r .cells)
+
+-- a reading with another number and detail, and with other cells
+abbrev pub numbered : ℕ → ℕ → Reading → Reading
+numbered n d r = record { number = n; detail = d; layout = r .layout; cells = r .cells; gradients = r .gradients; places = r .places }
+
+abbrev pub celled : List Cell → Reading → Reading
+celled cells r = record { number = r .number; detail = r .detail; layout = r .layout; cells = cells; gradients = r .gradients; places = r .places }
+
+module _ (c i : ℕ) (plan file : List ℕ) (x : Located) (h : Locates c i plan file x) (z : x .number ≡ 0) (g : GradientsRead)
+    (gs : g ≡ gradientsIn (textAt (columnAt (x .layout) file (x .places)) (gradientsField (x .layout)))) (n k : ℕ) (r : Reading)
+    (going : Going (x .layout) file (x .places) (g .list .values) n k r) where
+  abbrev col : List (List ℕ)
+  col = columnAt (x .layout) file (x .places)
+
+  triples : r .gradients ≡ triplesOf (x .layout) col
+  unfolding triplesOf
+  triples = going .triples-are ∙ ap (λ (y : GradientsRead). y .list .values) gs
+
+  filling : (b : ℕ) → record { bad = b; cells = r .cells } ≡ filledOf (kindsOf (x .layout)) col
+      → Filling (x .layout) file (x .row) (x .places) b (r .cells) (r .gradients)
+  filling b f = record { ordered = h .stands z .ordered; inside = h .stands z .inside; placed = h .stands z .placed; filled = f; triples = triples }
+
+  -- the next field
+  module _ (more : k < n) (v : Got) (read : v ≡ valueWith (x .layout) (k + 1) (g .good) (g .list .count) (partOf file (spanAt (x .places) (k + 1)))) where
+    in-size : k < sizeOf (x .layout)
+    in-size = omega (arith, more, going .head .n-is)
+
+    its-value : v ≡ valueOf (kindAt (x .layout) (k + 1)) (partOf file (spanAt (x .places) (k + 1)))
+    its-value = field-value (x .layout) file (x .places) k (going .head .placed) in-size g gs v read
+
+    pub stopped : v ≡ Bad → Reads c i plan file (numbered 7 (k + 1) r)
+    stopped e =
+        let f = stop (x .layout) file (x .places) k (r .cells) (going .head .sofar) (going .head .placed) in-size v its-value e in
+        values-read c i plan file x h z (take (x .size) (x .unit)) refl (numbered 7 (k + 1) r)
+        (record {
+          layout-is = going .layout-is;
+          places-are = going .places-are;
+          judges =
+              bad-value (x .layout) (take (x .size) (x .unit)) file (x .row) (x .places) (k + 1) (r .cells) (r .gradients) (filling (k + 1) f)
+              (λ q. omega (arith, q));
+        })
+
+    pub goes-on : (w : Value) → v ≡ Read w → Going (x .layout) file (x .places) (g .list .values) n (k + 1) (celled (set (r .cells) k (cell w)) r)
+    goes-on w e =
+        record {
+          layout-is = going .layout-is;
+          places-are = going .places-are;
+          triples-are = going .triples-are;
+          head =
+              record {
+                n-is = going .head .n-is;
+                room = simp length-set (going .head .room);
+                placed = going .head .placed;
+                sofar = turn (x .layout) file (x .places) k (r .cells) (going .head .sofar) (going .head .placed) in-size v w its-value e;
+              };
+        }
+
+  -- all of them are read: the verdict
+  pub all-read : n ≤ k → (broken : ℕ) → broken ≡ lowest (rulesOf (x .layout) (r .cells) (g .list .values))
+      → (unit : List ℕ) → unit ≡ take (x .size) (x .unit)
+      → (e : Early) → e ≡ verdict broken (same unit (textAt col 2)) (same (partOf file (x .row)) (rowOf (x .layout) col))
+      → Reads c i plan file (numbered (e .number) (e .detail) r)
+  all-read done broken q unit u e v =
+      let all : sizeOf (x .layout) ≤ k = omega (arith, done, going .head .n-is) in
+      let f = finish (x .layout) col k (r .cells) (going .head .sofar) all in
+      let b = q ∙ ap (λ (t : List Triple). lowest (rulesOf (x .layout) (r .cells) t)) (sym (going .triples-are)) in
+      values-read c i plan file x h z unit u (numbered (e .number) (e .detail) r)
+      (record {
+        layout-is = going .layout-is;
+        places-are = going .places-are;
+        judges = by-verdict (x .layout) unit file (x .row) (x .places) 0 (r .cells) (r .gradients) (filling 0 f) refl broken b e v;
+      })

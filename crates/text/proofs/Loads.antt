@@ -1,0 +1,193 @@
+-- Bytes and their number: each tells the other, where the bytes are below 256. Assumes nothing.
+use Prim.Native.Nat.{ℕ, zero, suc, _+_, _-_, _*_, _/_, _%_, _^_, _≤_, _<_}
+use Rattle.text.proofs.Cuts.{eight, four, length-part, drop-step, same-refl, same-true, starts-same}
+use Rattle.text.proofs.Tests.{same-if, eqb-tells, itself}
+use Rattle.text.specs.Bytes.{part, same, starts}
+use Rattle.text.specs.Words.{wordOf, bytesOf}
+use lib.Dec.{eqb, lit<}
+use lib.ListN.{length, getD, take, drop, set, length-drop, drop-of-length-le}
+use lib.Seq.{sets, take-all, take-nil, drop-nil, getD-drop}
+use mathlib.Core.List.{List, [], _∷_, _++_}
+use mathlib.Core.Path.{_≡_, refl, sym, ap, _∙_}
+use mir.Syntax.{w8}
+use mir.Val.{Fits}
+use native.Mathlib.Nat.{zero-add, suc-add, pow-suc, one-le-pow}
+use native.Mathlib.Omega.{arith}
+
+-- all are bytes, as `.given` of a slice that is read says it
+abbrev pub Bytes : List ℕ → Type 0
+Bytes s = (i : ℕ) → Fits w8 (getD s i 0)
+
+-- ---- the bytes tell the number, and the number the bytes
+
+pub word-back : (s : List ℕ) → Bytes s → bytesOf (length s) (wordOf s) ≡ s
+unfolding wordOf bytesOf
+word-back [] f = refl
+word-back (b ∷ s) f =
+    let h : b < 256 = f 0 .fits in
+    let low : (b + wordOf s * 256) % 256 ≡ b = omega arith in
+    let high : (b + wordOf s * 256) / 256 ≡ wordOf s = omega arith in
+    rw (low, high) (ap (λ (l : List ℕ). b ∷ l) (word-back s (λ i. f (suc i))))
+
+pub bytes-back : (k w : ℕ) → w < 256 ^ k → wordOf (bytesOf k w) ≡ w
+unfolding wordOf bytesOf
+bytes-back zero w h = omega arith
+bytes-back (suc k) w h =
+    let g : w < 256 ^ k * 256 = rw (pow-suc 256 k) at h in
+    let e = bytes-back k (w / 256) (omega arith) in
+    omega arith
+
+pub length-bytes : (k w : ℕ) → length (bytesOf k w) ≡ k
+unfolding bytesOf
+length-bytes zero w = refl
+length-bytes (suc k) w = ap suc (length-bytes k (w / 256))
+
+pub bytes-small : (k w : ℕ) → Bytes (bytesOf k w)
+unfolding bytesOf
+bytes-small zero w i = record { fits = omega arith }
+bytes-small (suc k) w zero = record { fits = omega arith }
+bytes-small (suc k) w (suc i) = bytes-small k (w / 256) i
+
+pub word-small : (s : List ℕ) (k : ℕ) → Bytes s → length s ≤ k → wordOf s < 256 ^ k
+unfolding wordOf
+word-small [] k f h = one-le-pow k 256 (lit< tt)
+word-small (b ∷ s) zero f h = absurd (omega arith)
+word-small (b ∷ s) (suc k) f h =
+    let g : b < 256 = f 0 .fits in
+    let e = word-small s k (λ i. f (suc i)) (omega arith) in
+    rw (pow-suc 256 k) (omega arith)
+
+-- fewer bytes than the number is asked for: zeros follow
+pub word-front : (s : List ℕ) (k : ℕ) → Bytes s → length s ≤ k → take (length s) (bytesOf k (wordOf s)) ≡ s
+unfolding wordOf bytesOf
+word-front [] k f h = refl
+word-front (b ∷ s) zero f h = absurd (omega arith)
+word-front (b ∷ s) (suc k) f h =
+    let g : b < 256 = f 0 .fits in
+    let low : (b + wordOf s * 256) % 256 ≡ b = omega arith in
+    let high : (b + wordOf s * 256) / 256 ≡ wordOf s = omega arith in
+    rw (low, high) (ap (λ (l : List ℕ). b ∷ l) (word-front s k (λ i. f (suc i)) (omega arith)))
+
+-- the bytes of a number, in two parts
+pub bytes-cut : (j k : ℕ) (s : List ℕ) → Bytes s → bytesOf (j + k) (wordOf s) ≡ bytesOf j (wordOf (take j s)) ++ bytesOf k (wordOf (drop j s))
+unfolding wordOf bytesOf
+bytes-cut zero k s f = rw zero-add
+bytes-cut (suc j) k [] f =
+    rw suc-add (ap (λ (l : List ℕ). 0 ∷ l) (rw (take-nil, drop-nil) at (bytes-cut j k [] f)))
+bytes-cut (suc j) k (b ∷ s) f =
+    let h : b < 256 = f 0 .fits in
+    let low : (x : ℕ) → (b + x * 256) % 256 ≡ b = λ x. omega arith in
+    let high : (x : ℕ) → (b + x * 256) / 256 ≡ x = λ x. omega arith in
+    rw suc-add (rw (low (wordOf s), high (wordOf s), low (wordOf (take j s)), high (wordOf (take j s)))
+    (ap (λ (l : List ℕ). b ∷ l) (bytes-cut j k s (λ i. f (suc i)))))
+
+-- as many bytes are the same where their numbers are
+pub word-same : (a b : List ℕ) → length a ≡ length b → Bytes a → Bytes b → eqb (wordOf a) (wordOf b) ≡ same a b
+word-same a b e f g =
+    same-if (eqb-tells (wordOf a) (wordOf b)) (itself (same a b))
+    (λ h. let j : a ≡ b = sym (word-back a f) ∙ rw (e, h) (word-back b g) in rw j (same-refl b))
+    (λ h. ap wordOf (same-true a b h))
+
+-- ---- the number of a part, byte by byte
+
+pub word-eight : (s : List ℕ) (i : ℕ) → i + 8 ≤ length s
+    → getD s i 0
+    + getD s (i + 1) 0 * 256
+    + getD s (i + 2) 0 * 65536
+    + getD s (i + 3) 0 * 16777216
+    + getD s (i + 4) 0 * 4294967296
+    + getD s (i + 5) 0 * 1099511627776
+    + getD s (i + 6) 0 * 281474976710656
+    + getD s (i + 7) 0 * 72057594037927936
+    ≡ wordOf (part i (i + 8) s)
+unfolding wordOf
+word-eight s i h = rw (eight 0 s i h) (omega arith)
+
+pub word-four : (s : List ℕ) (i : ℕ) → i + 4 ≤ length s
+    → getD s i 0 + getD s (i + 1) 0 * 256 + getD s (i + 2) 0 * 65536 + getD s (i + 3) 0 * 16777216 ≡ wordOf (part i (i + 4) s)
+unfolding wordOf
+word-four s i h = rw (four 0 s i h) (omega arith)
+
+-- ---- from the last byte down
+
+module _ (s : List ℕ) where
+  pub bytes-drop : (k : ℕ) → Bytes s → Bytes (drop k s)
+  bytes-drop k f i = rw getD-drop (f (k + i))
+
+  -- another byte has room
+  pub word-room : (k : ℕ) → Bytes s → length s ≤ k + 7 → wordOf (drop k s) < 72057594037927936
+  word-room k f h = word-small (drop k s) 7 (bytes-drop k f) (rw length-drop (omega arith))
+
+  pub word-step : (j k : ℕ) → j < length s → k ≡ j + 1 → wordOf (drop k s) * 256 + getD s j 0 ≡ wordOf (drop j s)
+  unfolding wordOf
+  word-step j k h e = rw (drop-step s j h, e) (omega arith)
+
+  pub word-none : (i : ℕ) → length s ≤ i → 0 ≡ wordOf (part i (i + 8) s)
+  unfolding wordOf
+  word-none i h = rw (drop-of-length-le s h, take-nil)
+
+  -- past the last byte nothing is added
+  pub word-end : (i : ℕ) → length s ≤ i → 0 ≡ wordOf (drop i s)
+  unfolding wordOf
+  word-end i h = rw (drop-of-length-le s h)
+
+  pub word-all : (i k : ℕ) → k ≡ i → length s ≤ i + 8 → wordOf (drop k s) ≡ wordOf (part i (i + 8) s)
+  word-all i k e h = rw e (ap wordOf (sym (take-all (i + 8 - i) (drop i s) (rw length-drop (omega arith)))))
+
+-- ---- the bytes of a number, stored one by one
+
+module _ (l : List ℕ) (i w : ℕ) where
+  pub put-eight : w < 18446744073709551616
+      → set (set (set (set (set (set (set (set l i (w % 256)) (i + 1) (w / 256 % 256)) (i + 2) (w / 65536 % 256)) (i + 3) (w / 16777216 % 256))
+      (i + 4) (w / 4294967296 % 256)) (i + 5) (w / 1099511627776 % 256)) (i + 6) (w / 281474976710656 % 256)) (i + 7) (w / 72057594037927936)
+      ≡ sets l i (bytesOf 8 w)
+  unfolding bytesOf
+  put-eight h =
+      let i₁ : i + 1 ≡ suc i = omega arith in
+      let i₂ : i + 2 ≡ suc (suc i) = omega arith in
+      let i₃ : i + 3 ≡ suc (suc (suc i)) = omega arith in
+      let i₄ : i + 4 ≡ suc (suc (suc (suc i))) = omega arith in
+      let i₅ : i + 5 ≡ suc (suc (suc (suc (suc i)))) = omega arith in
+      let i₆ : i + 6 ≡ suc (suc (suc (suc (suc (suc i))))) = omega arith in
+      let i₇ : i + 7 ≡ suc (suc (suc (suc (suc (suc (suc i)))))) = omega arith in
+      let w₂ : w / 65536 ≡ w / 256 / 256 = omega arith in
+      let w₃ : w / 16777216 ≡ w / 256 / 256 / 256 = omega arith in
+      let w₄ : w / 4294967296 ≡ w / 256 / 256 / 256 / 256 = omega arith in
+      let w₅ : w / 1099511627776 ≡ w / 256 / 256 / 256 / 256 / 256 = omega arith in
+      let w₆ : w / 281474976710656 ≡ w / 256 / 256 / 256 / 256 / 256 / 256 = omega arith in
+      let w₇ : w / 72057594037927936 ≡ w / 256 / 256 / 256 / 256 / 256 / 256 / 256 % 256 = omega arith in
+      rw (i₁, i₂, i₃, i₄, i₅, i₆, i₇, w₂, w₃, w₄, w₅, w₆, w₇)
+
+  pub put-four : w < 4294967296
+      → set (set (set (set l i (w % 256)) (i + 1) (w / 256 % 256)) (i + 2) (w / 65536 % 256)) (i + 3) (w / 16777216) ≡ sets l i (bytesOf 4 w)
+  unfolding bytesOf
+  put-four h =
+      let i₁ : i + 1 ≡ suc i = omega arith in
+      let i₂ : i + 2 ≡ suc (suc i) = omega arith in
+      let i₃ : i + 3 ≡ suc (suc (suc i)) = omega arith in
+      let w₂ : w / 65536 ≡ w / 256 / 256 = omega arith in
+      let w₃ : w / 16777216 ≡ w / 256 / 256 / 256 % 256 = omega arith in
+      rw (i₁, i₂, i₃, w₂, w₃)
+
+-- ---- a text that begins with the bytes of a number
+
+pub bytes-take : (n : ℕ) (s : List ℕ) → Bytes s → Bytes (take n s)
+bytes-take zero s f i = record { fits = omega arith }
+bytes-take (suc n) [] f i = record { fits = omega arith }
+bytes-take (suc n) (b ∷ s) f zero = f 0
+bytes-take (suc n) (b ∷ s) f (suc i) = bytes-take n s (λ j. f (suc j)) i
+
+pub word-is : (k w : ℕ) (s : List ℕ) → Bytes s → length s ≡ k → w < 256 ^ k → same (bytesOf k w) s ≡ eqb (wordOf s) w
+word-is k w s f n h =
+    same-if (itself (same (bytesOf k w) s)) (eqb-tells (wordOf s) w)
+    (λ e. ap wordOf (sym (same-true (bytesOf k w) s e)) ∙ bytes-back k w h)
+    (λ e. let j : bytesOf k w ≡ s = rw (← e, ← n) (word-back s f) in rw j (same-refl s))
+
+pub starts-word : (k w i : ℕ) (s : List ℕ) → Bytes s → i + k ≤ length s → w < 256 ^ k
+    → starts (bytesOf k w) (drop i s) ≡ eqb (wordOf (part i (i + k) s)) w
+starts-word k w i s f h b =
+    let n : k ≡ i + k - i = omega arith in
+    let m : length (part i (i + k) s) ≡ k = omega (arith, length-part i (i + k) s h) in
+    starts-same (bytesOf k w) (drop i s)
+    ∙ ap (λ (j : ℕ). same (bytesOf k w) (take j (drop i s))) (length-bytes k w ∙ n)
+    ∙ word-is k w (part i (i + k) s) (bytes-take (i + k - i) (drop i s) (bytes-drop s i f)) m b
