@@ -4,9 +4,10 @@
 # make install PREFIX=.. DESTDIR=..: header, library and pkg-config file.
 # make test-reference: the reference, a second implementation in Rust, tried alone. make compare COUNT=.. SEED=..: the library against it,
 # over many inputs. make bench: both timed, the book's calls too, and the library's stack. (These three need cargo, and no network.)
+# make bench NATIVE=1: the same of code that need not be proved yet, within a minute.
 # make fuzz SECONDS=..: the library against the reference under libFuzzer, from the corpus of target/fuzz (needs clang with its runtime besides).
 # The library is x86-64 code. On another processor all of these build and run it with what the Rattle kit has there (tools/x86); make test-host
-# then goes without sanitizers and make bench without times.
+# then goes without sanitizers, and make bench takes its times as with NATIVE=1.
 .PHONY: test check run read values fmt lib host install test-host test-host-valgrind test-reference compare bench fuzz
 
 FILE ?= examples/rc.txt
@@ -24,17 +25,24 @@ STRICT = -std=c11 -pedantic -Wall -Wextra -Werror
 # builds and runs C programs that call the library
 X86 = CC='$(CC)' tools/x86
 MACHINE := $(shell uname -m)
-# OURS is what a Rust program needs to call the library: the library, or the program that calls it in its place. TIMED is what is timed.
+# OURS is what a Rust program needs to call the library: the library, or the program that calls it in its place. UNPROVED is what make bench
+# says of code without its proofs: the stack is always one of x86-64 code.
 # EAGER binds all symbols before the program begins. (The kit has no sanitizers and no static C library.)
 ifeq ($(MACHINE),x86_64)
 OURS = $(LIB)
-TIMED = $(PACE)
+UNPROVED = $(if $(NATIVE),times and stack)
 SANITIZED = -fsanitize=address,undefined -fno-sanitize-recover=all
 EAGER = -static
 else
 OURS = target/host/far
+UNPROVED = times
 EAGER = -Wl,-z,now
 endif
+
+# what make bench times: the library, or the crates' code compiled for this machine (tools/native)
+TIMED = $(if $(UNPROVED),target/native/libgateway.a,$(LIB))
+TIMED_PACE = $(if $(UNPROVED),target/native/libpace.a,$(PACE))
+STACK = $(if $(filter %stack,$(UNPROVED)),target/native/stack,target/host/stack)
 
 test:
 	.ci/run
@@ -111,7 +119,8 @@ COUNT ?= 200000
 SEED ?= 1
 
 # nothing is built in the source folders
-CARGO = CARGO_TARGET_DIR='$(CURDIR)/target/cargo' HALIMPUNG_LIB='$(abspath $(LIB))' cargo
+CARGO = CARGO_TARGET_DIR='$(CURDIR)/target/cargo' HALIMPUNG_LIB='$(abspath $(LINKED))' cargo
+LINKED = $(LIB)
 
 test-reference:
 	cd host/reference && $(CARGO) test --release --offline -q
@@ -126,18 +135,27 @@ compare: $(OURS)
 	cd host/compare && $(CARGO) test --release --offline -q --lib
 	cd host/compare && $(CARGO) run --release --offline -q --bin compare -- $(COUNT) $(SEED)
 
-# eager: else the first call through the dynamic linker would be counted in the stack
-target/host/stack: tools/stack.c $(LIB)
-	@mkdir -p target/host
-	$(X86) cc $(CFLAGS) $(EAGER) -o $@ tools/stack.c $(LIB)
+target/native/lib%.a: crates.txt tools/native tools/native-clang $(shell find crates -name '*.rt')
+	@tools/native $*
 
-bench: $(TIMED) target/host/stack
-ifdef TIMED
-	cd host/compare && HALIMPUNG_PACE_LIB='$(abspath $(PACE))' $(CARGO) run --release --offline -q --features pace --bin bench
-else
-	@echo 'no times: they need an x86-64 machine. Here, on $(MACHINE), the library runs under an emulator, and its times are no ratio'
-endif
-	@host/compare/stack target/host/stack host/reference/samples target/host/stack-plan.txt
+# they share a folder
+target/native/libpace.a: | target/native/libgateway.a
+
+target/host/stack: $(LIB)
+target/native/stack: target/native/libgateway.a
+
+# eager: else the first call through the dynamic linker would be counted in the stack
+target/host/stack target/native/stack: tools/stack.c
+	@mkdir -p $(@D)
+	$(X86) cc $(CFLAGS) $(EAGER) -o $@ tools/stack.c $(filter %.a,$^)
+
+# the program for the stack is made last: it may need proofs where the times need none
+bench: LINKED = $(TIMED)
+bench: $(TIMED) $(TIMED_PACE)
+	@$(if $(UNPROVED),echo "compiled natively from the crates' code without its proofs: the $(UNPROVED) below (on $(MACHINE))")
+	cd host/compare && HALIMPUNG_PACE_LIB='$(abspath $(TIMED_PACE))' $(CARGO) run --release --offline -q --features pace --bin bench
+	@$(MAKE) -s $(STACK)
+	@host/compare/stack $(STACK) host/reference/samples $(STACK)-plan.txt
 
 SECONDS ?= 60
 FUZZ = target/fuzz

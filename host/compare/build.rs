@@ -1,14 +1,15 @@
-//! Links the proved library, and for the feature `pace` the book's loops: for each the archive that its variable names,
-//! else the one that make leaves. They are x86-64 code; elsewhere nothing is linked (src/far.rs).
+//! Links the library, and for the feature `pace` the book's loops: for each the archive that its variable names, else the
+//! one that make leaves. What is proved is x86-64 code, and elsewhere it is not linked (src/far.rs). What is timed is linked
+//! everywhere, and elsewhere the variables name code for that processor (tools/native).
 
 use std::path::PathBuf;
 
 fn main() {
-    if std::env::var("CARGO_CFG_TARGET_ARCH").as_deref() != Ok("x86_64") {
-        return;
+    let timed = std::env::var_os("CARGO_FEATURE_PACE").is_some();
+    if timed || std::env::var("CARGO_CFG_TARGET_ARCH").as_deref() == Ok("x86_64") {
+        link("HALIMPUNG_LIB", "../../target/staticlib/libgateway.a");
     }
-    link("HALIMPUNG_LIB", "../../target/staticlib/libgateway.a");
-    if std::env::var_os("CARGO_FEATURE_PACE").is_some() {
+    if timed {
         link("HALIMPUNG_PACE_LIB", "../../target/staticlib/libpace.a");
     }
 }

@@ -6,7 +6,8 @@
 //! record as it is), [`values`] and [`together`] (other values, the summary row mended),
 //! [`damage`] and [`random`]; the plans from [`plans`]. Each choice is a throw of [`dice`].
 //! The library is called by [`ours`], which links it on x86-64 and is [`far`] elsewhere.
-//! With the feature `pace`, `pace` is the reference's side of the book's calls that are timed.
+//! With the feature `pace`, for times, it is linked everywhere (elsewhere it is code without its proofs), and `pace` is the
+//! reference's side of the book's calls.
 #![deny(unsafe_code)]
 
 pub mod body;
@@ -18,7 +19,7 @@ pub mod input;
 pub mod kinds;
 pub mod layout_noise;
 pub mod lines;
-#[cfg(target_arch = "x86_64")]
+#[cfg(any(target_arch = "x86_64", feature = "pace"))]
 pub mod ours;
 #[cfg(feature = "pace")]
 pub mod pace;
@@ -30,7 +31,7 @@ pub mod together;
 pub mod values;
 pub mod words;
 
-#[cfg(not(target_arch = "x86_64"))]
+#[cfg(not(any(target_arch = "x86_64", feature = "pace")))]
 pub use far as ours;
 
 /// One of the two entries, on either side.
