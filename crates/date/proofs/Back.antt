@@ -92,13 +92,17 @@ date-back d e =
     let f = fields-back d (real-tells d .0 e) in
     sym (date-is (dateText d) (shape-back d) (ap isReal f ∙ e)) ∙ ap Is f
 
--- what is read is real
-pub date-real : (s : List ℕ) (d : Date) → dateOf s ≡ Is d → isReal d ≡ true
+-- what is read is of the shape, and real
+pub date-tells : (s : List ℕ) (d : Date) → dateOf s ≡ Is d → (shaped dateShape s ≡ true) × ((isReal (fieldsOf s) ≡ true) × (fieldsOf s ≡ d))
 unfolding dateOf
-date-real s d e =
+date-tells s d e =
     let y = taken-is (shaped dateShape s && isReal (fieldsOf s)) (fieldsOf s) e in
-    ap isReal (sym (y .1)) ∙ and-parts (shaped dateShape s) (isReal (fieldsOf s)) (y .0) .1
+    let p = and-parts (shaped dateShape s) (isReal (fieldsOf s)) (y .0) in
+    (p .0, (p .1, y .1))
   where
     taken-is : (t : Bool) (f : Date) → cond t (Is f) Bad ≡ Is d → (t ≡ true) × (f ≡ d)
     taken-is true f p = (refl, cc)
     taken-is false f p = let z : _≡_ {A = ℕ} 0 1 = cc in absurd (omega arith)
+
+pub date-real : (s : List ℕ) (d : Date) → dateOf s ≡ Is d → isReal d ≡ true
+date-real s d e = let y = date-tells s d e .1 in ap isReal (sym (y .1)) ∙ y .0

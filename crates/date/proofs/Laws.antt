@@ -65,7 +65,7 @@ module _ (ps s : List ℕ) (i : ℕ) where
   unfolding shaped
   shape-end hp hs = rw (drop-of-length-le ps hp, drop-of-length-le s hs)
 
-shape-drop : (a : ℕ) (ps s : List ℕ) → shaped ps s ≡ true → shaped (drop a ps) (drop a s) ≡ true
+pub shape-drop : (a : ℕ) (ps s : List ℕ) → shaped ps s ≡ true → shaped (drop a ps) (drop a s) ≡ true
 unfolding shaped
 shape-drop zero ps s e = e
 shape-drop (suc a) [] [] e = refl

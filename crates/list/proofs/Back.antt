@@ -76,6 +76,33 @@ each-at P (a ∷ l) (suc i) z h d = each-at P l i z (h .1) d
 
 -- ---- what is told by a list that was read
 
+-- all parts are read, and they are as many as may be
+pub record Counted {A : Type 0} (read : List ℕ → Option A) (sep least most : ℕ) (s : List ℕ) (l : List A) : Type 0 where
+  pub all-parts : everyOf read (cutAt sep s) ≡ some l
+  pub enough : least ≤ length l
+  pub few : length l ≤ most
+
+pub list-counted : {A : Type 0} (read : List ℕ → Option A) (sep least most : ℕ) (s : List ℕ) (l : List A) → someOf read sep least most s ≡ some l
+    → Counted read sep least most s l
+unfolding someOf counted
+list-counted {A} read sep least most s l e = go (everyOf read (cutAt sep s)) refl e
+  where
+    bounds : (t : Bool) (m : List A) → cond t (some m) none ≡ some l → (t ≡ true) × (m ≡ l)
+    bounds true m e = (refl, cc)
+    bounds false m e = let z : _≡_ {A = ℕ} 0 1 = cc in absurd (omega arith)
+
+    go : (r : Option (List A)) → everyOf read (cutAt sep s) ≡ r → counted least most r ≡ some l → Counted read sep least most s l
+    go none g e = let z : _≡_ {A = ℕ} 0 1 = cc in absurd (omega arith)
+    go (some m) g e =
+        let b = bounds (within least most (length m)) m e in
+        let w = and-parts (leb least (length m)) (leb (length m) most) (b .0) in
+        let n = ap length (b .1) in
+        record {
+          all-parts = g ∙ ap some (b .1);
+          enough = omega (arith, leb-true least (length m) (w .0), n);
+          few = omega (arith, leb-true (length m) most (w .1), n);
+        }
+
 module _ {A : Type 0} (read : List ℕ → Option A) (Good : A → Type 0) (good : (t : List ℕ) (a : A) → read t ≡ some a → Good a) where
   every-good : (ps : List (List ℕ)) (l : List A) → everyOf read ps ≡ some l → Each Good l
   unfolding everyOf Each before
@@ -94,21 +121,6 @@ module _ {A : Type 0} (read : List ℕ → Option A) (Good : A → Type 0) (good
     pub each-good : Each Good l
 
   pub list-known : (sep least most : ℕ) (s : List ℕ) (l : List A) → someOf read sep least most s ≡ some l → Known least most l
-  unfolding someOf counted
-  list-known sep least most s l e = go (everyOf read (cutAt sep s)) refl e
-    where
-      bounds : (t : Bool) (m : List A) → cond t (some m) none ≡ some l → (t ≡ true) × (m ≡ l)
-      bounds true m e = (refl, cc)
-      bounds false m e = let z : _≡_ {A = ℕ} 0 1 = cc in absurd (omega arith)
-
-      go : (r : Option (List A)) → everyOf read (cutAt sep s) ≡ r → counted least most r ≡ some l → Known least most l
-      go none g e = let z : _≡_ {A = ℕ} 0 1 = cc in absurd (omega arith)
-      go (some m) g e =
-          let b = bounds (within least most (length m)) m e in
-          let w = and-parts (leb least (length m)) (leb (length m) most) (b .0) in
-          let n = ap length (b .1) in
-          record {
-            enough = omega (arith, leb-true least (length m) (w .0), n);
-            few = omega (arith, leb-true (length m) most (w .1), n);
-            each-good = every-good (cutAt sep s) l (g ∙ ap some (b .1));
-          }
+  list-known sep least most s l e =
+      let c = list-counted read sep least most s l e in
+      record { enough = c .enough; few = c .few; each-good = every-good (cutAt sep s) l (c .all-parts) }

@@ -31,7 +31,7 @@ cut-some sep [] h = absurd (false≢true h)
 cut-some sep (b ∷ s) h = by-test (eqb b sep) (λ e. rw e) (λ e. rw (e, cut-some sep s (rw e at h)))
 
 -- the first part, whatever follows
-cut-first : (sep : ℕ) (s : List ℕ) → (more : List (List ℕ)) × (cutAt sep s ≡ upto (is sep) s ∷ more)
+pub cut-first : (sep : ℕ) (s : List ℕ) → (more : List (List ℕ)) × (cutAt sep s ≡ upto (is sep) s ∷ more)
 cut-first sep s =
     by-test (any (is sep) s) (λ h. (cutAt sep (past (is sep) s), cut-some sep s h))
     (λ n. ([], cut-none sep s n ∙ ap (λ (t : List ℕ). t ∷ []) (sym (upto-all (is sep) s n))))

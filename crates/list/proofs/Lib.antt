@@ -4,3 +4,4 @@ pub mod Puts
 pub mod Back
 pub mod Texts
 pub mod RoundTrip
+pub mod Own

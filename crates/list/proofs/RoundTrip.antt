@@ -56,15 +56,18 @@ gradients-back values n v =
 
 -- ---- what is read is valid
 
-number-good : (t : List ℕ) (v : ℤ) → numberIn t ≡ some v → InRange v
-number-good t v e = number-range t v (go (numberOf t) e)
+pub number-read : (t : List ℕ) (v : ℤ) → numberIn t ≡ some v → numberOf t ≡ IsNumber v
+number-read t v e = go (numberOf t) e
   where
     go : (n : Number) → valueIn n ≡ some v → n ≡ IsNumber v
     go (IsNumber w) e = let q : w ≡ v = cc in ap IsNumber q
     go NoNumber e = let z : _≡_ {A = ℕ} 0 1 = cc in absurd (omega arith)
 
+number-good : (t : List ℕ) (v : ℤ) → numberIn t ≡ some v → InRange v
+number-good t v e = number-range t v (number-read t v e)
+
 -- a list in a room is the list that the room holds
-room-list : (l : List ℤ) → length l ≤ 4 → listOf (numbersOf l) ≡ l
+pub room-list : (l : List ℤ) → length l ≤ 4 → listOf (numbersOf l) ≡ l
 unfolding numbersOf
 room-list [] h = refl
 room-list (a ∷ []) h = refl

@@ -1,4 +1,5 @@
 pub mod Units
 pub mod Readers
 pub mod RoundTrip
+pub mod Own
 pub mod Writers

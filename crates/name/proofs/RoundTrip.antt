@@ -57,11 +57,11 @@ prefix-is Ri = (refl, refl)
 prefix-is Qr = (refl, refl)
 
 -- a choice that gives a number is that of the number
-took : (t : Bool) (d : Digits) (n : ℕ) → cond t d Not ≡ Are n → d ≡ Are n
-took true d n e = e
+pub took : (t : Bool) (d : Digits) (n : ℕ) → cond t d Not ≡ Are n → (t ≡ true) × (d ≡ Are n)
+took true d n e = (refl, e)
 took false d n e = let z : _≡_ {A = ℕ} 0 1 = cc in absurd (omega arith)
 
-left : (t : Bool) (d : Digits) (n : ℕ) → cond t Not d ≡ Are n → d ≡ Are n
+pub left : (t : Bool) (d : Digits) (n : ℕ) → cond t Not d ≡ Are n → d ≡ Are n
 left true d n e = let z : _≡_ {A = ℕ} 0 1 = cc in absurd (omega arith)
 left false d n e = e
 
@@ -75,7 +75,7 @@ identifier-back t n h =
 pub identifier-range : (t : MessageType) (s : List ℕ) (n : ℕ) → identifierOf t s ≡ Are n → n < 10 ^ 10
 unfolding identifierOf exactly
 identifier-range t s n e =
-    below 10 (drop 3 s) n (took (eqb (length (drop 3 s)) 10) _ n (took (same (take 3 s) (prefixOf t)) _ n e))
+    below 10 (drop 3 s) n (took (eqb (length (drop 3 s)) 10) _ n (took (same (take 3 s) (prefixOf t)) _ n e .1) .1)
 
 pub identifier-length : (t : MessageType) (n : ℕ) → length (identifierText t n) ≡ 13
 unfolding identifierText

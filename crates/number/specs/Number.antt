@@ -3,14 +3,14 @@
 use Prim.Native.Nat.{ℕ, zero, suc, _+_, _-_, _*_, _/_, _%_, _^_}
 use Rattle.number.specs.declared.Number.{Number}
 use Rattle.number.specs.declared.Number.the-variants.{Is, Bad}
-use Rattle.text.specs.Bytes.{firstOf}
+use Rattle.text.specs.Bytes.{isDigit, firstOf}
 use Rattle.text.specs.Digits.{digitsOf, digitsText, wholeText}
 use Rattle.text.specs.declared.digits.Digits.{Digits}
 use Rattle.text.specs.declared.digits.Digits.the-variants.{Are, Not}
 use lib.Dec.{eqb}
 use lib.IntN.{ℤ, pos, negsuc, negℤ, natAbs}
 use lib.ListN.{length, getD, take, drop}
-use mathlib.Core.Bool.{cond}
+use mathlib.Core.Bool.{Bool, true, false, not, _&&_, _||_, cond}
 use mathlib.Core.List.{List, [], _∷_, _++_}
 
 -- ---- reading
@@ -65,3 +65,27 @@ numberText v = signText v ++ wholeText 6 (natAbs v / 1000) ++ fractionText 3 (na
 unfoldable pub decimalsText : ℕ → ℕ → List ℕ
 decimalsText zero f = []
 decimalsText (suc k) f = 46 ∷ digitsText (suc k) f
+
+-- ---- numbers, with ; (59) or , (44) between them, that stand in their shortest form and without blanks
+
+-- the byte before a place: 0 where there is none
+abbrev pub beforeAt : ℕ → List ℕ → ℕ
+beforeAt i s = cond (eqb i 0) 0 (getD s (i - 1) 0)
+
+-- a zero between two bytes, among decimals or not: before a digit it is a decimal or follows a digit,
+-- and otherwise it is no decimal and stands before a point (46) or not behind the sign (45)
+unfoldable pub zeroFits : ℕ → Bool → ℕ → Bool
+zeroFits prior decimals next =
+    cond (isDigit next) (decimals || isDigit prior) (not decimals && (eqb next 46 || not (eqb prior 45)))
+
+-- decimals stand behind a point, up to the next ; or ,
+abbrev pub decimalsPast : ℕ → Bool → Bool
+decimalsPast b decimals = eqb b 46 || (decimals && not (eqb b 59) && not (eqb b 44))
+
+unfoldable pub shortFrom : ℕ → Bool → List ℕ → Bool
+shortFrom prior decimals [] = true
+shortFrom prior decimals (b ∷ s) =
+    not (eqb b 32) && (not (eqb b 48) || zeroFits prior decimals (getD s 0 0)) && shortFrom b (decimalsPast b decimals) s
+
+unfoldable pub areShort : List ℕ → Bool
+areShort s = shortFrom 0 false s

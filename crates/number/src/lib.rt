@@ -3,10 +3,12 @@ use text::digits;
 use text::digits::Digits;
 use text::put;
 ghost use Prim.Native.Nat.{_+_, _-_, _^_, _≤_, _<_};
-ghost use Rattle.number.specs.Number.{fractionOf, unsignedOf, numberOf, fractionText, decimalsText, signText, numberText};
+ghost use Rattle.number.specs.Number.{fractionOf, unsignedOf, numberOf, fractionText, decimalsText, signText, numberText, beforeAt, zeroFits, areShort};
+ghost use Rattle.text.specs.Bytes.{isDigit};
 ghost use Rattle.text.specs.Puts.{limit};
+ghost use lib.Dec.{eqb};
 ghost use lib.IntN.{pos, negℤ, natAbs};
-ghost use lib.ListN.{length, drop};
+ghost use lib.ListN.{length, getD, drop};
 ghost use lib.Seq.{sets};
 ghost use mathlib.Core.Bool.{cond};
 ghost use mathlib.Core.Path.{_≡_};
@@ -172,4 +174,71 @@ pub fn put(out: &mut [u8], at: usize, v: i32) -> usize
     let a = put_sign(out, at, v);
     let b = put::put_whole(out, a, 6, m / 1000);
     put_decimals(out, b, d)
+}
+
+fn is_digit_at(s: &[u8], i: usize) -> bool
+    ensures { λ r. ⌜ r ≡ isDigit (getD (now (s .entry)) i 0) ⌝ }
+{
+    if i < s.len() {
+        return digits::is_digit(s[i]);
+    }
+    false
+}
+
+fn is_at(s: &[u8], i: usize, b: u8) -> bool
+    requires { ⌜ 1 ≤ b ⌝ }
+    ensures { λ r. ⌜ r ≡ eqb (getD (now (s .entry)) i 0) b ⌝ }
+{
+    if i < s.len() {
+        return s[i] == b;
+    }
+    false
+}
+
+// A zero of a number that stands at i: it may end whole numbers, and stand before a point; it leads nothing, ends no decimals, and has no sign alone.
+fn zero_fits(s: &[u8], i: usize, fraction: bool) -> bool
+    requires { ⌜ i < length (now s) ⌝ }
+    ensures { λ r. ⌜ r ≡ zeroFits (beforeAt i (now (s .entry))) fraction (getD (now (s .entry)) (i + 1) 0) ⌝ }
+{
+    if is_digit_at(s, i + 1) {
+        if fraction {
+            return true;
+        }
+        if i == 0 {
+            return false;
+        }
+        return digits::is_digit(s[i - 1]);
+    }
+    if fraction {
+        return false;
+    }
+    if is_at(s, i + 1, b'.') {
+        return true;
+    }
+    if i == 0 {
+        return true;
+    }
+    s[i - 1] != b'-'
+}
+
+// Whether numbers, with `;` or `,` between them, stand in their shortest form and without blanks. Of texts that are such numbers.
+pub fn are_short(s: &[u8]) -> bool
+    ensures { λ r. ⌜ r ≡ areShort (now (s .entry)) ⌝ }
+{
+    let mut fraction = false;
+    let mut i = 0;
+    while i < s.len() {
+        let b = s[i];
+        if b == b' ' {
+            return false;
+        }
+        if b == b'0' {
+            if !zero_fits(s, i, fraction) {
+                return false;
+            }
+        }
+        fraction = (b == b'.') | (fraction & (b != b';') & (b != b','));
+        i += 1;
+    }
+    true
 }

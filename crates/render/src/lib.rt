@@ -14,7 +14,7 @@ use word;
 ghost use Prim.Native.Nat.{_+_, _<_};
 ghost use Rattle.render.specs.Rooms.{Narrow};
 ghost use Rattle.text.specs.Puts.{limit, wroteOf, bufferOf};
-ghost use Rattle.value.specs.Texts.{rooms, valueText};
+ghost use Rattle.value.specs.Texts.{rooms, valueText, isWritten};
 ghost use lib.ListN.{length};
 ghost use lib.Seq.{sets};
 ghost use mathlib.Core.Path.{_≡_};
@@ -76,4 +76,20 @@ pub fn write_value(
     }
     put_value(&mut out[at..], 0, t, v, unit, reason, note, gradients);
     Wrote::To(at + size)
+}
+
+// Whether the text that a value was read from is the value's own text, so that it may be copied: what is no number stands as it is written.
+pub fn is_written(v: Value, text: &[u8]) -> bool
+    ensures { λ r. ⌜ r ≡ isWritten v (now (text .entry)) ⌝ }
+{
+    match v {
+        Value::Amount(_) => number::are_short(text),
+        Value::List(_) => number::are_short(text),
+        Value::Triples(_) => number::are_short(text),
+        Value::Voltage(_) => number::are_short(text),
+        Value::Regulator(_) => number::are_short(text),
+        Value::Change(_) => number::are_short(text),
+        Value::Reactive(_) => number::are_short(text),
+        _ => true,
+    }
 }

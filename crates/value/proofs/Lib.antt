@@ -1,4 +1,5 @@
 pub mod Back
+pub mod Own
 pub mod Shown
 pub mod Settings
 pub mod Fit

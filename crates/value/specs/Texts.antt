@@ -5,11 +5,12 @@ use Rattle.list.specs.Forms.{numbersText, gradientsText}
 use Rattle.list.specs.declared.Triple.{Triple}
 use Rattle.name.specs.Names.{identifierText, sequenceText}
 use Rattle.name.specs.declared.MessageType.{MessageType}
-use Rattle.number.specs.Number.{numberText}
+use Rattle.number.specs.Number.{areShort, numberText}
 use Rattle.value.specs.declared.Value.{Value}
 use Rattle.value.specs.declared.Value.the-variants.{Blank, Id, Unit, When, Amount, Count, Reason, Note, Word, List as Numbers, Triples, Voltage, Regulator, Change, Reactive}
 use Rattle.word.specs.Words.{word}
 use lib.ListN.{take}
+use mathlib.Core.Bool.{Bool, true, false, not, _||_}
 use mathlib.Core.List.{List, []}
 
 -- the rooms of a record in which texts and triples stand; a value says how much of its room is used
@@ -39,3 +40,27 @@ valueText t r (Voltage v) = numberText (v .0)
 valueText t r (Regulator v) = numberText (v .0)
 valueText t r (Change v) = numberText (v .0)
 valueText t r (Reactive v) = numberText (v .0)
+
+-- ---- a text that is written already
+
+-- the values that are numbers: their text may have a shorter form
+unfoldable pub isNumeric : Value → Bool
+isNumeric Blank = false
+isNumeric (Id n) = false
+isNumeric (Unit n) = false
+isNumeric (When d) = false
+isNumeric (Amount v) = true
+isNumeric (Count n) = false
+isNumeric (Reason n) = false
+isNumeric (Note n) = false
+isNumeric (Word w) = false
+isNumeric (Numbers x) = true
+isNumeric (Triples n) = true
+isNumeric (Voltage v) = true
+isNumeric (Regulator v) = true
+isNumeric (Change v) = true
+isNumeric (Reactive v) = true
+
+-- whether the text that a value was read from is the value's own text: what is no number stands as it is written, and a number in its shortest form
+unfoldable pub isWritten : Value → List ℕ → Bool
+isWritten v s = not (isNumeric v) || areShort s
