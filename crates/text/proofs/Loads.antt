@@ -1,12 +1,13 @@
 -- Bytes and their number: each tells the other, where the bytes are below 256. Assumes nothing.
 use Prim.Native.Nat.{ℕ, zero, suc, _+_, _-_, _*_, _/_, _%_, _^_, _≤_, _<_}
-use Rattle.text.proofs.Cuts.{eight, four, length-part, drop-step, same-refl, same-true, starts-same}
-use Rattle.text.proofs.Tests.{same-if, eqb-tells, itself}
-use Rattle.text.specs.Bytes.{part, same, starts}
+use Rattle.text.proofs.Cuts.{eight, four, length-part, drop-step, same-refl, same-true, alike-stop, alike-next, alike-last, starts-same}
+use Rattle.text.proofs.Tests.{by-test, same-if, eqb-tells, itself}
+use Rattle.text.specs.Bytes.{part, same, starts, all, is}
 use Rattle.text.specs.Words.{wordOf, bytesOf}
 use lib.Dec.{eqb, lit<}
-use lib.ListN.{length, getD, take, drop, set, length-drop, drop-of-length-le}
+use lib.ListN.{length, getD, take, drop, set, replicate, length-drop, drop-of-length-le}
 use lib.Seq.{sets, take-all, take-nil, drop-nil, getD-drop}
+use mathlib.Core.Bool.{Bool, _&&_}
 use mathlib.Core.List.{List, [], _∷_, _++_}
 use mathlib.Core.Path.{_≡_, refl, sym, ap, _∙_}
 use mir.Syntax.{w8}
@@ -87,6 +88,69 @@ word-same a b e f g =
     same-if (eqb-tells (wordOf a) (wordOf b)) (itself (same a b))
     (λ h. let j : a ≡ b = sym (word-back a f) ∙ rw (e, h) (word-back b g) in rw j (same-refl b))
     (λ h. ap wordOf (same-true a b h))
+
+-- ---- parts by their numbers
+
+pub bytes-take : (n : ℕ) (s : List ℕ) → Bytes s → Bytes (take n s)
+bytes-take zero s f i = record { fits = omega arith }
+bytes-take (suc n) [] f i = record { fits = omega arith }
+bytes-take (suc n) (b ∷ s) f zero = f 0
+bytes-take (suc n) (b ∷ s) f (suc i) = bytes-take n s (λ j. f (suc j)) i
+
+bytes-part : (a e : ℕ) (s : List ℕ) → Bytes s → Bytes (part a e s)
+bytes-part a e s f = bytes-take (e - a) (drop a s) (λ i. rw getD-drop (f (a + i)))
+
+part-size : (s : List ℕ) (i k : ℕ) → i + k ≤ length s → length (part i (i + k) s) ≡ k
+part-size s i k h = omega (arith, length-part i (i + k) s h)
+
+-- two parts are the same where their numbers are
+pub part-same : (a b : List ℕ) (i k : ℕ) {x y : ℕ} → Bytes a → Bytes b → i + k ≤ length a → i + k ≤ length b
+    → x ≡ wordOf (part i (i + k) a) → y ≡ wordOf (part i (i + k) b) → eqb x y ≡ same (part i (i + k) a) (part i (i + k) b)
+part-same a b i k f g h l p q =
+    rw (p, q)
+    (word-same (part i (i + k) a) (part i (i + k) b) (part-size a i k h ∙ sym (part-size b i k l)) (bytes-part i (i + k) a f) (bytes-part i (i + k) b g))
+
+-- four to seven bytes are the same where the first four and the last four are
+pub fours-same : (a b : List ℕ) (n : ℕ) {x y z w : ℕ} → Bytes a → Bytes b → n ≤ length a → n ≤ length b → 4 ≤ n → n < 8
+    → x ≡ wordOf (part 0 (0 + 4) a) → y ≡ wordOf (part 0 (0 + 4) b) → z ≡ wordOf (part (n - 4) (n - 4 + 4) a) → w ≡ wordOf (part (n - 4) (n - 4 + 4) b)
+    → (eqb x y && eqb z w) ≡ same (take n a) (take n b)
+fours-same a b n f g j k h l p q r t =
+    rw (part-same a b 0 4 f g (omega arith) (omega arith) p q, part-same a b (n - 4) 4 f g (omega arith) (omega arith) r t)
+    (by-test (same (part 0 (0 + 4) a) (part 0 (0 + 4) b))
+    (λ e. rw e (alike-last a b n (0 + 4) 4 h (omega arith) (alike-next a b n 0 4 (omega arith) e)))
+    (λ e. rw e (sym (alike-stop a b n 0 4 (omega arith) e))))
+
+-- some bytes are all b where they are the text of as many b
+all-same : (b : ℕ) (s : List ℕ) (k : ℕ) → length s ≡ k → same s (replicate k b) ≡ all (is b) s
+unfolding same all
+all-same b [] zero e = refl
+all-same b [] (suc k) e = absurd (omega arith)
+all-same b (x ∷ s) zero e = absurd (omega arith)
+all-same b (x ∷ s) (suc k) e = ap (λ (t : Bool). eqb x b && t) (all-same b s k (omega arith))
+
+bytes-all : (b k : ℕ) → b < 256 → Bytes (replicate k b)
+bytes-all b zero h i = record { fits = omega arith }
+bytes-all b (suc k) h zero = record { fits = h }
+bytes-all b (suc k) h (suc i) = bytes-all b k h i
+
+word-all-eight : (b : ℕ) → wordOf (replicate 8 b) ≡ b * 72340172838076673
+unfolding wordOf
+word-all-eight b = omega arith
+
+pub eight-are : (s : List ℕ) (i b : ℕ) {x : ℕ} → Bytes s → i + 8 ≤ length s → b < 256 → x ≡ wordOf (part i (i + 8) s)
+    → eqb x (b * 72340172838076673) ≡ all (is b) (part i (i + 8) s)
+eight-are s i b f h k p =
+    rw (p, ← word-all-eight b)
+    (word-same (part i (i + 8) s) (replicate 8 b) (part-size s i 8 h) (bytes-part i (i + 8) s f) (bytes-all b 8 k)
+    ∙ all-same b (part i (i + 8) s) 8 (part-size s i 8 h))
+
+-- eight bytes read as a number and put as its bytes are moved
+pub eight-moved : (t : List ℕ) (i : ℕ) {w : ℕ} (out : List ℕ) (at : ℕ) {m : List ℕ} → Bytes t → i + 8 ≤ length t → w ≡ wordOf (part i (i + 8) t)
+    → m ≡ sets out at (bytesOf 8 w) → m ≡ sets out at (part i (i + 8) t)
+eight-moved t i out at f h p q =
+    let n = part-size t i 8 h in
+    let e : bytesOf 8 (wordOf (part i (i + 8) t)) ≡ part i (i + 8) t = rw n at (word-back (part i (i + 8) t) (bytes-part i (i + 8) t f)) in
+    q ∙ rw (p, e)
 
 -- ---- the number of a part, byte by byte
 
@@ -170,12 +234,6 @@ module _ (l : List ℕ) (i w : ℕ) where
       rw (i₁, i₂, i₃, w₂, w₃)
 
 -- ---- a text that begins with the bytes of a number
-
-pub bytes-take : (n : ℕ) (s : List ℕ) → Bytes s → Bytes (take n s)
-bytes-take zero s f i = record { fits = omega arith }
-bytes-take (suc n) [] f i = record { fits = omega arith }
-bytes-take (suc n) (b ∷ s) f zero = f 0
-bytes-take (suc n) (b ∷ s) f (suc i) = bytes-take n s (λ j. f (suc j)) i
 
 pub word-is : (k w : ℕ) (s : List ℕ) → Bytes s → length s ≡ k → w < 256 ^ k → same (bytesOf k w) s ≡ eqb (wordOf s) w
 word-is k w s f n h =

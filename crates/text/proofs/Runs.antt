@@ -1,7 +1,7 @@
 -- Runs of stores into a buffer: one put after another, a text byte by byte, the digits of a number, and the whole write.
 -- Assumes nothing.
 use Prim.Native.Nat.{ℕ, zero, suc, _+_, _-_, _/_, _%_, min, _≤_, _<_}
-use Rattle.text.proofs.Cuts.{tail, eight}
+use Rattle.text.proofs.Cuts.{tail}
 use Rattle.text.proofs.Numerals.{length-text, digits-last}
 use Rattle.text.proofs.Tests.{by-le}
 use Rattle.text.specs.Bytes.{part}
@@ -107,35 +107,6 @@ front-last l m at t i j k g h f e =
     rw (sym first, cut) (sets-twice before (at + j) (take (i - j) (drop j t)) (take (j + k - i) (drop (i - j) (drop j t))))
     ∙ ap (sets before (at + j)) (sym cut)
     ∙ front-next before m at t j k f refl
-
--- eight bytes, one by one
-pub eight-put : (l t : List ℕ) (at i : ℕ) → i + 8 ≤ length t
-    → set
-    (set
-    (set
-    (set
-    (set
-    (set (set (set l at (getD t i 0)) (at + 1) (getD t (i + 1) 0)) (at + 2) (getD t (i + 2) 0))
-    (at + 3)
-    (getD t (i + 3) 0))
-    (at + 4)
-    (getD t (i + 4) 0))
-    (at + 5)
-    (getD t (i + 5) 0))
-    (at + 6)
-    (getD t (i + 6) 0))
-    (at + 7)
-    (getD t (i + 7) 0)
-    ≡ sets l at (part i (i + 8) t)
-eight-put l t at i h =
-    let one : at + 1 ≡ suc at = omega arith in
-    let two : at + 2 ≡ suc (suc at) = omega arith in
-    let three : at + 3 ≡ suc (suc (suc at)) = omega arith in
-    let four : at + 4 ≡ suc (suc (suc (suc at))) = omega arith in
-    let five : at + 5 ≡ suc (suc (suc (suc (suc at)))) = omega arith in
-    let six : at + 6 ≡ suc (suc (suc (suc (suc (suc at))))) = omega arith in
-    let seven : at + 7 ≡ suc (suc (suc (suc (suc (suc (suc at)))))) = omega arith in
-    rw (eight 0 t i h, one, two, three, four, five, six, seven)
 
 -- what there is no room for is not put
 pub text-clip : (l : List ℕ) (at : ℕ) (t : List ℕ) (n : ℕ) → n ≡ min (length t) (length l - at) → sets l at (take n t) ≡ sets l at t

@@ -1,6 +1,7 @@
 // Putting bytes into a lent buffer. A put writes what there is room for and answers the place past its text,
 // so the same functions give a text's length, on an empty part of the buffer, and then its bytes.
 use crate::digits;
+use crate::words;
 ghost use Prim.Native.Nat.{_+_, _-_, min, _≤_, _<_};
 ghost use Rattle.text.specs.Bytes.{part};
 ghost use Rattle.text.specs.Digits.{digitsText, wholeText};
@@ -41,27 +42,12 @@ fn room_for(out: &[u8], at: usize, n: usize) -> usize
     room
 }
 
-// Eight bytes of t from i on, put at a place: all are read before one is written, so that they are moved as one word.
+// Eight bytes of t from i on, put at a place as one number: all are read before one is written, so that they are moved at once.
 fn put_eight(out: &mut [u8], at: usize, t: &[u8], i: usize)
     requires { ⌜ (at + 8 ≤ length (now out)) × (i + 8 ≤ length (now t)) ⌝ }
     ensures { λ r. ⌜ now (out .exit) ≡ sets (now (out .entry)) at (part i (i + 8) (now (t .entry))) ⌝ }
 {
-    let a = t[i];
-    let b = t[i + 1];
-    let c = t[i + 2];
-    let d = t[i + 3];
-    let e = t[i + 4];
-    let f = t[i + 5];
-    let g = t[i + 6];
-    let h = t[i + 7];
-    out[at] = a;
-    out[at + 1] = b;
-    out[at + 2] = c;
-    out[at + 3] = d;
-    out[at + 4] = e;
-    out[at + 5] = f;
-    out[at + 6] = g;
-    out[at + 7] = h;
+    words::put_word(out, at, words::eight(t, i));
 }
 
 // The first n bytes of t, fewer than eight.

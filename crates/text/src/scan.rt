@@ -1,25 +1,28 @@
 // Looking at bytes and handing on parts of them.
-ghost use Prim.Native.Nat.{_+_, _≤_};
+use crate::words;
+ghost use Prim.Native.Nat.{_+_, _≤_, _<_};
 ghost use Rattle.text.specs.Bytes.{part, same, starts, all, any, is, runOf, skipEnd, firstOf, trim, isBlank};
 ghost use lib.ListN.{length, take, drop};
 ghost use mathlib.Core.Path.{_≡_};
 
-// Eight bytes of both from i on, tested without a branch between them: compiled to one compare of two words.
+// Eight bytes of both from i on, each eight as one number.
 fn eight_alike(a: &[u8], b: &[u8], i: usize) -> bool
     requires { ⌜ (i + 8 ≤ length (now a)) × (i + 8 ≤ length (now b)) ⌝ }
     ensures { λ r. ⌜ r ≡ same (part i (i + 8) (now (a .entry))) (part i (i + 8) (now (b .entry))) ⌝ }
 {
-    (a[i] == b[i])
-        & (a[i + 1] == b[i + 1])
-        & (a[i + 2] == b[i + 2])
-        & (a[i + 3] == b[i + 3])
-        & (a[i + 4] == b[i + 4])
-        & (a[i + 5] == b[i + 5])
-        & (a[i + 6] == b[i + 6])
-        & (a[i + 7] == b[i + 7])
+    words::eight(a, i) == words::eight(b, i)
 }
 
-// Fewer than eight bytes, one by one.
+// Four to seven bytes: the first four and the last four, which may overlap.
+fn fours_alike(a: &[u8], b: &[u8], n: usize) -> bool
+    requires { ⌜ (4 ≤ n) × (n < 8) × (n ≤ length (now a)) × (n ≤ length (now b)) ⌝ }
+    ensures { λ r. ⌜ r ≡ same (take n (now (a .entry))) (take n (now (b .entry))) ⌝ }
+{
+    let last = n - 4;
+    (words::four(a, 0) == words::four(b, 0)) & (words::four(a, last) == words::four(b, last))
+}
+
+// Fewer than four bytes, one by one.
 fn few_alike(a: &[u8], b: &[u8], n: usize) -> bool
     requires { ⌜ (n ≤ length (now a)) × (n ≤ length (now b)) ⌝ }
     ensures { λ r. ⌜ r ≡ same (take n (now (a .entry))) (take n (now (b .entry))) ⌝ }
@@ -39,8 +42,11 @@ fn alike(a: &[u8], b: &[u8], n: usize) -> bool
     requires { ⌜ (n ≤ length (now a)) × (n ≤ length (now b)) ⌝ }
     ensures { λ r. ⌜ r ≡ same (take n (now (a .entry))) (take n (now (b .entry))) ⌝ }
 {
-    if n < 8 {
+    if n < 4 {
         return few_alike(a, b, n);
+    }
+    if n < 8 {
+        return fours_alike(a, b, n);
     }
     let last = n - 8;
     let mut i = 0;
@@ -108,19 +114,12 @@ pub fn first(s: &[u8], b: u8) -> usize
     i
 }
 
-// Eight bytes from i on, tested without a branch between them.
-fn eight_blank(s: &[u8], i: usize) -> bool
+// Whether all eight bytes from i on are b: the number of eight such bytes is b times that of eight ones.
+fn eight_are(s: &[u8], i: usize, b: u8) -> bool
     requires { ⌜ i + 8 ≤ length (now s) ⌝ }
-    ensures { λ r. ⌜ r ≡ all isBlank (part i (i + 8) (now (s .entry))) ⌝ }
+    ensures { λ r. ⌜ r ≡ all (is b) (part i (i + 8) (now (s .entry))) ⌝ }
 {
-    (s[i] == b' ')
-        & (s[i + 1] == b' ')
-        & (s[i + 2] == b' ')
-        & (s[i + 3] == b' ')
-        & (s[i + 4] == b' ')
-        & (s[i + 5] == b' ')
-        & (s[i + 6] == b' ')
-        & (s[i + 7] == b' ')
+    words::eight(s, i) == b as u64 * 72340172838076673
 }
 
 // How many blanks it begins with: a padded label is followed by many.
@@ -129,7 +128,7 @@ pub fn lead(s: &[u8]) -> usize
 {
     let mut n = 0;
     while 8 <= s.len() - n {
-        if !eight_blank(s, n) {
+        if !eight_are(s, n, b' ') {
             break;
         }
         n += 8;
@@ -143,28 +142,13 @@ pub fn lead(s: &[u8]) -> usize
     n
 }
 
-// Eight bytes from i on, tested without a branch between them.
-fn eight_zero(s: &[u8], i: usize) -> bool
-    requires { ⌜ i + 8 ≤ length (now s) ⌝ }
-    ensures { λ r. ⌜ r ≡ all (is 0) (part i (i + 8) (now (s .entry))) ⌝ }
-{
-    (s[i] == 0)
-        & (s[i + 1] == 0)
-        & (s[i + 2] == 0)
-        & (s[i + 3] == 0)
-        & (s[i + 4] == 0)
-        & (s[i + 5] == 0)
-        & (s[i + 6] == 0)
-        & (s[i + 7] == 0)
-}
-
 // Whether all bytes are zero: unused room is long.
 pub fn are_zero(s: &[u8]) -> bool
     ensures { λ r. ⌜ r ≡ all (is 0) (now (s .entry)) ⌝ }
 {
     let mut i = 0;
     while 8 <= s.len() - i {
-        if !eight_zero(s, i) {
+        if !eight_are(s, i, 0) {
             return false;
         }
         i += 8;

@@ -28,13 +28,13 @@ loop-holds c = search needs
 sub-loop : tie.Need-sub-loop Inv-loop μ-loop Inv-loop2 μ-loop2
 sub-loop c = search needs
 
-eight-zero-requires : tie.Need-eight-zero-requires Inv-loop μ-loop Inv-loop2 μ-loop2
-eight-zero-requires c κs = search needs
+eight-are-requires : tie.Need-eight-are-requires Inv-loop μ-loop Inv-loop2 μ-loop2
+eight-are-requires c κs = search needs
 
 returns : tie.Need-returns Inv-loop μ-loop Inv-loop2 μ-loop2
 returns c =
     let l = c .before .before .before .loop in
-    sym (l .inv .1 ∙ all-stop (is 0) _ (l .i) 8 (sym (c .before .eight-zero .ensures) ∙ not-true _ (c .if1 .taken)))
+    sym (l .inv .1 ∙ all-stop (is 0) _ (l .i) 8 (sym (c .before .eight-are .ensures) ∙ not-true _ (c .if1 .taken)))
 
 add-i : tie.Need-add-i Inv-loop μ-loop Inv-loop2 μ-loop2
 add-i c = search needs
@@ -45,7 +45,7 @@ loop-less c = search needs
 loop-again : tie.Need-loop-again Inv-loop μ-loop Inv-loop2 μ-loop2
 loop-again c =
     let l = c .before .before .before .loop in
-    (omega arith, l .inv .1 ∙ all-over (is 0) _ (l .i) 8 (sym (c .before .eight-zero .ensures) ∙ not-false _ (c .if1 .left)))
+    (omega arith, l .inv .1 ∙ all-over (is 0) _ (l .i) 8 (sym (c .before .eight-are .ensures) ∙ not-false _ (c .if1 .left)))
 
 loop2-holds : tie.Need-loop2-holds Inv-loop μ-loop Inv-loop2 μ-loop2
 loop2-holds c = search needs
@@ -82,7 +82,7 @@ are-zero-spec =
     μ-loop2
     loop-holds
     sub-loop
-    eight-zero-requires
+    eight-are-requires
     returns
     add-i
     loop-less

@@ -28,8 +28,8 @@ loop-holds c = search needs
 sub-loop : tie.Need-sub-loop Inv-loop μ-loop Inv-loop2 μ-loop2
 sub-loop c = search needs
 
-eight-blank-requires : tie.Need-eight-blank-requires Inv-loop μ-loop Inv-loop2 μ-loop2
-eight-blank-requires c κs = search needs
+eight-are-requires : tie.Need-eight-are-requires Inv-loop μ-loop Inv-loop2 μ-loop2
+eight-are-requires c κs = search needs
 
 add-n : tie.Need-add-n Inv-loop μ-loop Inv-loop2 μ-loop2
 add-n c = search needs
@@ -40,7 +40,7 @@ loop-less c = search needs
 loop-again : tie.Need-loop-again Inv-loop μ-loop Inv-loop2 μ-loop2
 loop-again c =
     let l = c .before .before .before in
-    (omega arith, l .loop .inv .1 ∙ skip-over isBlank (l .before .before .args .s .now) (l .loop .n) 8 (sym (c .before .eight-blank .ensures) ∙ not-false _ (c .if1 .left)))
+    (omega arith, l .loop .inv .1 ∙ skip-over isBlank (l .before .before .args .s .now) (l .loop .n) 8 (sym (c .before .eight-are .ensures) ∙ not-false _ (c .if1 .left)))
 
 loop2-holds : tie.Need-loop2-holds Inv-loop μ-loop Inv-loop2 μ-loop2
 loop2-holds c = search needs
@@ -80,7 +80,7 @@ lead-spec =
     μ-loop2
     loop-holds
     sub-loop
-    eight-blank-requires
+    eight-are-requires
     add-n
     loop-less
     loop-again
