@@ -65,6 +65,7 @@ pub record Within : Type 0 where
   -- date
   pub date-put : OneOutput date.put.ended (λ κs e. e .0 .now) date.put.Reads.Learnt
   -- number
+  pub number-are-short : Answers number.are_short.ended number.are_short.Reads.Asked number.are_short.Reads.Learnt
   pub number-put : OneOutput number.put.ended (λ κs e. e .0 .now) number.put.Reads.Learnt
   -- name
   pub name-unit-run : Answers name.unit.run.ended name.unit.run.Reads.Asked name.unit.run.Reads.Learnt
@@ -95,6 +96,7 @@ pub record Within : Type 0 where
   pub sheet-is-for : Answers sheet.is_for.ended sheet.is_for.Reads.Asked sheet.is_for.Reads.Learnt
   pub sheet-time-part : OneResult sheet.time_part.ended sheet.time_part.Reads.Learnt
   -- render
+  pub render-is-written : Answers render.is_written.ended render.is_written.Reads.Asked render.is_written.Reads.Learnt
   pub render-put-value : OneOutput render.put_value.ended (λ κs e. e .0 .now) render.put_value.Reads.Learnt
   -- layout
   pub layout-type-of : Answers layout.type_of.ended layout.type_of.Reads.Asked layout.type_of.Reads.Learnt
