@@ -1,18 +1,19 @@
 -- Bytes and their number: each tells the other, where the bytes are below 256. Assumes nothing.
 use Prim.Native.Nat.{ℕ, zero, suc, _+_, _-_, _*_, _/_, _%_, _^_, _≤_, _<_}
-use Rattle.text.proofs.Cuts.{eight, four, length-part, drop-step, same-refl, same-true, alike-stop, alike-next, alike-last, starts-same}
+use Rattle.text.proofs.Cuts.{four, length-part, drop-step, same-refl, same-true, alike-stop, alike-next, alike-last, starts-same}
+use Rattle.text.proofs.Runs.{sets-append}
 use Rattle.text.proofs.Tests.{by-test, same-if, eqb-tells, itself}
 use Rattle.text.specs.Bytes.{part, same, starts, all, is}
 use Rattle.text.specs.Words.{wordOf, bytesOf}
 use lib.Dec.{eqb, lit<}
 use lib.ListN.{length, getD, take, drop, set, replicate, length-drop, drop-of-length-le}
-use lib.Seq.{sets, take-all, take-nil, drop-nil, getD-drop}
+use lib.Seq.{sets, take-all, take-add, take-nil, drop-nil, drop-drop, getD-drop}
 use mathlib.Core.Bool.{Bool, _&&_}
 use mathlib.Core.List.{List, [], _∷_, _++_}
 use mathlib.Core.Path.{_≡_, refl, sym, ap, _∙_}
 use mir.Syntax.{w8}
 use mir.Val.{Fits}
-use native.Mathlib.Nat.{zero-add, suc-add, pow-suc, one-le-pow}
+use native.Mathlib.Nat.{zero-add, suc-add, mul-assoc, pow-suc, one-le-pow}
 use native.Mathlib.Omega.{arith}
 
 -- all are bytes, as `.given` of a slice that is read says it
@@ -154,23 +155,29 @@ eight-moved t i out at f h p q =
 
 -- ---- the number of a part, byte by byte
 
-pub word-eight : (s : List ℕ) (i : ℕ) → i + 8 ≤ length s
-    → getD s i 0
-    + getD s (i + 1) 0 * 256
-    + getD s (i + 2) 0 * 65536
-    + getD s (i + 3) 0 * 16777216
-    + getD s (i + 4) 0 * 4294967296
-    + getD s (i + 5) 0 * 1099511627776
-    + getD s (i + 6) 0 * 281474976710656
-    + getD s (i + 7) 0 * 72057594037927936
-    ≡ wordOf (part i (i + 8) s)
-unfolding wordOf
-word-eight s i h = rw (eight 0 s i h) (omega arith)
-
 pub word-four : (s : List ℕ) (i : ℕ) → i + 4 ≤ length s
     → getD s i 0 + getD s (i + 1) 0 * 256 + getD s (i + 2) 0 * 65536 + getD s (i + 3) 0 * 16777216 ≡ wordOf (part i (i + 4) s)
 unfolding wordOf
 word-four s i h = rw (four 0 s i h) (omega arith)
+
+-- and of two parts, one after the other
+word-append : (a b : List ℕ) → wordOf (a ++ b) ≡ wordOf a + wordOf b * 256 ^ length a
+unfolding wordOf
+word-append [] b = omega arith
+word-append (x ∷ a) b =
+    let e : wordOf b * (256 ^ length a * 256) ≡ wordOf b * 256 ^ length a * 256 = sym (mul-assoc (wordOf b) (256 ^ length a) 256) in
+    rw (word-append a b, pow-suc 256 (length a), e) (omega arith)
+
+pub word-halves : (s : List ℕ) (i : ℕ) {x y : ℕ} → i + 8 ≤ length s → x ≡ wordOf (part i (i + 4) s) → y ≡ wordOf (part (i + 4) (i + 4 + 4) s)
+    → x + y * 4294967296 ≡ wordOf (part i (i + 8) s)
+word-halves s i h p q =
+    let n : i + 8 - i ≡ (i + 4 - i) + (i + 4 + 4 - (i + 4)) = omega arith in
+    let m : i + (i + 4 - i) ≡ i + 4 = omega arith in
+    let cut : part i (i + 8) s ≡ part i (i + 4) s ++ part (i + 4) (i + 4 + 4) s =
+    rw n (take-add (i + 4 - i) (i + 4 + 4 - (i + 4)) (drop i s) ∙ rw (drop-drop, m)) in
+    let e : wordOf (part i (i + 8) s) ≡ wordOf (part i (i + 4) s) + wordOf (part (i + 4) (i + 4 + 4) s) * 256 ^ 4 =
+    rw cut (word-append (part i (i + 4) s) (part (i + 4) (i + 4 + 4) s) ∙ rw (part-size s i 4 (omega arith))) in
+    omega (arith, p, q, e)
 
 -- ---- from the last byte down
 
@@ -201,27 +208,6 @@ module _ (s : List ℕ) where
 -- ---- the bytes of a number, stored one by one
 
 module _ (l : List ℕ) (i w : ℕ) where
-  pub put-eight : w < 18446744073709551616
-      → set (set (set (set (set (set (set (set l i (w % 256)) (i + 1) (w / 256 % 256)) (i + 2) (w / 65536 % 256)) (i + 3) (w / 16777216 % 256))
-      (i + 4) (w / 4294967296 % 256)) (i + 5) (w / 1099511627776 % 256)) (i + 6) (w / 281474976710656 % 256)) (i + 7) (w / 72057594037927936)
-      ≡ sets l i (bytesOf 8 w)
-  unfolding bytesOf
-  put-eight h =
-      let i₁ : i + 1 ≡ suc i = omega arith in
-      let i₂ : i + 2 ≡ suc (suc i) = omega arith in
-      let i₃ : i + 3 ≡ suc (suc (suc i)) = omega arith in
-      let i₄ : i + 4 ≡ suc (suc (suc (suc i))) = omega arith in
-      let i₅ : i + 5 ≡ suc (suc (suc (suc (suc i)))) = omega arith in
-      let i₆ : i + 6 ≡ suc (suc (suc (suc (suc (suc i))))) = omega arith in
-      let i₇ : i + 7 ≡ suc (suc (suc (suc (suc (suc (suc i)))))) = omega arith in
-      let w₂ : w / 65536 ≡ w / 256 / 256 = omega arith in
-      let w₃ : w / 16777216 ≡ w / 256 / 256 / 256 = omega arith in
-      let w₄ : w / 4294967296 ≡ w / 256 / 256 / 256 / 256 = omega arith in
-      let w₅ : w / 1099511627776 ≡ w / 256 / 256 / 256 / 256 / 256 = omega arith in
-      let w₆ : w / 281474976710656 ≡ w / 256 / 256 / 256 / 256 / 256 / 256 = omega arith in
-      let w₇ : w / 72057594037927936 ≡ w / 256 / 256 / 256 / 256 / 256 / 256 / 256 % 256 = omega arith in
-      rw (i₁, i₂, i₃, i₄, i₅, i₆, i₇, w₂, w₃, w₄, w₅, w₆, w₇)
-
   pub put-four : w < 4294967296
       → set (set (set (set l i (w % 256)) (i + 1) (w / 256 % 256)) (i + 2) (w / 65536 % 256)) (i + 3) (w / 16777216) ≡ sets l i (bytesOf 4 w)
   unfolding bytesOf
@@ -232,6 +218,29 @@ module _ (l : List ℕ) (i w : ℕ) where
       let w₂ : w / 65536 ≡ w / 256 / 256 = omega arith in
       let w₃ : w / 16777216 ≡ w / 256 / 256 / 256 % 256 = omega arith in
       rw (i₁, i₂, i₃, w₂, w₃)
+
+-- by its halves
+bytes-halves : (w : ℕ) → w < 18446744073709551616 → bytesOf 4 (w % 4294967296) ++ bytesOf 4 (w / 4294967296) ≡ bytesOf 8 w
+unfolding bytesOf
+bytes-halves w h =
+    let q = w / 4294967296 in
+    let r = w % 4294967296 in
+    let e₁ : w / 256 ≡ q * 16777216 + r / 256 = omega arith in
+    let e₂ : w / 256 / 256 ≡ q * 65536 + r / 256 / 256 = omega arith in
+    let e₃ : w / 256 / 256 / 256 ≡ q * 256 + r / 256 / 256 / 256 = omega arith in
+    let e₄ : w / 256 / 256 / 256 / 256 ≡ q = omega arith in
+    let b₁ : w % 256 ≡ r % 256 = omega arith in
+    let b₂ : w / 256 % 256 ≡ r / 256 % 256 = rw e₁ (omega arith) in
+    let b₃ : w / 256 / 256 % 256 ≡ r / 256 / 256 % 256 = rw e₂ (omega arith) in
+    let b₄ : w / 256 / 256 / 256 % 256 ≡ r / 256 / 256 / 256 % 256 = rw e₃ (omega arith) in
+    rw (b₁, b₂, b₃, b₄, e₄)
+
+pub halves-put : (l : List ℕ) (i w : ℕ) {a b : List ℕ} → w < 18446744073709551616 → a ≡ sets l i (bytesOf 4 (w % 4294967296))
+    → b ≡ sets a (i + 4) (bytesOf 4 (w / 4294967296)) → b ≡ sets l i (bytesOf 8 w)
+halves-put l i w h p q =
+    let low = bytesOf 4 (w % 4294967296) in
+    let high = bytesOf 4 (w / 4294967296) in
+    q ∙ rw p (rw (length-bytes 4 (w % 4294967296)) at (sets-append l i low high)) ∙ ap (sets l i) (bytes-halves w h)
 
 -- ---- a text that begins with the bytes of a number
 

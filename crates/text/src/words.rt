@@ -6,19 +6,22 @@ ghost use lib.ListN.{length};
 ghost use lib.Seq.{sets};
 ghost use mathlib.Core.Path.{_≡_};
 
-// The number of eight bytes from i on.
+// The number of four bytes from i on.
+pub fn four(s: &[u8], i: usize) -> u32
+    requires { ⌜ i + 4 ≤ length (now s) ⌝ }
+    ensures { λ r. ⌜ r ≡ wordOf (part i (i + 4) (now (s .entry))) ⌝ }
+{
+    s[i] as u32 + s[i + 1] as u32 * 256 + s[i + 2] as u32 * 65536 + s[i + 3] as u32 * 16777216
+}
+
+// The number of eight bytes from i on, by its halves.
 pub fn eight(s: &[u8], i: usize) -> u64
     requires { ⌜ i + 8 ≤ length (now s) ⌝ }
     ensures { λ r. ⌜ r ≡ wordOf (part i (i + 8) (now (s .entry))) ⌝ }
 {
-    s[i] as u64
-        + s[i + 1] as u64 * 256
-        + s[i + 2] as u64 * 65536
-        + s[i + 3] as u64 * 16777216
-        + s[i + 4] as u64 * 4294967296
-        + s[i + 5] as u64 * 1099511627776
-        + s[i + 6] as u64 * 281474976710656
-        + s[i + 7] as u64 * 72057594037927936
+    let low = four(s, i) as u64;
+    let high = four(s, i + 4) as u64;
+    low + high * 4294967296
 }
 
 // The number of the bytes from i on, eight of them or as many as there are.
@@ -40,30 +43,7 @@ pub fn upto(s: &[u8], i: usize) -> u64
     w
 }
 
-// The number of four bytes from i on.
-pub fn four(s: &[u8], i: usize) -> u32
-    requires { ⌜ i + 4 ≤ length (now s) ⌝ }
-    ensures { λ r. ⌜ r ≡ wordOf (part i (i + 4) (now (s .entry))) ⌝ }
-{
-    s[i] as u32 + s[i + 1] as u32 * 256 + s[i + 2] as u32 * 65536 + s[i + 3] as u32 * 16777216
-}
-
-// The eight bytes of a number, put from i on.
-pub fn put_word(out: &mut [u8], i: usize, w: u64)
-    requires { ⌜ i + 8 ≤ length (now out) ⌝ }
-    ensures { λ r. ⌜ now (out .exit) ≡ sets (now (out .entry)) i (bytesOf 8 w) ⌝ }
-{
-    out[i] = (w % 256) as u8;
-    out[i + 1] = (w / 256 % 256) as u8;
-    out[i + 2] = (w / 65536 % 256) as u8;
-    out[i + 3] = (w / 16777216 % 256) as u8;
-    out[i + 4] = (w / 4294967296 % 256) as u8;
-    out[i + 5] = (w / 1099511627776 % 256) as u8;
-    out[i + 6] = (w / 281474976710656 % 256) as u8;
-    out[i + 7] = (w / 72057594037927936) as u8;
-}
-
-// The four bytes of a number.
+// The four bytes of a number, put from i on.
 pub fn put_half(out: &mut [u8], i: usize, w: u32)
     requires { ⌜ i + 4 ≤ length (now out) ⌝ }
     ensures { λ r. ⌜ now (out .exit) ≡ sets (now (out .entry)) i (bytesOf 4 w) ⌝ }
@@ -72,4 +52,13 @@ pub fn put_half(out: &mut [u8], i: usize, w: u32)
     out[i + 1] = (w / 256 % 256) as u8;
     out[i + 2] = (w / 65536 % 256) as u8;
     out[i + 3] = (w / 16777216) as u8;
+}
+
+// The eight bytes of a number, put from i on.
+pub fn put_word(out: &mut [u8], i: usize, w: u64)
+    requires { ⌜ i + 8 ≤ length (now out) ⌝ }
+    ensures { λ r. ⌜ now (out .exit) ≡ sets (now (out .entry)) i (bytesOf 8 w) ⌝ }
+{
+    put_half(out, i, (w % 4294967296) as u32);
+    put_half(out, i + 4, (w / 4294967296) as u32);
 }
