@@ -101,14 +101,16 @@ module _ (t : MessageType) (file : List ℕ) (at n : ℕ) (x : Expected) (hx : I
         → (at + h + k ≡ at + plainRun (drop at file))
         × IsItem t file (trim (part at (at + h + k) file)) n (item (at + h + k) false (x .first) (x .second) v)
     met s v w =
-        let e = head-is (not-row s) in
-        (expected-end t file at n h x hx e s (at + h + k) k run-is refl,
-        as-expected t file at n h x hx e s (at + h + k) v (ap (λ (j : ℕ). at + h + j) run-is) (not-row s) w)
+        let e = head-is (not-row s) in (
+          expected-end t file at n h x hx e s (at + h + k) k run-is refl,
+          as-expected t file at n h x hx e s (at + h + k) v (ap (λ (j : ℕ). at + h + j) run-is) (not-row s) w,
+        )
 
     pub not-met : h ≤ 0 → (i : Item) → (i .end ≡ at + h + k) × IsItem t file (trim (part at (at + h + k) file)) n i
         → (i .end ≡ at + plainRun (drop at file)) × IsItem t file (trim (part at (i .end) file)) n i
     not-met s i w =
         let z : h ≡ 0 = omega arith in
-        let a : at + h ≡ at = omega arith in
-        (omega (arith, w .0, run-is, ap (λ (j : ℕ). plainRun (drop j file)) a),
-        subst (λ (j : ℕ). IsItem t file (trim (part at j file)) n i) (sym (w .0)) (w .1))
+        let a : at + h ≡ at = omega arith in (
+          omega (arith, w .0, run-is, ap (λ (j : ℕ). plainRun (drop j file)) a),
+          subst (λ (j : ℕ). IsItem t file (trim (part at j file)) n i) (sym (w .0)) (w .1),
+        )

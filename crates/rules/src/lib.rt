@@ -49,13 +49,13 @@ fn in_order(start: Cell, end: Cell) -> bool
 }
 
 // 1. mFRR: TINI1 < TFIN1 <= TINI2 < TFIN2.
-fn ramps(c3: Cell, c4: Cell, c5: Cell, c6: Cell) -> bool
-    ensures { λ r. ⌜ r ≡ ramped (c3 .value) (c4 .value) (c5 .value) (c6 .value) ⌝ }
+fn ramps(start1: Cell, end1: Cell, start2: Cell, end2: Cell) -> bool
+    ensures { λ r. ⌜ r ≡ ramped (start1 .value) (end1 .value) (start2 .value) (end2 .value) ⌝ }
 {
-    let tini1 = instant_at(c3);
-    let tfin1 = instant_at(c4);
-    let tini2 = instant_at(c5);
-    let tfin2 = instant_at(c6);
+    let tini1 = instant_at(start1);
+    let tfin1 = instant_at(end1);
+    let tini2 = instant_at(start2);
+    let tfin2 = instant_at(end2);
     (tini1 < tfin1) & (tfin1 <= tini2) & (tini2 < tfin2)
 }
 
@@ -67,15 +67,15 @@ fn updated(origin: Cell, update: Cell) -> bool
 }
 
 // 3. Below a filled h line all are filled.
-fn profiled(c1: Cell, c2: Cell, c3: Cell, c4: Cell, c5: Cell, c6: Cell) -> bool
-    ensures { λ r. ⌜ r ≡ fills (c1 .value) (c2 .value) (c3 .value) (c4 .value) (c5 .value) (c6 .value) ⌝ }
+fn profiled(line1: Cell, line2: Cell, line3: Cell, line4: Cell, line5: Cell, line6: Cell) -> bool
+    ensures { λ r. ⌜ r ≡ fills (line1 .value) (line2 .value) (line3 .value) (line4 .value) (line5 .value) (line6 .value) ⌝ }
 {
-    let h1 = filled(c1);
-    let h2 = filled(c2);
-    let h3 = filled(c3);
-    let h4 = filled(c4);
-    let h5 = filled(c5);
-    let h6 = filled(c6);
+    let h1 = filled(line1);
+    let h2 = filled(line2);
+    let h3 = filled(line3);
+    let h4 = filled(line4);
+    let h5 = filled(line5);
+    let h6 = filled(line6);
     (!h1 | h2) & (!h2 | h3) & (!h3 | h4) & (!h4 | h5) & (!h5 | h6)
 }
 
@@ -102,10 +102,10 @@ fn all_rise(gradients: [Triple; 16], n: usize) -> bool
     true
 }
 
-fn sloped(bands: Cell, gradients: [Triple; 16]) -> bool
-    ensures { λ r. ⌜ r ≡ slopes (bands .value) gradients ⌝ }
+fn sloped(listed: Cell, gradients: [Triple; 16]) -> bool
+    ensures { λ r. ⌜ r ≡ slopes (listed .value) gradients ⌝ }
 {
-    let v = bands.value;
+    let v = listed.value;
     all_rise(gradients, triples_in(v))
 }
 
@@ -117,50 +117,50 @@ fn excluded(reason: Cell, again: Cell) -> bool
 }
 
 // The minimum of LB is at most its maximum.
-fn at_most(c5: Cell, c6: Cell) -> bool
-    ensures { λ r. ⌜ r ≡ leZ (amountIn (c6 .value)) (amountIn (c5 .value)) ⌝ }
+fn at_most(maximum: Cell, minimum: Cell) -> bool
+    ensures { λ r. ⌜ r ≡ leZ (amountIn (minimum .value)) (amountIn (maximum .value)) ⌝ }
 {
-    let high = c5.value;
-    let low = c6.value;
+    let high = maximum.value;
+    let low = minimum.value;
     amount_in(low) <= amount_in(high)
 }
 
 // 6. LB: SI leaves both limits and the reason blank; NO has a reason and at least one limit; minimum <= maximum if both.
-fn limited(c5: Cell, c6: Cell, c7: Cell, c9: Cell) -> bool
-    ensures { λ r. ⌜ r ≡ limits (c5 .value) (c6 .value) (c7 .value) (c9 .value) ⌝ }
+fn limited(maximum: Cell, minimum: Cell, cause: Cell, ended: Cell) -> bool
+    ensures { λ r. ⌜ r ≡ limits (maximum .value) (minimum .value) (cause .value) (ended .value) ⌝ }
 {
-    let high = filled(c5);
-    let low = filled(c6);
-    let reason = filled(c7);
-    if says(c9, 4) {
+    let high = filled(maximum);
+    let low = filled(minimum);
+    let reason = filled(cause);
+    if says(ended, 4) {
         return !high & !low & !reason;
     }
-    reason & (high | low) & (!(high & low) | at_most(c5, c6))
+    reason & (high | low) & (!(high & low) | at_most(maximum, minimum))
 }
 
 // 7. SR: two numbers, neither negative, or blank with SOSPENSIONE only.
-fn banded(c5: Cell, c6: Cell) -> bool
-    ensures { λ r. ⌜ r ≡ bands (c5 .value) (c6 .value) ⌝ }
+fn banded(operation: Cell, half_bands: Cell) -> bool
+    ensures { λ r. ⌜ r ≡ bands (operation .value) (half_bands .value) ⌝ }
 {
-    if filled(c6) {
-        let v = c6.value;
+    if filled(half_bands) {
+        let v = half_bands.value;
         return not_negative(v);
     }
-    says(c5, 10)
+    says(operation, 10)
 }
 
 // 9. QR: exactly one quantity filled.
-fn quantified(c6: Cell, c7: Cell) -> bool
-    ensures { λ r. ⌜ r ≡ quantifies (c6 .value) (c7 .value) ⌝ }
+fn quantified(power: Cell, extent: Cell) -> bool
+    ensures { λ r. ⌜ r ≡ quantifies (power .value) (extent .value) ⌝ }
 {
-    filled(c6) == !filled(c7)
+    filled(power) == !filled(extent)
 }
 
 // Rule 1, then one more.
-fn order_and(c3: Cell, c4: Cell, number: u8, holds: bool) -> u8
-    ensures { λ r. ⌜ r ≡ lowest (rule 1 (ordered (c3 .value) (c4 .value)) ∷ rule number holds ∷ []) ⌝ }
+fn order_and(start: Cell, end: Cell, number: u8, holds: bool) -> u8
+    ensures { λ r. ⌜ r ≡ lowest (rule 1 (ordered (start .value) (end .value)) ∷ rule number holds ∷ []) ⌝ }
 {
-    if !in_order(c3, c4) {
+    if !in_order(start, end) {
         return 1;
     }
     if !holds {
@@ -172,100 +172,120 @@ fn order_and(c3: Cell, c4: Cell, number: u8, holds: bool) -> u8
 // The lowest broken rule of each layout's values; 0 where all hold.
 
 pub fn of_market(
-    c3: Cell,
-    c4: Cell,
-    c18: Cell,
-    c19: Cell,
-    c20: Cell,
-    c21: Cell,
-    c22: Cell,
-    c23: Cell,
-    c24: Cell,
-    c25: Cell,
-    c26: Cell,
+    start: Cell,
+    end: Cell,
+    origin: Cell,
+    update: Cell,
+    line1: Cell,
+    line2: Cell,
+    line3: Cell,
+    line4: Cell,
+    line5: Cell,
+    line6: Cell,
+    listed: Cell,
     gradients: [Triple; 16],
 ) -> u8
     ensures { λ r. ⌜ r ≡ lowest (
-        rule 1 (ordered (c3 .value) (c4 .value))
-        ∷ rule 2 (updates (c18 .value) (c19 .value))
-        ∷ rule 3 (fills (c20 .value) (c21 .value) (c22 .value) (c23 .value) (c24 .value) (c25 .value))
-        ∷ rule 4 (slopes (c26 .value) gradients)
+        rule 1 (ordered (start .value) (end .value))
+        ∷ rule 2 (updates (origin .value) (update .value))
+        ∷ rule 3 (fills (line1 .value) (line2 .value) (line3 .value) (line4 .value) (line5 .value) (line6 .value))
+        ∷ rule 4 (slopes (listed .value) gradients)
         ∷ []) ⌝ }
 {
-    if !in_order(c3, c4) {
+    if !in_order(start, end) {
         return 1;
     }
-    if !updated(c18, c19) {
+    if !updated(origin, update) {
         return 2;
     }
-    if !profiled(c20, c21, c22, c23, c24, c25) {
+    if !profiled(line1, line2, line3, line4, line5, line6) {
         return 3;
     }
-    if !sloped(c26, gradients) {
+    if !sloped(listed, gradients) {
         return 4;
     }
     0
 }
 
-pub fn of_ramps(c3: Cell, c4: Cell, c5: Cell, c6: Cell) -> u8
-    ensures { λ r. ⌜ r ≡ lowest (rule 1 (ramped (c3 .value) (c4 .value) (c5 .value) (c6 .value)) ∷ []) ⌝ }
+pub fn of_ramps(start1: Cell, end1: Cell, start2: Cell, end2: Cell) -> u8
+    ensures { λ r. ⌜ r ≡ lowest (rule 1 (ramped (start1 .value) (end1 .value) (start2 .value) (end2 .value)) ∷ []) ⌝ }
 {
-    if !ramps(c3, c4, c5, c6) {
+    if !ramps(start1, end1, start2, end2) {
         return 1;
     }
     0
 }
 
-pub fn of_order(c3: Cell, c4: Cell) -> u8
-    ensures { λ r. ⌜ r ≡ lowest (rule 1 (ordered (c3 .value) (c4 .value)) ∷ []) ⌝ }
+pub fn of_order(start: Cell, end: Cell) -> u8
+    ensures { λ r. ⌜ r ≡ lowest (rule 1 (ordered (start .value) (end .value)) ∷ []) ⌝ }
 {
-    if !in_order(c3, c4) {
+    if !in_order(start, end) {
         return 1;
     }
     0
 }
 
-pub fn of_exclusion(c3: Cell, c4: Cell, c5: Cell, c7: Cell) -> u8
-    ensures { λ r. ⌜ r ≡ lowest (rule 1 (ordered (c3 .value) (c4 .value)) ∷ rule 5 (excludes (c5 .value) (c7 .value)) ∷ []) ⌝ }
+pub fn of_exclusion(start: Cell, end: Cell, reason: Cell, again: Cell) -> u8
+    ensures { λ r. ⌜ r ≡ lowest (rule 1 (ordered (start .value) (end .value)) ∷ rule 5 (excludes (reason .value) (again .value)) ∷ []) ⌝ }
 {
-    order_and(c3, c4, 5, excluded(c5, c7))
+    order_and(start, end, 5, excluded(reason, again))
 }
 
-pub fn of_limitation(c3: Cell, c4: Cell, c5: Cell, c6: Cell, c7: Cell, c9: Cell) -> u8
-    ensures { λ r. ⌜ r ≡ lowest (rule 1 (ordered (c3 .value) (c4 .value)) ∷ rule 6 (limits (c5 .value) (c6 .value) (c7 .value) (c9 .value)) ∷ []) ⌝ }
+pub fn of_limitation(
+    start: Cell,
+    end: Cell,
+    maximum: Cell,
+    minimum: Cell,
+    reason: Cell,
+    ended: Cell,
+) -> u8
+    ensures { λ r. ⌜ r ≡ lowest (rule 1 (ordered (start .value) (end .value)) ∷ rule 6 (limits (maximum .value) (minimum .value) (reason .value) (ended .value)) ∷ []) ⌝ }
 {
-    order_and(c3, c4, 6, limited(c5, c6, c7, c9))
+    order_and(start, end, 6, limited(maximum, minimum, reason, ended))
 }
 
-pub fn of_secondary(c3: Cell, c4: Cell, c5: Cell, c6: Cell) -> u8
-    ensures { λ r. ⌜ r ≡ lowest (rule 1 (ordered (c3 .value) (c4 .value)) ∷ rule 7 (bands (c5 .value) (c6 .value)) ∷ []) ⌝ }
+pub fn of_secondary(start: Cell, end: Cell, operation: Cell, half_bands: Cell) -> u8
+    ensures { λ r. ⌜ r ≡ lowest (rule 1 (ordered (start .value) (end .value)) ∷ rule 7 (bands (operation .value) (half_bands .value)) ∷ []) ⌝ }
 {
-    order_and(c3, c4, 7, banded(c5, c6))
+    order_and(start, end, 7, banded(operation, half_bands))
 }
 
 pub fn of_volt_var(
-    c3: Cell,
-    c4: Cell,
-    c5: Cell,
-    c6: Cell,
-    c7: Cell,
-    c8: Cell,
-    c9: Cell,
-    c10: Cell,
-    c11: Cell,
+    start: Cell,
+    end: Cell,
+    state: Cell,
+    mode: Cell,
+    regulation: Cell,
+    voltage: Cell,
+    regulator: Cell,
+    change: Cell,
+    reactive: Cell,
 ) -> u8
     ensures { λ r. ⌜ r ≡ lowest (
-        rule 1 (ordered (c3 .value) (c4 .value))
-        ∷ rule 8 (isRow (lineIn (c5 .value) (c6 .value) (c7 .value) (c8 .value) (c9 .value) (c10 .value) (c11 .value)))
+        rule 1 (ordered (start .value) (end .value))
+        ∷ rule 8 (isRow (lineIn (state .value) (mode .value) (regulation .value) (voltage .value) (regulator .value) (change .value) (reactive .value)))
         ∷ []) ⌝ }
 {
-    order_and(c3, c4, 8, voltvar::in_table(c5, c6, c7, c8, c9, c10, c11))
+    order_and(
+        start,
+        end,
+        8,
+        voltvar::in_table(
+            state,
+            mode,
+            regulation,
+            voltage,
+            regulator,
+            change,
+            reactive,
+        ),
+    )
 }
 
-pub fn of_reserve(c3: Cell, c4: Cell, c6: Cell, c7: Cell) -> u8
-    ensures { λ r. ⌜ r ≡ lowest (rule 1 (ordered (c3 .value) (c4 .value)) ∷ rule 9 (quantifies (c6 .value) (c7 .value)) ∷ []) ⌝ }
+pub fn of_reserve(start: Cell, end: Cell, power: Cell, extent: Cell) -> u8
+    ensures { λ r. ⌜ r ≡ lowest (rule 1 (ordered (start .value) (end .value)) ∷ rule 9 (quantifies (power .value) (extent .value)) ∷ []) ⌝ }
 {
-    order_and(c3, c4, 9, quantified(c6, c7))
+    order_and(start, end, 9, quantified(power, extent))
 }
 
 // The lowest broken rule of a layout's values; 0 where all hold.

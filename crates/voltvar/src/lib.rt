@@ -90,17 +90,25 @@ fn form_in(c: Cell) -> u8
 }
 
 // The line of the fields 5 to 11.
-fn line_of(c5: Cell, c6: Cell, c7: Cell, c8: Cell, c9: Cell, c10: Cell, c11: Cell) -> Line
-    ensures { λ r. ⌜ r ≡ lineIn (c5 .value) (c6 .value) (c7 .value) (c8 .value) (c9 .value) (c10 .value) (c11 .value) ⌝ }
+fn line_of(
+    state: Cell,
+    mode: Cell,
+    regulation: Cell,
+    voltage: Cell,
+    regulator: Cell,
+    change: Cell,
+    reactive: Cell,
+) -> Line
+    ensures { λ r. ⌜ r ≡ lineIn (state .value) (mode .value) (regulation .value) (voltage .value) (regulator .value) (change .value) (reactive .value) ⌝ }
 {
     row_of(
-        word_in(c5),
-        word_in(c6),
-        word_in(c7),
-        form_in(c8),
-        form_in(c9),
-        form_in(c10),
-        form_in(c11),
+        word_in(state),
+        word_in(mode),
+        word_in(regulation),
+        form_in(voltage),
+        form_in(regulator),
+        form_in(change),
+        form_in(reactive),
     )
 }
 
@@ -122,10 +130,26 @@ fn fits(l: Line, row: Line) -> bool
         & takes(row.reactive, l.reactive)
 }
 
-pub fn in_table(c5: Cell, c6: Cell, c7: Cell, c8: Cell, c9: Cell, c10: Cell, c11: Cell) -> bool
-    ensures { λ r. ⌜ r ≡ isRow (lineIn (c5 .value) (c6 .value) (c7 .value) (c8 .value) (c9 .value) (c10 .value) (c11 .value)) ⌝ }
+pub fn in_table(
+    state: Cell,
+    mode: Cell,
+    regulation: Cell,
+    voltage: Cell,
+    regulator: Cell,
+    change: Cell,
+    reactive: Cell,
+) -> bool
+    ensures { λ r. ⌜ r ≡ isRow (lineIn (state .value) (mode .value) (regulation .value) (voltage .value) (regulator .value) (change .value) (reactive .value)) ⌝ }
 {
-    let l = line_of(c5, c6, c7, c8, c9, c10, c11);
+    let l = line_of(
+        state,
+        mode,
+        regulation,
+        voltage,
+        regulator,
+        change,
+        reactive,
+    );
     let mut k = 0;
     while k < 11 {
         if fits(l, table_row(k)) {

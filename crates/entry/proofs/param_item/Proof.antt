@@ -72,10 +72,11 @@ returns-2 : tie.Need-returns-2
 returns-2 c =
     let trimmed = c .before .before .before in
     let left = trimmed .before .before in
-    let z = start (left .before) in
-    (refl,
-    a-value _ _ _ _ (left .before .first .ensures) (left .if1 .left) _ _ _ _ _ _ (z .pre .2) (z .pre .3) (trimmed .trim .ensures)
-    (c .before .before .second-of .ensures) (c .before .first-of .ensures) (c .trim-span .ensures))
+    let z = start (left .before) in (
+      refl,
+      a-value _ _ _ _ (left .before .first .ensures) (left .if1 .left) _ _ _ _ _ _ (z .pre .2) (z .pre .3) (trimmed .trim .ensures)
+          (c .before .before .second-of .ensures) (c .before .first-of .ensures) (c .trim-span .ensures),
+    )
 
 pub param-item-spec : {M : Type 1} → statement M
 param-item-spec =
