@@ -49,7 +49,7 @@ module _ (sep : ℕ) (s : List ℕ) (at e : ℕ) (inside : at ≤ length s) (ee 
   part-ends : e ≤ length s
   part-ends = omega (arith, upto-length (is sep) (drop at s), length-drop at s)
 
-  part-is : upto (is sep) (drop at s) ≡ part at e s
+  pub part-is : upto (is sep) (drop at s) ≡ part at e s
   part-is =
       let h : firstOf sep (drop at s) ≡ e - at = omega arith in
       upto-take (is sep) (drop at s) ∙ ap (λ (k : ℕ). take k (drop at s)) h

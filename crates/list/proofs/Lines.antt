@@ -1,8 +1,8 @@
 -- The laws of `Cuts.antt` at the lists of numbers and of triples: what the answer is at each way out of a loop.
 -- Assumes nothing.
 use Prim.Native.Nat.{ℕ, zero, suc, _+_, _-_, _≤_, _<_}
-use Rattle.list.proofs.Cuts.{Sofar, read-count, all-read, all-room}
-use Rattle.list.specs.Forms.{numberIn, numbersIn, numbersOf, listOf, listed, tripleOf, oneOf, oneIn, tripleIn, noTriple, gradientsOf, readOf, gradientsIn}
+use Rattle.list.proofs.Cuts.{part-is, Sofar, read-count, all-read, all-room}
+use Rattle.list.specs.Forms.{valueIn, numberIn, numbersIn, numbersOf, listOf, listed, tripleOf, oneOf, oneIn, tripleIn, noTriple, gradientsOf, readOf, gradientsIn}
 use Rattle.list.specs.Lists.{someOf}
 use Rattle.list.specs.declared.Listed.{Listed}
 use Rattle.list.specs.declared.Listed.the-variants.{Are, Bad}
@@ -10,6 +10,9 @@ use Rattle.list.specs.declared.Numbers.{Numbers}
 use Rattle.list.specs.declared.One.{One}
 use Rattle.list.specs.declared.One.the-variants.{It, No}
 use Rattle.list.specs.declared.Triple.{Triple}
+use Rattle.number.proofs.Parts.{part-told, part-none}
+use Rattle.number.specs.Parts.{partNumber}
+use Rattle.number.specs.declared.NumberAt.the-variants.{Is as IsAt, Bad as BadAt}
 use Rattle.text.specs.Bytes.{part, firstOf, trim}
 use lib.IntN.{ℤ, pos}
 use lib.ListN.{length, getD, take, drop, set, replicate, length-take}
@@ -25,6 +28,16 @@ use native.Mathlib.Omega.{arith}
 pub no-numbers : (sep least most : ℕ) (s : List ℕ) → someOf numberIn sep least most s ≡ none → Bad ≡ numbersIn sep least most s
 unfolding numbersIn
 no-numbers sep least most s e = ap listed (sym e)
+
+-- a part that `number::read_part` refused, and one that it read: where it ends, and what it holds
+module _ (sep : ℕ) (s : List ℕ) (at : ℕ) (inside : at ≤ length s) where
+  pub part-bad : BadAt ≡ partNumber sep s at → numberIn (trim (part at (at + firstOf sep (drop at s)) s)) ≡ none
+  part-bad q = rw (← part-is sep s at (at + firstOf sep (drop at s)) inside refl) (ap valueIn (part-none sep s at q))
+
+  pub part-read : (v : ℤ) (e : ℕ) → IsAt v e ≡ partNumber sep s at → (e ≡ at + firstOf sep (drop at s)) × (numberIn (trim (part at e s)) ≡ some v)
+  part-read v e q =
+      let t = part-told sep s at v e q in
+      (t .0, rw (← part-is sep s at e inside (t .0)) (ap valueIn (t .1)))
 
 -- zeros past a list change none of its places
 zeros-at : {A : Type 0} (z : A) (l : List A) (k i : ℕ) → getD (l ++ replicate k z) i z ≡ getD l i z

@@ -1,25 +1,16 @@
 // Up to four numbers between separators.
 use crate::Listed;
 use crate::Numbers;
-use number::Number;
+use number::NumberAt;
 use text::put;
-use text::scan;
 ghost use Prim.Native.Nat.{_+_, _≤_, _<_};
 ghost use Rattle.list.specs.Forms.{listOf, numbersIn, numbersText, profileOf, bandsOf};
-ghost use Rattle.number.specs.Number.{numberOf};
-ghost use Rattle.text.specs.Bytes.{trim};
 ghost use Rattle.text.specs.Puts.{limit};
 ghost use lib.IntN.{pos};
 ghost use lib.ListN.{length, getD};
 ghost use lib.Seq.{sets};
 ghost use mathlib.Core.List.{[], _∷_};
 ghost use mathlib.Core.Path.{_≡_};
-
-fn part_number(s: &[u8]) -> Number
-    ensures { λ r. ⌜ r ≡ numberOf (trim (now (s .entry))) ⌝ }
-{
-    number::read(scan::trim(s))
-}
 
 // The first count of four values, as a list.
 fn are(count: usize, values: [i32; 4]) -> Listed
@@ -44,8 +35,7 @@ pub fn read(s: &[u8], sep: u8, least: usize, most: usize) -> Listed
     let mut n = 0;
     let mut at = 0;
     while n < most {
-        let e = crate::part_end(s, at, sep);
-        let Number::Is(v) = part_number(&s[at..e]) else {
+        let NumberAt::Is(v, e) = number::read_part(s, at, sep) else {
             return Listed::Bad;
         };
         values[n] = v;

@@ -2,7 +2,7 @@
 use Prim.Native.Nat.{ℕ, min, _≤_, _<_}
 use Rattle.number.proofs.Laws.{unsigned-at}
 use Rattle.number.specs.Number.{fractionOf, joined, unsignedOf}
-use Rattle.text.proofs.Cuts.{upto-take, upto-length, upto-all, skip-length}
+use Rattle.text.proofs.Cuts.{upto-take, upto-length, upto-all}
 use Rattle.text.proofs.Fronts.{run-front, run-open, run-line, run-more}
 use Rattle.text.proofs.Numerals.{refused-empty, refused-long, refused-other, taken, below, first-past}
 use Rattle.text.proofs.Tests.{by-le, by-eq, by-test, or-parts}
@@ -65,7 +65,7 @@ module _ (s : List ℕ) where
           let seven : w .count ≡ 7 → ⊥ = eqb-false _ _ (o .1) in
           (omega (arith, count-is), omega (arith, count-is))
 
-      run-is : w .count ≡ runOf isDigit s
+      pub run-is : w .count ≡ runOf isDigit s
       run-is = omega (arith, count-is, some-digits)
 
       pub count-short : w .count ≤ length s
@@ -74,6 +74,15 @@ module _ (s : List ℕ) where
       pub lead-other : w .count < length s → (getD s (w .count) 0 ≡ 46 → ⊥) → Not ≡ unsignedOf s
       lead-other h n = refused (refused-other 6 (upto (is 46) s) (run-more isDigit 46 refl (w .count) s run-is h n))
 
+      whole-read : Are (w .value) ≡ digitsOf 6 (take (w .count) s)
+      whole-read =
+          let n = length-take-le (w .count) s count-short in
+          let v : w .value ≡ numberIn (take (w .count) s) = ap (λ (x : Led). x .value) led ∙ ap (λ (k : ℕ). numberIn (take k s)) (sym count-is) in
+          ap Are v ∙ taken 6 (take (w .count) s) (omega (arith, n, some-digits)) (omega (arith, n, some-digits)) (run-front isDigit (w .count) s run-is)
+
+      pub whole-below : w .value < 1000000
+      whole-below = below 6 (take (w .count) s) (w .value) (sym whole-read)
+
       -- nothing follows them, or a point
       module _ (point : w .count < length s → getD s (w .count) 0 ≡ 46) where
         at-point : w .count ≡ firstOf 46 s
@@ -81,15 +90,6 @@ module _ (s : List ℕ) where
             by-le (length s) (w .count)
             (λ h. omega (arith, ap length (upto-all (is 46) s (run-open isDigit 46 refl s (omega (arith, run-is, run-short)))), run-is, run-short))
             (λ h. omega (arith, ap length (run-line isDigit 46 refl (w .count) s run-is h (point h) .0), length-take-le (w .count) s count-short))
-
-        whole-read : Are (w .value) ≡ digitsOf 6 (take (w .count) s)
-        whole-read =
-            let n = length-take-le (w .count) s count-short in
-            let v : w .value ≡ numberIn (take (w .count) s) = ap (λ (x : Led). x .value) led ∙ ap (λ (k : ℕ). numberIn (take k s)) (sym count-is) in
-            ap Are v ∙ taken 6 (take (w .count) s) (omega (arith, n, some-digits)) (omega (arith, n, some-digits)) (run-front isDigit (w .count) s run-is)
-
-        pub whole-below : w .value < 1000000
-        whole-below = below 6 (take (w .count) s) (w .value) (sym whole-read)
 
         pub lead-taken : (f : Digits) → f ≡ fractionOf (drop (w .count) s) → joined (Are (w .value)) f ≡ unsignedOf s
         lead-taken f e = unsigned-at s (w .count) (Are (w .value)) f at-point whole-read e

@@ -1,5 +1,7 @@
 pub mod Laws
 pub mod Leads
+pub mod Bodies
+pub mod Parts
 pub mod Shorts
 pub mod Own
 pub mod Signs

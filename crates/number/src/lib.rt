@@ -2,15 +2,19 @@
 use text::digits;
 use text::digits::Digits;
 use text::put;
+use text::scan;
 ghost use Prim.Native.Nat.{_+_, _-_, _^_, _≤_, _<_};
-ghost use Rattle.number.specs.Number.{fractionOf, unsignedOf, numberOf, fractionText, decimalsText, signText, numberText, beforeAt, zeroFits, areShort};
-ghost use Rattle.text.specs.Bytes.{isDigit};
+ghost use Rattle.number.specs.Number.{fractionOf, joined, unsignedOf, numberOf, fractionText, decimalsText, signText, numberText, beforeAt, zeroFits, areShort};
+ghost use Rattle.number.specs.Parts.{ended, endOf, partNumber, isOfNumber, bodyOf, withSign};
+ghost use Rattle.text.specs.Bytes.{all, is, upto, isDigit, isBlank, runOf};
 ghost use Rattle.text.specs.Puts.{limit};
+ghost use Rattle.text.specs.declared.digits.Digits.the-variants.{Are};
 ghost use lib.Dec.{eqb};
 ghost use lib.IntN.{pos, negℤ, natAbs};
 ghost use lib.ListN.{length, getD, drop};
 ghost use lib.Seq.{sets};
-ghost use mathlib.Core.Bool.{cond};
+ghost use mathlib.Core.Bool.{false, cond};
+ghost use mathlib.Core.List.{_∷_};
 ghost use mathlib.Core.Path.{_≡_};
 
 // A number in thousandths, or that it is none.
@@ -109,6 +113,105 @@ pub fn read(s: &[u8]) -> Number
         return Number::Bad;
     };
     Number::Is(signed(false, n))
+}
+
+// A number of a list, with where its part ends.
+pub enum NumberAt {
+    Is(i32, usize),
+    Bad,
+}
+
+// Whether a byte may stand in a part that is a number: no such byte may be passed over as what ends one.
+fn is_of_number(b: u8) -> bool
+    ensures { λ r. ⌜ r ≡ isOfNumber b ⌝ }
+{
+    digits::is_digit(b) | (b == b'.') | (b == b'-') | (b == b' ')
+}
+
+// Where the blanks at a place end: there is seldom one.
+fn past_blanks(s: &[u8], at: usize) -> usize
+    requires { ⌜ at ≤ length (now s) ⌝ }
+    ensures { λ r. ⌜ r ≡ at + runOf isBlank (drop at (now (s .entry))) ⌝ }
+{
+    let mut i = at;
+    while i < s.len() {
+        if s[i] != b' ' {
+            return i;
+        }
+        i += 1;
+    }
+    i
+}
+
+// What must follow the number v: blanks, and then the separator or the end.
+fn close(s: &[u8], at: usize, sep: u8, v: i32) -> NumberAt
+    requires { ⌜ (at ≤ length (now s)) × (isOfNumber sep ≡ false) ⌝ }
+    ensures { λ r. ⌜ r ≡ cond (all isBlank (upto (is sep) (drop at (now (s .entry))))) (NumberAt.Is v (endOf sep (now (s .entry)) at)) NumberAt.Bad ⌝ }
+{
+    let e = past_blanks(s, at);
+    if e < s.len() {
+        if s[e] != sep {
+            return NumberAt::Bad;
+        }
+    }
+    NumberAt::Is(v, e)
+}
+
+// The decimals from a place on, behind a whole number and its point.
+fn decimals_part(s: &[u8], at: usize, sep: u8, minus: bool, whole: u64) -> NumberAt
+    requires { ⌜ (at ≤ length (now s)) × (isOfNumber sep ≡ false) × (whole < 1000000) ⌝ }
+    ensures { λ r. ⌜ r ≡ ended (withSign minus (joined (Are whole) (fractionOf (46 ∷ bodyOf sep (drop at (now (s .entry))))))) (endOf sep (now (s .entry)) at) ⌝ }
+{
+    let f = digits::lead(&s[at..], 4);
+    if (f.count == 0) | (f.count == 4) {
+        return NumberAt::Bad;
+    }
+    let n = whole * 1000 + f.value * scale(f.count);
+    close(s, at + f.count, sep, signed(minus, n))
+}
+
+// A number without its sign from a place on.
+fn unsigned_part(s: &[u8], at: usize, sep: u8, minus: bool) -> NumberAt
+    requires { ⌜ (at ≤ length (now s)) × (isOfNumber sep ≡ false) ⌝ }
+    ensures { λ r. ⌜ r ≡ ended (withSign minus (unsignedOf (bodyOf sep (drop at (now (s .entry)))))) (endOf sep (now (s .entry)) at) ⌝ }
+{
+    let whole = digits::lead(&s[at..], 7);
+    if (whole.count == 0) | (whole.count == 7) {
+        return NumberAt::Bad;
+    }
+    let p = at + whole.count;
+    if is_at(s, p, b'.') {
+        return decimals_part(s, p + 1, sep, minus, whole.value);
+    }
+    close(s, p, sep, signed(minus, whole.value * 1000))
+}
+
+// A part that is cut before it is read, as for a separator that is itself of a number.
+fn cut_part(s: &[u8], at: usize, sep: u8) -> NumberAt
+    requires { ⌜ at ≤ length (now s) ⌝ }
+    ensures { λ r. ⌜ r ≡ partNumber sep (now (s .entry)) at ⌝ }
+{
+    let rest = &s[at..];
+    let n = scan::first(rest, sep);
+    match read(scan::trim(&rest[..n])) {
+        Number::Is(v) => NumberAt::Is(v, at + n),
+        Number::Bad => NumberAt::Bad,
+    }
+}
+
+// The number of the part that starts at a place, read where it stands.
+pub fn read_part(s: &[u8], at: usize, sep: u8) -> NumberAt
+    requires { ⌜ at ≤ length (now s) ⌝ }
+    ensures { λ r. ⌜ r ≡ partNumber sep (now (s .entry)) at ⌝ }
+{
+    if is_of_number(sep) {
+        return cut_part(s, at, sep);
+    }
+    let from = past_blanks(s, at);
+    if is_at(s, from, b'-') {
+        return unsigned_part(s, from + 1, sep, true);
+    }
+    unsigned_part(s, from, sep, false)
 }
 
 fn magnitude(x: i32) -> u64

@@ -64,7 +64,7 @@ joined-at c = c .before .before .before .before .before
 whole : (c : tie.After-struct-known3) → w-of (joined-at c) .value < 1000000
 whole c =
     let j = joined-at c in
-    whole-below (s-of j) (w-of j) (j .before .before .before .before .lead .ensures) (j .before .if1 .left) (point-at j)
+    whole-below (s-of j) (w-of j) (j .before .before .before .before .lead .ensures) (j .before .if1 .left)
 
 decimals : (c : tie.After-struct-known3) → Are (c .before .before .f .given .0 .0) ≡ fractionOf (drop (w-of (joined-at c) .count) (s-of (joined-at c)))
 decimals c = sym (c .before .before .f .given .1) ∙ c .before .before .before .before .read-fraction .ensures

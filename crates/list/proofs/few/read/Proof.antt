@@ -1,17 +1,17 @@
 -- The room holds what is read up to `at`, and what is left is the list of the rest.
-use Prim.Native.Nat.{ℕ, _-_}
+use Prim.Native.Nat.{ℕ, _+_, _-_}
 use Rattle.list.proofs.Cuts.{Sofar, begin, too-many, ends, bad-part, next-part, too-few}
-use Rattle.list.proofs.Lines.{no-numbers, are-numbers}
+use Rattle.list.proofs.Lines.{part-bad, part-read, no-numbers, are-numbers}
 use Rattle.list.proofs.few.read.Statement.{statement}
 use Rattle.list.proofs.few.read.Tie as tie
-use Rattle.list.specs.Forms.{valueIn, numberIn}
-use Rattle.text.specs.Bytes.{part, trim}
+use Rattle.list.specs.Forms.{numberIn}
+use Rattle.text.specs.Bytes.{part, firstOf, trim}
 use borrow.Author.Needs.{needs}
 use lib.IntN.{ℤ, pos}
-use lib.ListN.{length-set, length}
+use lib.ListN.{length-set, length, drop}
 use mathlib.Core.List.{List}
 use mathlib.Core.Option.{some}
-use mathlib.Core.Path.{_≡_, refl, sym, ap, _∙_}
+use mathlib.Core.Path.{_≡_, refl, sym, _∙_}
 use mir.Syntax.{w32}
 use mir.Val.{toZ, ofZ}
 use mir.ValLaws.{toZ-ofZ}
@@ -26,22 +26,8 @@ abbrev μ-loop : tie.MeasureT-loop
 loop-holds : tie.Need-loop-holds Inv-loop μ-loop
 loop-holds c = (refl, begin numberIn (c .before .args .sep) (pos 0) (c .before .args .s .now) 4)
 
-part-end-requires : tie.Need-part-end-requires Inv-loop μ-loop
-part-end-requires c κs = search needs
-
-sub-part-number : tie.Need-sub-part-number Inv-loop μ-loop
-sub-part-number c = search needs
-
-part-part-number-start : tie.Need-part-part-number-start Inv-loop μ-loop
-part-part-number-start c = search needs
-
-part-part-number-end : tie.Need-part-part-number-end Inv-loop μ-loop
-part-part-number-end c =
-    let l = c .before .before in
-    ends numberIn _ _ _ _ _ _ _ (l .loop .inv .1) (c .part-end .ensures)
-
-part-number-requires : tie.Need-part-number-requires Inv-loop μ-loop
-part-number-requires c κs = search needs
+read-part-requires : tie.Need-read-part-requires Inv-loop μ-loop
+read-part-requires c κs = search needs
 
 enum-known-v : tie.Need-enum-known-v Inv-loop μ-loop
 enum-known-v c = search needs
@@ -49,26 +35,40 @@ enum-known-v c = search needs
 enum-told : tie.Need-enum-told Inv-loop μ-loop
 enum-told c = search needs
 
+-- the turn in which a part is read
+abbrev turn : tie.After-read-part Inv-loop μ-loop → tie.At-loop Inv-loop μ-loop
+turn p = p .before .before
+
 returns : tie.Need-returns Inv-loop μ-loop
 returns c =
-    let p = c .before .before .before .before in
-    let l = p .before .before in
-    no-numbers _ _ _ _ (bad-part numberIn _ _ _ _ _ _ _ (l .loop .inv .1) (p .part-end .ensures) _ _
-    (ap valueIn (sym (c .before .before .part-number .ensures) ∙ c .enum-told .given .1)))
+    let p = c .before .before in
+    let l = turn p in
+    no-numbers _ _ _ _ (bad-part numberIn _ _ _ _ _ _ _ (l .loop .inv .1) refl _ _
+    (part-bad _ _ _ (l .loop .inv .1 .inside) (sym (c .enum-told .given .1) ∙ p .read-part .ensures)))
 
--- the number as it is stored, and what it was read from
+-- the number as it is stored, where its part ends, and the part
+abbrev read-at : tie.After-known-told Inv-loop μ-loop → tie.After-read-part Inv-loop μ-loop
+read-at k = k .before .before .before
+
+abbrev turn-of : tie.After-known-told Inv-loop μ-loop → tie.At-loop Inv-loop μ-loop
+turn-of k = turn (read-at k)
+
 abbrev v-of : tie.After-known-told Inv-loop μ-loop → ℤ
-v-of c = toZ w32 (ofZ w32 (c .before .v .given .0 .0))
+v-of k = toZ w32 (ofZ w32 (k .before .v .given .0 .0))
 
-abbrev part-of : tie.After-known-told Inv-loop μ-loop → List ℕ
-part-of c =
-    let p = c .before .before .before .before .before in
-    part (p .before .before .loop .at) (p .part-end .result) (p .before .before .before .before .args .s .now)
+abbrev e-of : tie.After-known-told Inv-loop μ-loop → ℕ
+e-of k = k .before .v .given .0 .1 .0
 
-was-read : (c : tie.After-known-told Inv-loop μ-loop) → numberIn (trim (part-of c)) ≡ some (v-of c)
-was-read c =
-    ap valueIn (sym (c .before .before .before .part-number .ensures) ∙ c .before .v .given .1)
-    ∙ ap some (sym (toZ-ofZ w32 (c .before .v .given .0 .0) (search needs)))
+abbrev s-of : tie.At-loop Inv-loop μ-loop → List ℕ
+s-of l = l .before .before .args .s .now
+
+was-read : (k : tie.After-known-told Inv-loop μ-loop)
+    → (e-of k ≡ turn-of k .loop .at + firstOf (turn-of k .before .before .args .sep) (drop (turn-of k .loop .at) (s-of (turn-of k))))
+    × (numberIn (trim (part (turn-of k .loop .at) (e-of k) (s-of (turn-of k)))) ≡ some (v-of k))
+was-read k =
+    let l = turn-of k in
+    rw (toZ-ofZ w32 (k .before .v .given .0 .0) (search needs))
+    (part-read _ (s-of l) (l .loop .at) (l .loop .inv .1 .inside) _ _ (sym (k .before .v .given .1) ∙ read-at k .read-part .ensures))
 
 mul-values : tie.Need-mul-values Inv-loop μ-loop
 mul-values c = search needs
@@ -82,9 +82,9 @@ add-n c = search needs
 returns-2 : tie.Need-returns-2 Inv-loop μ-loop
 returns-2 c =
     let k = c .before .before in
-    let p = k .before .before .before .before .before in
-    let l = p .before .before in
-    no-numbers _ _ _ _ (too-few numberIn _ _ _ _ _ _ _ (l .loop .inv .1) (p .part-end .ensures) (v-of k) (omega arith) (was-read k) (c .before .if1 .taken) _ _ (c .if2 .taken))
+    let l = turn-of k in
+    no-numbers _ _ _ _ (too-few numberIn _ _ _ _ _ _ _ (l .loop .inv .1) (was-read k .0) (v-of k) (omega arith) (was-read k .1)
+    (c .before .if1 .taken) _ _ (c .if2 .taken))
 
 are-requires : tie.Need-are-requires Inv-loop μ-loop
 are-requires c κs = search needs
@@ -92,15 +92,15 @@ are-requires c κs = search needs
 returns-3 : tie.Need-returns-3 Inv-loop μ-loop
 returns-3 c =
     let k = c .before .before .before in
-    let p = k .before .before .before .before .before in
-    let l = p .before .before in
+    let l = turn-of k in
     c .are .ensures
-    ∙ are-numbers _ _ _ _ _ _ _ _ (v-of k) (l .loop .inv .0) (l .loop .inv .1) (p .part-end .ensures) (was-read k) (c .before .before .if1 .taken) (omega arith) (c .before .if2 .left) (omega arith)
+    ∙ are-numbers _ _ _ _ _ _ _ _ (v-of k) (l .loop .inv .0) (l .loop .inv .1) (was-read k .0) (was-read k .1)
+    (c .before .before .if1 .taken) (omega arith) (c .before .if2 .left) (omega arith)
 
 add-at : tie.Need-add-at Inv-loop μ-loop
 add-at c =
-    let p = c .before .before .before .before .before .before in
-    omega (arith, ends numberIn _ _ (p .before .before .before .before .args .s .now) (p .before .before .loop .at) (p .before .before .loop .n) (p .before .before .loop .values) (p .part-end .result) (p .before .before .loop .inv .1) (p .part-end .ensures))
+    let l = turn-of (c .before) in
+    omega (arith, ends numberIn _ _ (s-of l) (l .loop .at) (l .loop .n) (l .loop .values) (e-of (c .before)) (l .loop .inv .1) (was-read (c .before) .0))
 
 loop-less : tie.Need-loop-less Inv-loop μ-loop
 loop-less c = search needs
@@ -108,10 +108,9 @@ loop-less c = search needs
 loop-again : tie.Need-loop-again Inv-loop μ-loop
 loop-again c =
     let k = c .before in
-    let p = k .before .before .before .before .before in
-    let l = p .before .before in (
+    let l = turn-of k in (
       length-set (l .loop .values) (l .loop .n) (v-of k) ∙ l .loop .inv .0,
-      next-part numberIn _ _ _ _ _ _ _ (l .loop .inv .1) (p .part-end .ensures) (v-of k) (omega arith) (was-read k) (c .if1 .left),
+      next-part numberIn _ _ _ _ _ _ _ (l .loop .inv .1) (was-read k .0) (v-of k) (omega arith) (was-read k .1) (c .if1 .left),
     )
 
 returns-4 : tie.Need-returns-4 Inv-loop μ-loop
@@ -126,11 +125,7 @@ read-spec =
     Inv-loop
     μ-loop
     loop-holds
-    part-end-requires
-    sub-part-number
-    part-part-number-start
-    part-part-number-end
-    part-number-requires
+    read-part-requires
     enum-known-v
     enum-told
     returns
