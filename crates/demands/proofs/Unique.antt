@@ -103,6 +103,7 @@ within =
       word-put = λ κs a. equations _ _ _;
       date-put = λ κs a. equations _ _ _;
       number-are-short = (λ κs a. tt, λ κs a. equation _);
+      number-read-part = λ κs a. equation _;
       number-put = λ κs a. equations _ _ _;
       name-unit-run = (λ κs a. tt, λ κs a. equation _);
       name-identifier-put = λ κs a. equations _ _ _;

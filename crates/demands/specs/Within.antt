@@ -66,6 +66,7 @@ pub record Within : Type 0 where
   pub date-put : OneOutput date.put.ended (λ κs e. e .0 .now) date.put.Reads.Learnt
   -- number
   pub number-are-short : Answers number.are_short.ended number.are_short.Reads.Asked number.are_short.Reads.Learnt
+  pub number-read-part : OneResult number.read_part.ended number.read_part.Reads.Learnt
   pub number-put : OneOutput number.put.ended (λ κs e. e .0 .now) number.put.Reads.Learnt
   -- name
   pub name-unit-run : Answers name.unit.run.ended name.unit.run.Reads.Asked name.unit.run.Reads.Learnt
