@@ -37,6 +37,16 @@ unfolding after
 after-short [] = omega arith
 after-short (b ∷ s) = omega arith
 
+-- a text that is not empty, after a space; and none
+pub put-said : (s : List ℕ) → 1 ≤ length s → (l : List ℕ) (at a : ℕ) (l₁ : List ℕ) (b : ℕ) (m : List ℕ)
+    → (a ≡ at + 1) × (l₁ ≡ sets l at (32 ∷ [])) → Was l₁ a s b m → Was l at (after s) b m
+put-said s h l at a l₁ b m p q = same-puts (after s) (after-is s h) (then (puts-of {t = 32 ∷ []} 1 refl p) (puts {t = s} q))
+
+pub put-empty : (s : List ℕ) → length s ≡ 0 → (l : List ℕ) (at : ℕ) → Was l at (after s) at l
+unfolding after
+put-empty [] h l at = same-puts [] refl (puts-none l at)
+put-empty (b ∷ s) h l at = absurd (omega (arith, h))
+
 module _ (t : MessageType) (r : Rooms) (v : Value) (l : List ℕ) (at : ℕ) where
   pub put-none : isFilled v ≡ false → Was l at (after (valueText t r v)) at l
   unfolding after
@@ -44,27 +54,26 @@ module _ (t : MessageType) (r : Rooms) (v : Value) (l : List ℕ) (at : ℕ) whe
 
   pub put-some : Spoken t r v → isFilled v ≡ true → (a : ℕ) (l₁ : List ℕ) (b : ℕ) (m : List ℕ)
       → (a ≡ at + 1) × (l₁ ≡ sets l at (32 ∷ [])) → Was l₁ a (valueText t r v) b m → Was l at (after (valueText t r v)) b m
-  put-some s e a l₁ b m p q =
-      same-puts (after (valueText t r v)) (after-is (valueText t r v) (s .speaks e))
-      (then (puts-of {t = 32 ∷ []} 1 refl p) (puts {t = valueText t r v} q))
+  put-some s e a l₁ b m p q = put-said (valueText t r v) (s .speaks e) l at a l₁ b m p q
 
 -- ---- a line
 
-padded-length : (name : List ℕ) → length name ≤ 36 → length (padded name) ≡ 36
+pub padded-length : (name : List ℕ) → length name ≤ 36 → length (padded name) ≡ 36
 unfolding padded
 padded-length name h = omega (arith, length-append name (replicate (36 - length name) 32), length-replicate {A = ℕ} (36 - length name) 32)
 
 -- the label with its blanks, `=` (61), what stands after it, and LF (10)
-module _ (name s w : List ℕ) (short : length name ≤ 36) (same : s ≡ w) (l : List ℕ) (at : ℕ) (l₁ : List ℕ) (b : ℕ) (l₂ : List ℕ) (c : ℕ) (l₃ : List ℕ) (r : ℕ) (m : List ℕ) where
-  pub line-put : l₁ ≡ sets l at (padded name) → (b ≡ at + 36 + 1) × (l₂ ≡ sets l₁ (at + 36) (61 ∷ [])) → Was l₂ b (after s) c l₃ → (r ≡ c + 1) × (m ≡ sets l₃ c (10 ∷ []))
-      → Was l at (linesText (paramLine name w ∷ [])) r m
+module _ (name s w : List ℕ) (short : length name ≤ 36) (same : s ≡ w) (l : List ℕ) (at a : ℕ) (l₁ : List ℕ) (b : ℕ) (l₂ : List ℕ) (c : ℕ) (l₃ : List ℕ) (r : ℕ) (m : List ℕ) where
+  pub line-put : (text : List ℕ) → (a ≡ at + 36) × (l₁ ≡ sets l at text) → text ≡ padded name → (b ≡ a + 1) × (l₂ ≡ sets l₁ a (61 ∷ []))
+      → Was l₂ b (after s) c l₃ → (r ≡ c + 1) × (m ≡ sets l₃ c (10 ∷ [])) → Was l at (linesText (paramLine name w ∷ [])) r m
   unfolding linesText paramLine
-  line-put p q u z =
-      let text = padded name in
-      let eq : text ++ (61 ∷ []) ++ after s ++ (10 ∷ []) ≡ text ++ (61 ∷ after w) ++ (10 ∷ []) =
-      ap (λ (x : List ℕ). x ++ (10 ∷ [])) (append-assoc text (61 ∷ []) (after s) ∙ ap (λ (x : List ℕ). text ++ (61 ∷ after x)) same) in
-      same-puts (text ++ (61 ∷ after w) ++ (10 ∷ [])) eq
-      (then (then (then (puts-of {t = text} 36 (padded-length name short) (refl, p)) (puts-of {t = 61 ∷ []} 1 refl q)) (puts {t = after s} u)) (puts-of {t = 10 ∷ []} 1 refl z))
+  line-put text p is q u z =
+      let eq : padded name ++ (61 ∷ []) ++ after s ++ (10 ∷ []) ≡ padded name ++ (61 ∷ after w) ++ (10 ∷ []) =
+      ap (λ (x : List ℕ). x ++ (10 ∷ [])) (append-assoc (padded name) (61 ∷ []) (after s) ∙ ap (λ (x : List ℕ). padded name ++ (61 ∷ after x)) same) in
+      let label : (a ≡ at + 36) × (l₁ ≡ sets l at (padded name)) = (p .0, p .1 ∙ ap (sets l at) is) in
+      same-puts (padded name ++ (61 ∷ after w) ++ (10 ∷ [])) eq
+      (then (then (then (puts-of {t = padded name} 36 (padded-length name short) label) (puts-of {t = 61 ∷ []} 1 refl q)) (puts {t = after s} u))
+      (puts-of {t = 10 ∷ []} 1 refl z))
 
 pub label-short : (l : Layout) (k : ℕ) → 1 ≤ k → k ≤ sizeOf l → length (labelAt l k) ≤ 36
 label-short l k h j = omega (arith, good-label l k h j .short)
@@ -95,69 +104,82 @@ param-at (x ∷ ls) [] i e h = absurd (omega (arith, e))
 param-at (x ∷ ls) (s ∷ col) zero e h = refl
 param-at (x ∷ ls) (s ∷ col) (suc i) e h = param-at ls col i (omega (arith, e)) (omega arith)
 
+-- a line for each label of a layout, with the texts of a column
+abbrev pub linesWith : Layout → List (List ℕ) → List (List ℕ)
+linesWith l col = paramLines (labelsOf l) col
+
 abbrev pub linesOf : Layout → Rooms → List Cell → List (List ℕ)
-linesOf l r cells = paramLines (labelsOf l) (columnOf l r cells)
+linesOf l r cells = linesWith l (columnOf l r cells)
 
-module _ (l : Layout) (r : Rooms) (cells : List Cell) (held : Held l r cells) where
-  same-count : length (labelsOf l) ≡ length (columnOf l r cells)
-  same-count = labels-length l ∙ sym (column-length l r cells held)
+module _ (l : Layout) (col : List (List ℕ)) (full : length col ≡ sizeOf l) where
+  same-count : length (labelsOf l) ≡ length col
+  same-count = labels-length l ∙ sym full
 
-  lines-count : length (linesOf l r cells) ≡ sizeOf l
-  lines-count = param-length (labelsOf l) (columnOf l r cells) same-count ∙ labels-length l
+  lines-count : length (linesWith l col) ≡ sizeOf l
+  lines-count = param-length (labelsOf l) col same-count ∙ labels-length l
 
-  line-at : (i : ℕ) → i < sizeOf l → getD (linesOf l r cells) i [] ≡ paramLine (labelAt l (suc i)) (textAt (columnOf l r cells) (suc i))
+  line-at : (i : ℕ) → i < sizeOf l → getD (linesWith l col) i [] ≡ paramLine (labelAt l (suc i)) (textAt col (suc i))
   line-at i h =
-      param-at (labelsOf l) (columnOf l r cells) i same-count (omega (arith, labels-length l))
-      ∙ ap (λ (x : List ℕ). paramLine x (getD (columnOf l r cells) i [])) (sym (label-at l i))
+      param-at (labelsOf l) col i same-count (omega (arith, labels-length l))
+      ∙ ap (λ (x : List ℕ). paramLine x (getD col i [])) (sym (label-at l i))
 
-  pub all-lines-short : length (r .gradients) ≡ 16 → length (linesText (linesOf l r cells)) ≤ 18200
-  all-lines-short g =
-      let one : (i : ℕ) → i < length (linesOf l r cells) → length (linesText (getD (linesOf l r cells) i [] ∷ [])) ≤ 700 =
-      λ i h.
-      let j : i < sizeOf l = omega (arith, lines-count) in
-      rw (line-at i j)
-      (line-short (labelAt l (suc i)) (textAt (columnOf l r cells) (suc i)) (label-short l (suc i) (omega arith) j)
-      (field-short l r cells held g (suc i) (omega arith) j)) in
-      omega (arith, lines-short (linesOf l r cells) one, lines-count, few l)
+pub all-lines-short : (l : Layout) (r : Rooms) (cells : List Cell) → Held l r cells → length (r .gradients) ≡ 16
+    → length (linesText (linesOf l r cells)) ≤ 18200
+all-lines-short l r cells held g =
+    let full = column-length l r cells held in
+    let count = lines-count l (columnOf l r cells) full in
+    let one : (i : ℕ) → i < length (linesOf l r cells) → length (linesText (getD (linesOf l r cells) i [] ∷ [])) ≤ 700 =
+    λ i h.
+    let j : i < sizeOf l = omega (arith, count) in
+    rw (line-at l (columnOf l r cells) full i j)
+    (line-short (labelAt l (suc i)) (textAt (columnOf l r cells) (suc i)) (label-short l (suc i) (omega arith) j)
+    (field-short l r cells held g (suc i) (omega arith) j)) in
+    omega (arith, lines-short (linesOf l r cells) one, count, few l)
 
 -- ---- the loop
 
 -- the first k lines are put
-pub record Sofar (l : Layout) (r : Rooms) (cells : List Cell) (out : List ℕ) (at k p : ℕ) (m : List ℕ) : Type 0 where
+pub record Sofar (l : Layout) (col : List (List ℕ)) (out : List ℕ) (at k p : ℕ) (m : List ℕ) : Type 0 where
   pub near : k ≤ sizeOf l
-  pub done : Puts out at (linesText (take k (linesOf l r cells))) p m
+  pub done : Puts out at (linesText (take k (linesWith l col))) p m
 
-module _ (l : Layout) (r : Rooms) (cells : List Cell) (out : List ℕ) (at : ℕ) where
-  pub start : Sofar l r cells out at 0 at out
+module _ (l : Layout) (col : List (List ℕ)) (out : List ℕ) (at : ℕ) where
+  pub start : Sofar l col out at 0 at out
   unfolding linesText
   start = record { near = omega arith; done = puts-none out at }
 
-  pub same-room : (k p : ℕ) (m : List ℕ) → Sofar l r cells out at k p m → length m ≡ length out
-  same-room k p m s = ap length (s .done .bytes) ∙ length-sets out at (linesText (take k (linesOf l r cells)))
+  pub same-room : (k p : ℕ) (m : List ℕ) → Sofar l col out at k p m → length m ≡ length out
+  same-room k p m s = ap length (s .done .bytes) ∙ length-sets out at (linesText (take k (linesWith l col)))
 
-  module _ (held : Held l r cells) (k p : ℕ) (m : List ℕ) (s : Sofar l r cells out at k p m) where
-    pub place-low : length (r .gradients) ≡ 16 → p ≤ at + 18200
-    place-low g = omega (arith, s .done .place, first-lines (linesOf l r cells) k, all-lines-short l r cells held g)
+  module _ (full : length col ≡ sizeOf l) (k p : ℕ) (m : List ℕ) (s : Sofar l col out at k p m) where
+    pub place-low : (n : ℕ) → length (linesText (linesWith l col)) ≤ n → p ≤ at + n
+    place-low n h = omega (arith, s .done .place, first-lines (linesWith l col) k)
 
-    pub turn : k < sizeOf l → (q : ℕ) (m′ : List ℕ)
-        → Was m p (linesText (paramLine (labelAt l (k + 1)) (valueText (typeOf l) r (getD cells k (cell Blank) .value)) ∷ [])) q m′
-        → Sofar l r cells out at (k + 1) q m′
-    unfolding fieldOf
-    turn h q m′ w =
-        let line = paramLine (labelAt l (suc k)) (valueText (typeOf l) r (getD cells k (cell Blank) .value)) in
-        let e : getD (linesOf l r cells) k [] ≡ line =
-        line-at l r cells held k h ∙ ap (paramLine (labelAt l (suc k))) (text-at l r cells (suc k) (omega arith) h) in
-        let j : k < length (linesOf l r cells) = omega (arith, lines-count l r cells held) in
+    pub turn : k < sizeOf l → (text : List ℕ) → textAt col (suc k) ≡ text → (q : ℕ) (m′ : List ℕ)
+        → Was m p (linesText (paramLine (labelAt l (k + 1)) text ∷ [])) q m′
+        → Sofar l col out at (k + 1) q m′
+    turn h text is q m′ w =
+        let line = paramLine (labelAt l (suc k)) text in
+        let e : getD (linesWith l col) k [] ≡ line = line-at l col full k h ∙ ap (paramLine (labelAt l (suc k))) is in
+        let j : k < length (linesWith l col) = omega (arith, lines-count l col full) in
         rw add-one
         record {
           near = h;
           done =
               puts
-              (same-puts (linesText (take (suc k) (linesOf l r cells)))
-              (ap (λ (x : List ℕ). linesText (take k (linesOf l r cells)) ++ linesText (x ∷ [])) (sym e) ∙ sym (one-line-more (linesOf l r cells) k j))
+              (same-puts (linesText (take (suc k) (linesWith l col)))
+              (ap (λ (x : List ℕ). linesText (take k (linesWith l col)) ++ linesText (x ∷ [])) (sym e) ∙ sym (one-line-more (linesWith l col) k j))
               (then (s .done) (puts {t = linesText (line ∷ [])} (rw add-one at w))));
         }
 
-    pub finish : sizeOf l ≤ k → Was out at (linesText (linesOf l r cells)) p m
-    finish h =
-        same-puts (linesText (linesOf l r cells)) (ap linesText (take-all k (linesOf l r cells) (omega (arith, lines-count l r cells held)))) (s .done)
+    pub finish : sizeOf l ≤ k → Was out at (linesText (linesWith l col)) p m
+    finish h = same-puts (linesText (linesWith l col)) (ap linesText (take-all k (linesWith l col) (omega (arith, lines-count l col full)))) (s .done)
+
+-- with the texts of a record's values
+module _ (l : Layout) (r : Rooms) (cells : List Cell) (held : Held l r cells) where
+  pub full : length (columnOf l r cells) ≡ sizeOf l
+  full = column-length l r cells held
+
+  pub text-of : (k : ℕ) → k < sizeOf l → textAt (columnOf l r cells) (suc k) ≡ valueText (typeOf l) r (getD cells k (cell Blank) .value)
+  unfolding fieldOf
+  text-of k h = text-at l r cells (suc k) (omega arith) h

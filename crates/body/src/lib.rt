@@ -1,5 +1,6 @@
 // The parameter lines of a message, put into a lent buffer: what there is room for is written, and the answer is the place past it.
 use layout::Layout;
+use lines::Span;
 use list::Triple;
 use name::MessageType;
 use record::Cell;
@@ -7,6 +8,7 @@ use text::put;
 use value::Value;
 ghost use Prim.Native.Nat.{_+_, _≤_, _<_};
 ghost use Rattle.layout.specs.Layouts.{labelAt, labelsOf, sizeOf, typeOf};
+ghost use Rattle.lines.specs.Places.{Placed, columnIn};
 ghost use Rattle.text.specs.Puts.{limit};
 ghost use Rattle.value.specs.Texts.{rooms, valueText};
 ghost use Rattle.written.specs.Held.{Spoken, Held};
@@ -91,6 +93,47 @@ pub fn put_lines(
         let c = cells[k];
         let v = c.value;
         p = put_line(out, p, l, k + 1, v, unit, reason, note, gradients);
+        k += 1;
+    }
+    p
+}
+
+// The line of the field k with the text of its value, and its end.
+fn put_text_line(out: &mut [u8], at: usize, l: Layout, k: usize, text: &[u8]) -> usize
+    requires { ⌜ (at + 9000 < limit) × (1 ≤ k) × (k ≤ sizeOf l) × (length (now text) ≤ 8192) ⌝ }
+    ensures { λ r. ⌜ (r ≡ at + length (linesText (paramLine (labelAt l k) (now (text .entry)) ∷ [])))
+        × (now (out .exit) ≡ sets (now (out .entry)) at (linesText (paramLine (labelAt l k) (now (text .entry)) ∷ []))) ⌝ }
+{
+    let padded = label::put(out, at, label::of_field(l, k));
+    let equals = put::put_byte(out, padded, b'=');
+    if text.len() == 0 {
+        return put::put_byte(out, equals, b'\n');
+    }
+    let from = put::put_byte(out, equals, b' ');
+    let said = put::put_text(out, from, text);
+    put::put_byte(out, said, b'\n')
+}
+
+// The lines of all fields, in printed order, with the texts that stand at their places of a file.
+pub fn put_text_lines(
+    out: &mut [u8],
+    at: usize,
+    l: Layout,
+    file: &[u8],
+    places: [Span; 27],
+) -> usize
+    requires { ⌜ (at + 300000 < limit) × Placed (sizeOf l) (now file) places × (length (now file) ≤ 8192) ⌝ }
+    ensures { λ r. ⌜ (r ≡ at + length (linesText (paramLines (labelsOf l) (columnIn (sizeOf l) (now (file .entry)) places))))
+        × (now (out .exit) ≡ sets (now (out .entry)) at (linesText (paramLines (labelsOf l) (columnIn (sizeOf l) (now (file .entry)) places)))) ⌝ }
+{
+    let size = layout::size(l);
+    let mut p = at;
+    let mut k = 0;
+    while k < size {
+        let w = places[k + 1];
+        let from = w.from as usize;
+        let to = w.to as usize;
+        p = put_text_line(out, p, l, k + 1, &file[from..to]);
         k += 1;
     }
     p

@@ -1,13 +1,17 @@
 // The written form of a message, put into a lent buffer: what there is room for is written, and the answer is the place past it.
 use layout::Layout;
+use lines::Span;
 use list::Triple;
 use record::Cell;
 use text::put;
-ghost use Prim.Native.Nat.{_+_, _<_};
+ghost use Prim.Native.Nat.{_+_, _≤_, _<_};
+ghost use Rattle.layout.specs.Layouts.{sizeOf};
+ghost use Rattle.layout.specs.Rows.{rowOf};
+ghost use Rattle.lines.specs.Places.{Holds, Placed, columnIn};
 ghost use Rattle.text.specs.Puts.{limit};
 ghost use Rattle.value.specs.Texts.{rooms};
 ghost use Rattle.written.specs.Held.{Held};
-ghost use Rattle.written.specs.Written.{messageText};
+ghost use Rattle.written.specs.Written.{writtenOf, messageText};
 ghost use lib.ListN.{length};
 ghost use lib.Seq.{sets};
 ghost use mathlib.Core.Path.{_≡_};
@@ -32,5 +36,29 @@ pub fn put_message(
     let above = body::put_lines(out, body, l, cells, unit, reason, note, gradients);
     let from = put::put_text(out, above, b"+++++\n");
     let to = summary::put_row(out, from, l, cells, unit, reason, note, gradients);
+    put::put_text(out, to, b"\n+++++\n")
+}
+
+// The same of a layout with the texts that stand at their places of a file, and the file's own row, which is theirs.
+pub fn put_copied(
+    out: &mut [u8],
+    at: usize,
+    l: Layout,
+    file: &[u8],
+    row: Span,
+    places: [Span; 27],
+) -> usize
+    requires { ⌜ (at + 400000 < limit) × Placed (sizeOf l) (now file) places × (length (now file) ≤ 8192)
+        × Holds (now file) row (rowOf l (columnIn (sizeOf l) (now file) places)) ⌝ }
+    ensures { λ r. ⌜ (r ≡ at + length (writtenOf l (columnIn (sizeOf l) (now (file .entry)) places)))
+        × (now (out .exit) ≡ sets (now (out .entry)) at (writtenOf l (columnIn (sizeOf l) (now (file .entry)) places))) ⌝ }
+{
+    let head = banner::put(out, at, l);
+    let body = put::put_byte(out, head, b'\n');
+    let above = body::put_text_lines(out, body, l, file, places);
+    let from = put::put_text(out, above, b"+++++\n");
+    let a = row.from as usize;
+    let z = row.to as usize;
+    let to = put::put_text(out, from, &file[a..z]);
     put::put_text(out, to, b"\n+++++\n")
 }

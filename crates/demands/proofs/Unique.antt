@@ -187,8 +187,10 @@ within =
       report-put-record = λ κs a. equations _ _ _;
       report-put-refusal = λ κs a. equations _ _ _;
       report-put-answer = λ κs a. equations _ _ _;
+      body-put-text-lines = λ κs a. equations _ _ _;
       body-put-lines = λ κs a. equations _ _ _;
       summary-put-row = λ κs a. equations _ _ _;
+      compose-put-copied = λ κs a. equations _ _ _;
       compose-put-message = λ κs a. equations _ _ _;
     }
 

@@ -175,8 +175,10 @@ pub record Within : Type 0 where
   pub report-put-refusal : OneOutput report.put_refusal.ended (λ κs e. e .0 .now) report.put_refusal.Reads.Learnt
   pub report-put-answer : OneOutput report.put_answer.ended (λ κs e. e .0 .now) report.put_answer.Reads.Learnt
   -- body
+  pub body-put-text-lines : OneOutput body.put_text_lines.ended (λ κs e. e .0 .now) body.put_text_lines.Reads.Learnt
   pub body-put-lines : OneOutput body.put_lines.ended (λ κs e. e .0 .now) body.put_lines.Reads.Learnt
   -- summary
   pub summary-put-row : OneOutput summary.put_row.ended (λ κs e. e .0 .now) summary.put_row.Reads.Learnt
   -- compose
+  pub compose-put-copied : OneOutput compose.put_copied.ended (λ κs e. e .0 .now) compose.put_copied.Reads.Learnt
   pub compose-put-message : OneOutput compose.put_message.ended (λ κs e. e .0 .now) compose.put_message.Reads.Learnt

@@ -24,7 +24,7 @@ use native.Mathlib.Omega.{arith}
 
 -- ---- the tables: a shape that uses a room stands at that room's field
 
-unfoldable SuitsAs : Layout → ℕ → Bool → Shape → Type 0
+unfoldable pub SuitsAs : Layout → ℕ → Bool → Shape → Type 0
 SuitsAs l k b (IsId u) = u ≡ typeOf l
 SuitsAs l k b IsUnit = k ≡ 2
 SuitsAs l k b IsWhen = Unit
@@ -65,6 +65,13 @@ suits-at l k [] j h a = absurd (omega arith)
 suits-at l k (d ∷ ds) zero h a = let e : k + 0 ≡ k = omega arith in rw e (a .0)
 suits-at l k (d ∷ ds) (suc j) h a = let e : k + suc j ≡ suc k + j = omega arith in rw e (suits-at l (suc k) ds j (omega arith) (a .1))
 
+pub suits : (l : Layout) (k : ℕ) → 1 ≤ k → k ≤ sizeOf l → SuitsAs l k (kindAt l k .blank) (kindAt l k .shape)
+suits l zero h j = absurd (omega arith)
+suits l (suc k) h j =
+    let i : k < length (kindsOf l) = omega (arith, kinds-length l) in
+    let e : 1 + k ≡ suc k = omega arith in
+    rw (kind-at l k) (rw e at (suits-at l 1 (kindsOf l) k i (all-suit l)))
+
 -- ---- the rooms
 
 pub kept-in-room : (n : ℕ) (s : List ℕ) → InRoom n (keptIn n s) s
@@ -91,8 +98,4 @@ module _ (l : Layout) (col : List (List ℕ)) (vs : List Value) where
   stored-as k b IsReactive h = tt
 
   pub record-stored : (k : ℕ) → 1 ≤ k → k ≤ sizeOf l → Stored (typeOf l) (roomsOf (recordOf l col vs)) (kindAt l k) (textAt col k)
-  record-stored zero h j = absurd (omega arith)
-  record-stored (suc k) h j =
-      let i : k < length (kindsOf l) = omega (arith, kinds-length l) in
-      let e : 1 + k ≡ suc k = omega arith in
-      rw (kind-at l k) (stored-as (suc k) (getD (kindsOf l) k noKind .blank) (getD (kindsOf l) k noKind .shape) (rw e at (suits-at l 1 (kindsOf l) k i (all-suit l))))
+  record-stored k h j = stored-as k (kindAt l k .blank) (kindAt l k .shape) (suits l k h j)

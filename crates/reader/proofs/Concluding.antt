@@ -2,11 +2,12 @@
 use Prim.Native.Nat.{ℕ}
 use Rattle.fill.specs.Filled.{recordWith}
 use Rattle.layout.specs.Layouts.{sizeOf}
+use Rattle.layout.specs.Rows.{rowOf}
 use Rattle.layout.specs.declared.Layout.{Layout}
 use Rattle.lines.specs.Places.{partOf, Placed}
 use Rattle.lines.specs.declared.Span.{Span}
 use Rattle.list.specs.declared.Triple.{Triple}
-use Rattle.reader.proofs.Firsts.{NoneHolds, accepted-none}
+use Rattle.reader.proofs.Firsts.{NoneHolds, accepted-none, none-given}
 use Rattle.reader.proofs.Firsts.NoneHolds.{next}
 use Rattle.reader.specs.Messages.{valuesOf, isBad, bodyOf}
 use Rattle.reader.specs.Reader.{valued}
@@ -16,8 +17,9 @@ use Rattle.reader.specs.declared.Answer.{Answer}
 use Rattle.reader.specs.declared.Located.{Located}
 use Rattle.reader.specs.declared.Reading.{Reading}
 use Rattle.record.specs.declared.Cell.{Cell}
+use Rattle.text.proofs.Cuts.{same-true}
 use Rattle.text.specs.Bytes.{all}
-use borrow.Author.Tests.{eq-eqb, ne-eqb}
+use borrow.Author.Tests.{eq-eqb, ne-eqb, not-false}
 use lib.ListN.{take}
 use mathlib.Core.Bool.{false}
 use mathlib.Core.List.{List, _∷_}
@@ -33,6 +35,14 @@ module _ (file : List ℕ) (x : Reading) where
   pub concluded-yes : x .number ≡ 0 → accepted (recordWith (x .layout) (columnAt (x .layout) file (x .places)) (x .cells) (x .gradients)) ≡ concluded file x
   unfolding concluded finished
   concluded-yes e = rw (eq-eqb (x .number) 0 e)
+
+-- ---- where none holds
+
+first-false : {x : Refusal} {xs : List Refusal} → NoneHolds (x ∷ xs) → x .holds ≡ false
+first-false (next e f) = e
+
+fourth-false : {a b c x : Refusal} {xs : List Refusal} → NoneHolds (a ∷ b ∷ c ∷ x ∷ xs) → x .holds ≡ false
+fourth-false (next e (next f (next g h))) = first-false h
 
 -- ---- the reading of the places
 
@@ -50,23 +60,47 @@ module _ (file unit : List ℕ) (x : Located) where
   unfolding continued
   continued-yes e = rw (eq-eqb (x .number) 0 e)
 
--- where nothing is refused, no value is bad
-first-false : {x : Refusal} {xs : List Refusal} → NoneHolds (x ∷ xs) → x .holds ≡ false
-first-false (next e f) = e
+-- where nothing is refused, the record is that of the values, none of them is bad, and the row is theirs
+module _ (l : Layout) (unit row : List ℕ) (col : List (List ℕ)) (n d : ℕ) (cells : List Cell) (gs : List Triple)
+    (j : Judges l unit row col n d cells gs) (z : n ≡ 0) where
+  accepted-is : accepted (recordWith l col cells gs) ≡ answer (valued l unit row col) (bodyOf l col)
+  unfolding finished
+  accepted-is = rw (eq-eqb n 0 z) at j
 
-none-bad : (l : Layout) (unit row : List ℕ) (col : List (List ℕ)) (n d : ℕ) (cells : List Cell) (gs : List Triple)
-    → Judges l unit row col n d cells gs → n ≡ 0 → isBad (valuesOf l col) ≡ false
-unfolding finished valued all
-none-bad l unit row col n d cells gs j z =
-    let e : accepted (recordWith l col cells gs) ≡ answer (valued l unit row col) (bodyOf l col) = rw (eq-eqb n 0 z) at j in
-    first-false (accepted-none (valued l unit row col) (bodyOf l col) refl (sym (ap (λ (a : Answer). a .number) e)))
+  none-holds : NoneHolds (valued l unit row col)
+  unfolding valued all
+  none-holds = accepted-none (valued l unit row col) (bodyOf l col) refl (sym (ap (λ (a : Answer). a .number) accepted-is))
+
+  body-same : recordWith l col cells gs ≡ bodyOf l col
+  body-same = ap (λ (a : Answer). a .body) (accepted-is ∙ none-given (bodyOf l col) none-holds)
+
+  none-bad : isBad (valuesOf l col) ≡ false
+  unfolding valued
+  none-bad = first-false none-holds
+
+  row-same : row ≡ rowOf l col
+  unfolding valued
+  row-same = same-true row (rowOf l col) (not-false _ (fourth-false none-holds))
 
 module _ (c i : ℕ) (plan file : List ℕ) (x : Located) (h : Locates c i plan file x) where
+  abbrev col : List (List ℕ)
+  col = columnAt (x .layout) file (x .places)
+
+  -- a reading of these places, with no value read of them yet
+  abbrev unread : List Cell → List Triple → Reading
+  unread cells gs =
+      record { number = x .number; detail = x .detail; layout = x .layout; row = x .row; cells = cells; gradients = gs; places = x .places }
+
   pub refused-reads : (x .number ≡ 0 → ⊥) → (cells : List Cell) (gs : List Triple)
-      → Reads c i plan file (record { number = x .number; detail = x .detail; layout = x .layout; cells = cells; gradients = gs; places = x .places })
+      → Reads c i plan file (unread cells gs)
   refused-reads n cells gs =
-      let y : Reading = record { number = x .number; detail = x .detail; layout = x .layout; cells = cells; gradients = gs; places = x .places } in
-      record { placed = λ z. absurd (n z); readable = λ z. absurd (n z); answers = sym (concluded-no file y n) ∙ continued-no file (take (x .size) (x .unit)) x n ∙ h .answers }
+      record {
+        placed = λ z. absurd (n z);
+        readable = λ z. absurd (n z);
+        own-row = λ z. absurd (n z);
+        body-is = λ z. absurd (n z);
+        answers = sym (concluded-no file (unread cells gs) n) ∙ continued-no file (take (x .size) (x .unit)) x n ∙ h .answers;
+      }
 
   pub values-read : x .number ≡ 0 → (unit : List ℕ) → unit ≡ take (x .size) (x .unit) → (y : Reading) → Values (x .layout) unit file (x .row) (x .places) y
       → Reads c i plan file y
@@ -78,7 +112,13 @@ module _ (c i : ℕ) (plan file : List ℕ) (x : Located) (h : Locates c i plan 
             (subst (Placed (sizeOf (x .layout)) file) (sym (v .places-are)) (h .stands z .placed));
         readable = λ e.
             ap₂ (λ (l : Layout) (ps : List Span). isBad (valuesOf l (columnAt l file ps))) (v .layout-is) (v .places-are)
-            ∙ none-bad (x .layout) unit (partOf file (x .row)) (columnAt (x .layout) file (x .places)) (y .number) (y .detail) (y .cells) (y .gradients) (v .judges) e;
+            ∙ none-bad (x .layout) unit (partOf file (x .row)) col (y .number) (y .detail) (y .cells) (y .gradients) (v .judges) e;
+        own-row = λ e.
+            let r = row-same (x .layout) unit (partOf file (x .row)) col (y .number) (y .detail) (y .cells) (y .gradients) (v .judges) e in
+            rw (v .layout-is, v .row-is, v .places-are) record { ordered = h .stands z .ordered; inside = h .stands z .inside; holds = r };
+        body-is = λ e.
+            rw (v .layout-is, v .places-are)
+            (body-same (x .layout) unit (partOf file (x .row)) col (y .number) (y .detail) (y .cells) (y .gradients) (v .judges) e);
         answers =
             ap₂ (λ (l : Layout) (ps : List Span). finished l (columnAt l file ps) (y .number) (y .detail) (y .cells) (y .gradients)) (v .layout-is) (v .places-are)
             ∙ v .judges ∙ ap (judgedFor file x) u ∙ continued-yes file (take (x .size) (x .unit)) x z ∙ h .answers;

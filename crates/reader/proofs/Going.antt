@@ -30,23 +30,24 @@ use mathlib.Core.List.{List}
 use mathlib.Core.Path.{_≡_, refl, sym, ap, _∙_}
 use native.Mathlib.Omega.{arith}
 
--- what holds at the head: the reading has its layout, places and triples, and the values of the first k fields
-pub record Going (l : Layout) (file : List ℕ) (places : List Span) (gs : List Triple) (n k : ℕ) (r : Reading) : Type 0 where
+-- what holds at the head: the reading has its layout, row, places and triples, and the values of the first k fields
+pub record Going (l : Layout) (file : List ℕ) (row : Span) (places : List Span) (gs : List Triple) (n k : ℕ) (r : Reading) : Type 0 where
   pub layout-is : r .layout ≡ l
+  pub row-is : r .row ≡ row
   pub places-are : r .places ≡ places
   pub triples-are : r .gradients ≡ gs
   pub head : Head l file places n k (r .cells)
 
 -- a reading with another number and detail, and with other cells
 abbrev pub numbered : ℕ → ℕ → Reading → Reading
-numbered n d r = record { number = n; detail = d; layout = r .layout; cells = r .cells; gradients = r .gradients; places = r .places }
+numbered n d r = record { number = n; detail = d; layout = r .layout; row = r .row; cells = r .cells; gradients = r .gradients; places = r .places }
 
 abbrev pub celled : List Cell → Reading → Reading
-celled cells r = record { number = r .number; detail = r .detail; layout = r .layout; cells = cells; gradients = r .gradients; places = r .places }
+celled cells r = record { number = r .number; detail = r .detail; layout = r .layout; row = r .row; cells = cells; gradients = r .gradients; places = r .places }
 
 module _ (c i : ℕ) (plan file : List ℕ) (x : Located) (h : Locates c i plan file x) (z : x .number ≡ 0) (g : GradientsRead)
     (gs : g ≡ gradientsIn (textAt (columnAt (x .layout) file (x .places)) (gradientsField (x .layout)))) (n k : ℕ) (r : Reading)
-    (going : Going (x .layout) file (x .places) (g .list .values) n k r) where
+    (going : Going (x .layout) file (x .row) (x .places) (g .list .values) n k r) where
   abbrev col : List (List ℕ)
   col = columnAt (x .layout) file (x .places)
 
@@ -72,16 +73,18 @@ module _ (c i : ℕ) (plan file : List ℕ) (x : Located) (h : Locates c i plan 
         values-read c i plan file x h z (take (x .size) (x .unit)) refl (numbered 7 (k + 1) r)
         (record {
           layout-is = going .layout-is;
+          row-is = going .row-is;
           places-are = going .places-are;
           judges =
               bad-value (x .layout) (take (x .size) (x .unit)) file (x .row) (x .places) (k + 1) (r .cells) (r .gradients) (filling (k + 1) f)
               (λ q. omega (arith, q));
         })
 
-    pub goes-on : (w : Value) → v ≡ Read w → Going (x .layout) file (x .places) (g .list .values) n (k + 1) (celled (set (r .cells) k (cell w)) r)
+    pub goes-on : (w : Value) → v ≡ Read w → Going (x .layout) file (x .row) (x .places) (g .list .values) n (k + 1) (celled (set (r .cells) k (cell w)) r)
     goes-on w e =
         record {
           layout-is = going .layout-is;
+          row-is = going .row-is;
           places-are = going .places-are;
           triples-are = going .triples-are;
           head =
@@ -105,6 +108,7 @@ module _ (c i : ℕ) (plan file : List ℕ) (x : Located) (h : Locates c i plan 
       values-read c i plan file x h z unit u (numbered (e .number) (e .detail) r)
       (record {
         layout-is = going .layout-is;
+        row-is = going .row-is;
         places-are = going .places-are;
         judges = by-verdict (x .layout) unit file (x .row) (x .places) 0 (r .cells) (r .gradients) (filling 0 f) refl broken b e v;
       })

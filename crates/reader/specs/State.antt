@@ -2,9 +2,10 @@
 use Prim.Native.Nat.{ℕ, _-_, _≤_}
 use Rattle.fill.specs.Filled.{filledOf, triplesOf, recordWith}
 use Rattle.layout.specs.Layouts.{kindsOf, sizeOf}
+use Rattle.layout.specs.Rows.{rowOf}
 use Rattle.layout.specs.declared.Layout.{Layout}
 use Rattle.layout.specs.declared.Layout.the-variants.{Market}
-use Rattle.lines.specs.Places.{noSpan, partOf, Placed, columnIn}
+use Rattle.lines.specs.Places.{noSpan, partOf, Holds, Placed, columnIn}
 use Rattle.lines.specs.declared.Span.{Span}
 use Rattle.list.specs.declared.Triple.{Triple}
 use Rattle.name.specs.declared.MessageType.{MessageType}
@@ -92,6 +93,7 @@ Judges l unit row col n d cells gradients = finished l col n d cells gradients �
 
 pub record Values (l : Layout) (unit file : List ℕ) (row : Span) (places : List Span) (x : Reading) : Type 0 where
   pub layout-is : x .layout ≡ l
+  pub row-is : x .row ≡ row
   pub places-are : x .places ≡ places
   pub judges : Judges l unit (partOf file row) (columnAt l file places) (x .number) (x .detail) (x .cells) (x .gradients)
 
@@ -101,10 +103,13 @@ unfoldable pub concluded : List ℕ → Reading → Answer
 concluded file x = finished (x .layout) (columnAt (x .layout) file (x .places)) (x .number) (x .detail) (x .cells) (x .gradients)
 
 -- what was read of a file at an address: it leads to the reader's answer, and where it is no refusal every field has its place, with a value that its
--- kind may hold
+-- kind may hold, the row has its place, with the row of these values, and the cells and triples are those of the values' record
 pub record Reads (ca ioa : ℕ) (plan file : List ℕ) (x : Reading) : Type 0 where
   pub placed : x .number ≡ 0 → Placed (sizeOf (x .layout)) file (x .places)
   pub readable : x .number ≡ 0 → isBad (valuesOf (x .layout) (columnAt (x .layout) file (x .places))) ≡ false
+  pub own-row : x .number ≡ 0 → Holds file (x .row) (rowOf (x .layout) (columnAt (x .layout) file (x .places)))
+  pub body-is : x .number ≡ 0
+      → recordWith (x .layout) (columnAt (x .layout) file (x .places)) (x .cells) (x .gradients) ≡ bodyOf (x .layout) (columnAt (x .layout) file (x .places))
   pub answers : concluded file x ≡ readOf ca ioa plan file
 
 -- the bit of `Tipo Comando`, the field 8 of mFRR, in a CB file

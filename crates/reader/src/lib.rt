@@ -59,11 +59,12 @@ pub struct Located {
 }
 
 // What is read of a message, with its texts left in the file: a refusal's number and detail, or the number 0 with the layout, the cells and triples of
-// its record, and the places of its fields.
+// its record, and the places of its row and of its fields.
 pub struct Reading {
     pub number: u8,
     pub detail: usize,
     pub layout: Layout,
+    pub row: Span,
     pub cells: [Cell; 26],
     pub gradients: [Triple; 16],
     pub places: [Span; 27],
@@ -233,6 +234,7 @@ pub fn judged(ca: u32, ioa: u32, plan: &[u8], file: &[u8]) -> Reading
         number: x.number,
         detail: x.detail,
         layout: l,
+        row,
         cells: [record::EMPTY; 26],
         gradients: [record::NO_TRIPLE; 16],
         places,

@@ -1,5 +1,5 @@
 -- THE THEOREM: what the reader accepts is a valid record. Assumes nothing.
-use Prim.Native.Nat.{ℕ}
+use Prim.Native.Nat.{ℕ, _≤_}
 use Rattle.layout.specs.Layouts.{labelsOf}
 use Rattle.layout.specs.declared.Layout.{Layout}
 use Rattle.lines.proofs.Tidy.{column-tidy}
@@ -60,12 +60,22 @@ message-at s file (next no-13 (next no-1 n)) =
     answer-no 13 (s .detail) (eqb (s .number) 13) _ (bodyIn (s .kind) file) no-13
     ∙ answer-no 1 0 (eqb (s .number) 1) _ (bodyIn (s .kind) file) no-1
 
-at-valid : (s : Sought) (file : List ℕ) → answerAt s file .number ≡ 0 → Valid (answerAt s file .body)
+at-accepted : (s : Sought) (file : List ℕ) → answerAt s file .number ≡ 0 → Accepted (s .kind) (unitIn s) file × (answerAt s file ≡ messageOf (s .kind) (unitIn s) file)
 unfolding answerAt
-at-valid s file h =
+at-accepted s file h =
     let e = message-at s file (accepted-none (planned s file) (bodyIn (s .kind) file) (numbers s file) h) in
-    subst (λ (x : Answer). Valid (x .body)) (sym e) (accepted-valid (s .kind) (unitIn s) file (sym (ap (λ (x : Answer). x .number) e) ∙ h))
+    (accepted (s .kind) (unitIn s) file (sym (ap (λ (x : Answer). x .number) e) ∙ h), e)
+
+at-valid : (s : Sought) (file : List ℕ) → answerAt s file .number ≡ 0 → Valid (answerAt s file .body)
+at-valid s file h =
+    let a = at-accepted s file h in
+    subst (λ (x : Answer). Valid (x .body)) (sym (a .1 ∙ a .0 .answered)) (body-in (s .kind) (unitIn s) file (a .0))
 
 pub read-valid : (ca ioa : ℕ) (plan file : List ℕ) → readOf ca ioa plan file .number ≡ 0 → Valid (readOf ca ioa plan file .body)
 unfolding readOf
 read-valid ca ioa plan file h = at-valid (soughtOf ca ioa (planOf plan)) file h
+
+-- and its file is no longer than a file may be
+pub read-short : (ca ioa : ℕ) (plan file : List ℕ) → readOf ca ioa plan file .number ≡ 0 → length file ≤ 8192
+unfolding readOf
+read-short ca ioa plan file h = at-accepted (soughtOf ca ioa (planOf plan)) file h .0 .not-long

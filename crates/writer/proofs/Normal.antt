@@ -36,7 +36,7 @@ use native.Mathlib.Omega.{arith}
 -- ---- an answer
 
 module _ (out : List ℕ) where
-  abbrev Normal : Answer → Written → List ℕ → Type 0
+  abbrev pub Normal : Answer → Written → List ℕ → Type 0
   Normal a w m = (w ≡ normaliseOf a (length out)) × (m ≡ normalLeft a out)
 
   refused-normal : (n d : ℕ) → (n ≡ 0 → ⊥) → Normal (refused n d) (Refused n d) out

@@ -1,14 +1,18 @@
 // The writer, record to file, and the normaliser, accepted file to the written form of its record. A refusal changes no byte of the output.
 use layout::Layout;
+use lines::Span;
 use list::Triple;
 use record::Cell;
 use record::Record;
+ghost use Rattle.layout.specs.Layouts.{sizeOf};
+ghost use Rattle.lines.specs.Places.{Placed, columnIn};
 ghost use Rattle.reader.specs.Reader.{readOf};
 ghost use Rattle.text.specs.Puts.{bufferOf};
 ghost use Rattle.value.specs.Texts.{rooms};
+ghost use Rattle.writer.specs.Copied.{allWritten, Copies};
 ghost use Rattle.writer.specs.Writer.{fitted, writeOf, leftBy, normaliseOf, normalLeft};
 ghost use Rattle.written.specs.Held.{Held};
-ghost use Rattle.written.specs.Written.{messageText};
+ghost use Rattle.written.specs.Written.{writtenOf, valuesIn, messageText};
 ghost use lib.ListN.{length};
 ghost use mathlib.Core.Path.{_≡_};
 
@@ -62,6 +66,23 @@ fn put_file(
     ))
 }
 
+// The same of a file whose texts can be put as they stand.
+fn put_copied(l: Layout, file: &[u8], row: Span, places: [Span; 27], out: &mut [u8]) -> Written
+    requires { ⌜ Copies l (now file) row places ⌝ }
+    ensures { λ w. ⌜ (w ≡ fitted (writtenOf l (columnIn (sizeOf l) (now (file .entry)) places)) (length (now (out .entry))))
+        × (now (out .exit) ≡ bufferOf (now (out .entry)) 0 (writtenOf l (columnIn (sizeOf l) (now (file .entry)) places))) ⌝ }
+{
+    let room = out.len();
+    if 8192 <= room {
+        return Written::Length(compose::put_copied(out, 0, l, file, row, places));
+    }
+    let size = compose::put_copied(&mut out[0..0], 0, l, file, row, places);
+    if room < size {
+        return Written::Refused(11, size);
+    }
+    Written::Length(compose::put_copied(&mut out[0..size], 0, l, file, row, places))
+}
+
 // Writes a record: refused 12 where it is invalid, then 11.
 pub fn write(r: Record, out: &mut [u8]) -> Written
     ensures { λ w. ⌜ (w ≡ writeOf r (length (now (out .entry)))) × (now (out .exit) ≡ leftBy r (now (out .entry))) ⌝ }
@@ -78,7 +99,29 @@ pub fn write(r: Record, out: &mut [u8]) -> Written
     put_file(l, cells, &unit, &reason, &note, gradients, out)
 }
 
-// Brings a file to the written form of its record: the reader's refusals, then 11. The record's texts are taken from the file itself.
+// Whether each value that was read of a file stands there as it is written.
+fn all_written(l: Layout, cells: [Cell; 26], file: &[u8], places: [Span; 27]) -> bool
+    requires { ⌜ Placed (sizeOf l) (now file) places ⌝ }
+    ensures { λ r. ⌜ r ≡ allWritten (valuesIn l cells) (columnIn (sizeOf l) (now (file .entry)) places) ⌝ }
+{
+    let n = layout::size(l);
+    let mut k = 0;
+    while k < n {
+        let c = cells[k];
+        let v = c.value;
+        let w = places[k + 1];
+        let from = w.from as usize;
+        let to = w.to as usize;
+        if !render::is_written(v, &file[from..to]) {
+            return false;
+        }
+        k += 1;
+    }
+    true
+}
+
+// Brings a file to the written form of its record: the reader's refusals, then 11. Where each value stands as it is written the file's own texts are
+// copied, and else the values are rendered, with the record's texts taken from the file itself.
 pub fn normalise(ca: u32, ioa: u32, plan: &[u8], file: &[u8], out: &mut [u8]) -> Written
     ensures { λ w. ⌜ (w ≡ normaliseOf (readOf ca ioa (now (plan .entry)) (now (file .entry))) (length (now (out .entry))))
         × (now (out .exit) ≡ normalLeft (readOf ca ioa (now (plan .entry)) (now (file .entry))) (now (out .entry))) ⌝ }
@@ -90,6 +133,10 @@ pub fn normalise(ca: u32, ioa: u32, plan: &[u8], file: &[u8], out: &mut [u8]) ->
     let l = x.layout;
     let places = x.places;
     let cells = x.cells;
+    if all_written(l, cells, file, places) {
+        let row = x.row;
+        return put_copied(l, file, row, places, out);
+    }
     let gradients = x.gradients;
     put_file(
         l,

@@ -16,7 +16,7 @@ use mathlib.Core.List.{List, [], _∷_, _++_, map}
 use mathlib.Core.Path.{_≡_, refl, sym, ap, _∙_}
 
 -- the front of a list of cells
-cells-front : (vs : List Value) (rest : List Cell) → map (λ (c : Cell). c .value) (take (length vs) (map cell vs ++ rest)) ≡ vs
+pub cells-front : (vs : List Value) (rest : List Cell) → map (λ (c : Cell). c .value) (take (length vs) (map cell vs ++ rest)) ≡ vs
 cells-front [] rest = refl
 cells-front (v ∷ vs) rest = ap (λ (ws : List Value). v ∷ ws) (cells-front vs rest)
 

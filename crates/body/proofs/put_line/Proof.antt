@@ -1,5 +1,4 @@
 -- The label, the `=`, what stands after it and the end, one after the other.
-use Prim.Native.Nat.{ℕ}
 use Rattle.body.proofs.Lines.{label-short, after-short, line-put}
 use Rattle.body.proofs.put_line.Statement.{statement}
 use Rattle.body.proofs.put_line.Tie as tie
@@ -10,9 +9,7 @@ use Rattle.render.proofs.Sizes.{text-short}
 use Rattle.value.specs.Texts.{rooms, valueText}
 use borrow.Author.Needs.{needs}
 use lib.ListN.{length}
-use lib.Seq.{sets}
-use mathlib.Core.List.{List}
-use mathlib.Core.Path.{_≡_, ap, _∙_}
+use mathlib.Core.Path.{_≡_, ap}
 use native.Mathlib.Omega.{arith}
 
 -- the room of the gradients has sixteen places
@@ -69,12 +66,11 @@ returns c =
     let r = rooms (a .unit .now) (a .reason .now) (a .note .now) (a .gradients) in
     let kind = said .before .type-of in
     let text = label-text (a .l) (a .k) (padded .before .of-field .ensures) in
+    let same = ap (λ (t : MessageType). valueText t r (a .v)) (kind .ensures) in
     line-put (labelAt (a .l) (a .k)) (valueText (kind .result) r (a .v)) (valueText (typeOf (a .l)) r (a .v))
-    (label-short (a .l) (a .k) (s .pre .1) (s .pre .2)) (ap (λ (t : MessageType). valueText t r (a .v)) (kind .ensures))
-    _ _ _ _ (equals .put-byte .last .0) _ (said .put-after .last .0) _ _
-    (padded .put .ensures .1 ∙ ap (λ (t : List ℕ). sets (a .out .now) (a .at) t) text)
-    (rw (padded .put .ensures .0) at (equals .put-byte .ensures))
-    (said .put-after .ensures) (c .before .before .put-byte2 .ensures)
+    (label-short (a .l) (a .k) (s .pre .1) (s .pre .2)) same
+    _ _ _ (padded .put .last .0) _ (equals .put-byte .last .0) _ (said .put-after .last .0) _ _
+    _ (padded .put .ensures) text (equals .put-byte .ensures) (said .put-after .ensures) (c .before .before .put-byte2 .ensures)
 
 pub put-line-spec : {M : Type 1} → statement M
 put-line-spec =

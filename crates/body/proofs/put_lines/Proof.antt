@@ -1,70 +1,76 @@
 -- The loop keeps `Sofar`: the first lines are put.
 use Prim.Native.Nat.{_-_, _<_}
-use Rattle.body.proofs.Lines.{Sofar, start, place-low, turn, finish, same-room}
+use Rattle.body.proofs.Lines.{Sofar, start, place-low, turn, finish, same-room, full, text-of, all-lines-short}
 use Rattle.body.proofs.put_lines.Statement.{statement}
 use Rattle.body.proofs.put_lines.Tie as tie
 use Rattle.layout.proofs.Labels.{few}
 use Rattle.layout.specs.Layouts.{sizeOf}
 use Rattle.value.specs.Texts.{rooms}
-use Rattle.written.proofs.Columns.{spoken}
+use Rattle.written.proofs.Columns.{columnOf, spoken}
 use borrow.Author.Needs.{needs}
 use lib.ListN.{length}
 use mathlib.Core.Path.{_≡_}
 use native.Mathlib.Omega.{arith}
 
 abbrev Inv-loop : tie.InvT-loop
-Inv-loop out₀ at l unit reason note gradients cells size p₀ k₀ out p k = Sofar l (rooms unit reason note gradients) cells out₀ at k p out
+Inv-loop out₀ at l unit reason note gradients cells size p₀ k₀ out p k = Sofar l (columnOf l (rooms unit reason note gradients) cells) out₀ at k p out
 
 abbrev μ-loop : tie.MeasureT-loop
 μ-loop out₀ at l unit reason note gradients cells size p₀ k₀ out p k = size - k
+
+-- ---- places
+
+abbrev lent : tie.At-loop Inv-loop μ-loop → tie.After-shared-slice-known3 Inv-loop μ-loop
+lent l = l .before .before
+
+abbrev begun : tie.At-loop Inv-loop μ-loop → tie.Start Inv-loop μ-loop
+begun l = lent l .before .before .before .before
+
+abbrev turning : tie.After-put-line-arg Inv-loop μ-loop → tie.In-loop Inv-loop μ-loop
+turning c = c .before .before
+
+abbrev put : tie.After-slice-known2 Inv-loop μ-loop → tie.After-put-line Inv-loop μ-loop
+put c = c .before .before
+
+-- ---- what is known in the loop
 
 -- the room of the gradients has sixteen places
 sixteen : (s : tie.Start Inv-loop μ-loop) → length (s .args .gradients) ≡ 16
 sixteen s = search needs
 
-size-requires : tie.Need-size-requires Inv-loop μ-loop
-size-requires c κs = search needs
+-- the field after k is one of the layout
+in-size : (c : tie.In-loop Inv-loop μ-loop) → c .before .loop .k < sizeOf (begun (c .before) .args .l)
+in-size c = omega (arith, c .before .before .size .ensures, c .loop-test .taken)
 
-loop-holds : tie.Need-loop-holds Inv-loop μ-loop
-loop-holds c = start _ _ _ _ _
-
-mul-c : tie.Need-mul-c Inv-loop μ-loop
-mul-c c = let w = few (c .before .before .before .before .before .before .before .args .l) in search needs
-
-array-copy-out-c : tie.Need-array-copy-out-c Inv-loop μ-loop
-array-copy-out-c c = omega (arith, few (c .before .before .before .before .before .before .before .args .l), c .before .before .size .ensures)
-
-add-put-line : tie.Need-add-put-line Inv-loop μ-loop
-add-put-line c = let w = few (c .before .before .before .before .before .before .before .before .before .args .l) in search needs
+at-k : (c : tie.In-loop Inv-loop μ-loop) → c .before .loop .k < 26
+at-k c = omega (arith, in-size c, few (begun (c .before) .args .l))
 
 put-line-requires : tie.Need-put-line-requires Inv-loop μ-loop
 put-line-requires c κs =
-    let s = c .before .before .before .before .before .before .before .before .before in
-    let loop = c .before .before .before .loop in
-    let h : loop .k < sizeOf (s .args .l) = omega (arith, c .before .before .before .before .size .ensures, c .before .before .loop-test .taken) in
-    let low = place-low (s .args .l) _ _ _ _ (s .pre .1) _ _ _ (loop .inv) (sixteen s) in
-    (omega (arith, s .pre .0, low), omega arith, omega arith, spoken (s .args .l) _ (s .args .t4) (s .pre .1) _ h)
-
-add-k : tie.Need-add-k Inv-loop μ-loop
-add-k c = let w = few (c .before .before .before .before .before .before .before .before .before .before .before .before .args .l) in search needs
-
-loop-less : tie.Need-loop-less Inv-loop μ-loop
-loop-less c = search needs
+    let t = turning c in
+    let s = begun (t .before) in
+    let a = s .args in
+    let h = in-size t in
+    let short = all-lines-short (a .l) _ (a .t4) (s .pre .1) (sixteen s) in
+    let low = place-low (a .l) _ _ _ (full (a .l) _ (a .t4) (s .pre .1)) _ _ _ (t .before .loop .inv) 18200 short in
+    (omega (arith, s .pre .0, low), omega arith, omega (arith, h), spoken (a .l) _ (a .t4) (s .pre .1) _ h)
 
 loop-again : tie.Need-loop-again Inv-loop μ-loop
 loop-again c =
-    let s = c .before .before .before .before .before .before .before .before .before .before .before .before in
-    let loop = c .before .before .before .before .before .before .loop in
-    let h : loop .k < sizeOf (s .args .l) = omega (arith, c .before .before .before .before .before .before .before .size .ensures, c .before .before .before .before .before .loop-test .taken) in
-    turn (s .args .l) _ (s .args .t4) _ _ (s .pre .1) _ _ _ (loop .inv) h _ _ (c .before .before .put-line .ensures)
+    let t = turning (put c .before) in
+    let s = begun (t .before) in
+    let a = s .args in
+    turn (a .l) _ _ _ (full (a .l) _ (a .t4) (s .pre .1)) _ _ _ (t .before .loop .inv) (in-size t) _ (text-of (a .l) _ (a .t4) (s .pre .1) _ (in-size t))
+    _ _ (put c .put-line .ensures)
 
 same-length : tie.Need-same-length Inv-loop μ-loop
-same-length c = let k = same-room _ _ _ _ _ _ _ _ (c .before .loop .inv) in search needs
+same-length c = let k = same-room _ _ _ _ _ _ _ (c .before .loop .inv) in search needs
 
 returns : tie.Need-returns Inv-loop μ-loop
 returns c =
-    let s = c .before .before .before .before .before .before .before in
-    finish (s .args .l) _ (s .args .t4) _ _ (s .pre .1) _ _ _ (c .before .loop .inv) (omega (arith, c .before .before .size .ensures, c .loop-test .left))
+    let s = begun (c .before) in
+    let all = full (s .args .l) _ (s .args .t4) (s .pre .1) in
+    finish (s .args .l) _ _ _ all _ _ _ (c .before .loop .inv) (omega (arith, c .before .before .size .ensures, c .loop-test .left))
 
 pub put-lines-spec : {M : Type 1} → statement M
 put-lines-spec =
@@ -72,14 +78,14 @@ put-lines-spec =
     (tie.spec
     Inv-loop
     μ-loop
-    size-requires
-    loop-holds
-    mul-c
-    array-copy-out-c
-    add-put-line
+    (λ c κs. search needs)
+    (λ c. start _ _ _ _)
+    (λ c. omega (arith, at-k c))
+    (λ c. omega (arith, at-k c))
+    (λ c. omega (arith, at-k (c .before .before)))
     put-line-requires
-    add-k
-    loop-less
+    (λ c. omega (arith, at-k (turning (put c .before))))
+    (λ c. search needs)
     loop-again
     same-length
     returns)
