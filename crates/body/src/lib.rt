@@ -104,8 +104,8 @@ fn put_text_line(out: &mut [u8], at: usize, l: Layout, k: usize, text: &[u8]) ->
     ensures { λ r. ⌜ (r ≡ at + length (linesText (paramLine (labelAt l k) (now (text .entry)) ∷ [])))
         × (now (out .exit) ≡ sets (now (out .entry)) at (linesText (paramLine (labelAt l k) (now (text .entry)) ∷ []))) ⌝ }
 {
-    let padded = label::put(out, at, label::of_field(l, k));
-    let equals = put::put_byte(out, padded, b'=');
+    let named = label::put(out, at, label::of_field(l, k));
+    let equals = put::put_byte(out, named, b'=');
     if text.len() == 0 {
         return put::put_byte(out, equals, b'\n');
     }

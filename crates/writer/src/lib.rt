@@ -76,11 +76,11 @@ fn put_copied(l: Layout, file: &[u8], row: Span, places: [Span; 27], out: &mut [
     if 8192 <= room {
         return Written::Length(compose::put_copied(out, 0, l, file, row, places));
     }
-    let size = compose::put_copied(&mut out[0..0], 0, l, file, row, places);
-    if room < size {
-        return Written::Refused(11, size);
+    let length = compose::put_copied(&mut out[0..0], 0, l, file, row, places);
+    if room < length {
+        return Written::Refused(11, length);
     }
-    Written::Length(compose::put_copied(&mut out[0..size], 0, l, file, row, places))
+    Written::Length(compose::put_copied(&mut out[0..length], 0, l, file, row, places))
 }
 
 // Writes a record: refused 12 where it is invalid, then 11.
