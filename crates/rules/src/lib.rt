@@ -139,11 +139,11 @@ fn limited(maximum: Cell, minimum: Cell, cause: Cell, ended: Cell) -> bool
 }
 
 // 7. SR: two numbers, neither negative, or blank with SOSPENSIONE only.
-fn banded(operation: Cell, half_bands: Cell) -> bool
-    ensures { λ r. ⌜ r ≡ bands (operation .value) (half_bands .value) ⌝ }
+fn banded(operation: Cell, halves: Cell) -> bool
+    ensures { λ r. ⌜ r ≡ bands (operation .value) (halves .value) ⌝ }
 {
-    if filled(half_bands) {
-        let v = half_bands.value;
+    if filled(halves) {
+        let v = halves.value;
         return not_negative(v);
     }
     says(operation, 10)
@@ -244,10 +244,10 @@ pub fn of_limitation(
     order_and(start, end, 6, limited(maximum, minimum, reason, ended))
 }
 
-pub fn of_secondary(start: Cell, end: Cell, operation: Cell, half_bands: Cell) -> u8
-    ensures { λ r. ⌜ r ≡ lowest (rule 1 (ordered (start .value) (end .value)) ∷ rule 7 (bands (operation .value) (half_bands .value)) ∷ []) ⌝ }
+pub fn of_secondary(start: Cell, end: Cell, operation: Cell, halves: Cell) -> u8
+    ensures { λ r. ⌜ r ≡ lowest (rule 1 (ordered (start .value) (end .value)) ∷ rule 7 (bands (operation .value) (halves .value)) ∷ []) ⌝ }
 {
-    order_and(start, end, 7, banded(operation, half_bands))
+    order_and(start, end, 7, banded(operation, halves))
 }
 
 pub fn of_volt_var(
