@@ -63,7 +63,8 @@ unfolding padded
 padded-length name h = omega (arith, length-append name (replicate (36 - length name) 32), length-replicate {A = ℕ} (36 - length name) 32)
 
 -- the label with its blanks, `=` (61), what stands after it, and LF (10)
-module _ (name s w : List ℕ) (short : length name ≤ 36) (same : s ≡ w) (l : List ℕ) (at a : ℕ) (l₁ : List ℕ) (b : ℕ) (l₂ : List ℕ) (c : ℕ) (l₃ : List ℕ) (r : ℕ) (m : List ℕ) where
+module _ (name s w : List ℕ) (short : length name ≤ 36) (same : s ≡ w)
+    (l : List ℕ) (at a : ℕ) (l₁ : List ℕ) (b : ℕ) (l₂ : List ℕ) (c : ℕ) (l₃ : List ℕ) (r : ℕ) (m : List ℕ) where
   pub line-put : (text : List ℕ) → (a ≡ at + 36) × (l₁ ≡ sets l at text) → text ≡ padded name → (b ≡ a + 1) × (l₂ ≡ sets l₁ a (61 ∷ []))
       → Was l₂ b (after s) c l₃ → (r ≡ c + 1) × (m ≡ sets l₃ c (10 ∷ [])) → Was l at (linesText (paramLine name w ∷ [])) r m
   unfolding linesText paramLine

@@ -47,9 +47,10 @@ abbrev pub belowRow : List ℕ
 belowRow = 10 ∷ aboveRow
 
 -- a column of texts
-module _ (l : Layout) (col : List (List ℕ)) (out : List ℕ) (at a : ℕ) (l₁ : List ℕ) (b : ℕ) (l₂ : List ℕ) (c : ℕ) (l₃ : List ℕ) (d : ℕ) (l₄ : List ℕ) (e : ℕ) (l₅ : List ℕ)
-    (q : ℕ) (m : List ℕ) where
-  pub written-put : Was out at (bannerOf l) a l₁ → (b ≡ a + 1) × (l₂ ≡ sets l₁ a (10 ∷ [])) → Was l₂ b (linesText (linesWith l col)) c l₃ → Was l₃ c aboveRow d l₄
+module _ (l : Layout) (col : List (List ℕ)) (out : List ℕ) (at a : ℕ) (l₁ : List ℕ) (b : ℕ) (l₂ : List ℕ)
+    (c : ℕ) (l₃ : List ℕ) (d : ℕ) (l₄ : List ℕ) (e : ℕ) (l₅ : List ℕ) (q : ℕ) (m : List ℕ) where
+  pub written-put : Was out at (bannerOf l) a l₁ → (b ≡ a + 1) × (l₂ ≡ sets l₁ a (10 ∷ []))
+      → Was l₂ b (linesText (linesWith l col)) c l₃ → Was l₃ c aboveRow d l₄
       → (row : List ℕ) → row ≡ rowOf l col → Was l₄ d row e l₅ → Was l₅ e belowRow q m → Was out at (writtenOf l col) q m
   unfolding writtenOf linesText block
   written-put banner empty lines above row is put below =
@@ -60,9 +61,10 @@ module _ (l : Layout) (col : List (List ℕ)) (out : List ℕ) (at a : ℕ) (l�
       (then (puts {t = aboveRow} above) (then (puts {t = rowOf l col} own) (puts {t = belowRow} below)))))
 
 -- the texts of a record's values
-module _ (l : Layout) (r : Rooms) (cells : List Cell) (out : List ℕ) (at a : ℕ) (l₁ : List ℕ) (b : ℕ) (l₂ : List ℕ) (c : ℕ) (l₃ : List ℕ) (d : ℕ) (l₄ : List ℕ) (e : ℕ) (l₅ : List ℕ)
-    (q : ℕ) (m : List ℕ) where
-  pub message-put : Was out at (bannerOf l) a l₁ → (b ≡ a + 1) × (l₂ ≡ sets l₁ a (10 ∷ [])) → Was l₂ b (linesText (linesOf l r cells)) c l₃ → Was l₃ c aboveRow d l₄
+module _ (l : Layout) (r : Rooms) (cells : List Cell) (out : List ℕ) (at a : ℕ) (l₁ : List ℕ) (b : ℕ) (l₂ : List ℕ)
+    (c : ℕ) (l₃ : List ℕ) (d : ℕ) (l₄ : List ℕ) (e : ℕ) (l₅ : List ℕ) (q : ℕ) (m : List ℕ) where
+  pub message-put : Was out at (bannerOf l) a l₁ → (b ≡ a + 1) × (l₂ ≡ sets l₁ a (10 ∷ []))
+      → Was l₂ b (linesText (linesOf l r cells)) c l₃ → Was l₃ c aboveRow d l₄
       → Was l₄ d (rowOf l (columnOf l r cells)) e l₅ → Was l₅ e belowRow q m → Was out at (messageText l r cells) q m
   unfolding messageText
   message-put banner empty lines above row below =

@@ -55,10 +55,10 @@ pub fn put_copied(
 {
     let head = banner::put(out, at, l);
     let body = put::put_byte(out, head, b'\n');
-    let ended = body::put_text_lines(out, body, l, file, places);
-    let from = put::put_text(out, ended, b"+++++\n");
+    let listed = body::put_text_lines(out, body, l, file, places);
+    let from = put::put_text(out, listed, b"+++++\n");
     let a = row.from as usize;
     let z = row.to as usize;
-    let end = put::put_text(out, from, &file[a..z]);
-    put::put_text(out, end, b"\n+++++\n")
+    let past = put::put_text(out, from, &file[a..z]);
+    put::put_text(out, past, b"\n+++++\n")
 }

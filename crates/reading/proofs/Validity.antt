@@ -60,7 +60,8 @@ message-at s file (next no-13 (next no-1 n)) =
     answer-no 13 (s .detail) (eqb (s .number) 13) _ (bodyIn (s .kind) file) no-13
     ∙ answer-no 1 0 (eqb (s .number) 1) _ (bodyIn (s .kind) file) no-1
 
-at-accepted : (s : Sought) (file : List ℕ) → answerAt s file .number ≡ 0 → Accepted (s .kind) (unitIn s) file × (answerAt s file ≡ messageOf (s .kind) (unitIn s) file)
+at-accepted : (s : Sought) (file : List ℕ) → answerAt s file .number ≡ 0
+    → Accepted (s .kind) (unitIn s) file × (answerAt s file ≡ messageOf (s .kind) (unitIn s) file)
 unfolding answerAt
 at-accepted s file h =
     let e = message-at s file (accepted-none (planned s file) (bodyIn (s .kind) file) (numbers s file) h) in

@@ -10,11 +10,11 @@ use native.Mathlib.Omega.{arith}
 
 -- ---- places
 
-abbrev begun : tie.After-put → tie.Start
-begun p = p .before .before .before .before .before
+abbrev begun : tie.After-of-field → tie.Start
+begun c = c .before .before .before .before
 
 abbrev labelled : tie.After-put-byte → tie.After-put
-labelled e = e .before .before .before .before
+labelled c = c .before .before .before .before
 
 -- `=` is put: of an empty text nothing else; of another a space and the text
 abbrev empty : tie.After-slice-known4 → tie.Then1
@@ -39,7 +39,7 @@ returns c =
     let none = empty c in
     let equals = equals-empty none in
     let padded = labelled equals in
-    let s = begun padded in
+    let s = begun (padded .before) in
     let a = s .args in
     line-put (labelAt (a .l) (a .k)) (a .text .now) _ (label-short (a .l) (a .k) (s .pre .1) (s .pre .2)) refl
     _ _ _ (padded .put .last .0) _ (equals .put-byte .last .0) _ _ _ _
@@ -53,7 +53,7 @@ returns-2 c =
     let some = space .before .before in
     let equals = equals-said some in
     let padded = labelled equals in
-    let s = begun padded in
+    let s = begun (padded .before) in
     let a = s .args in
     line-put (labelAt (a .l) (a .k)) (a .text .now) _ (label-short (a .l) (a .k) (s .pre .1) (s .pre .2)) refl
     _ _ _ (padded .put .last .0) _ (equals .put-byte .last .0) _ (text-put .put-text .last .0) _ _
