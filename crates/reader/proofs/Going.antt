@@ -43,7 +43,8 @@ abbrev pub numbered : ℕ → ℕ → Reading → Reading
 numbered n d r = record { number = n; detail = d; layout = r .layout; row = r .row; cells = r .cells; gradients = r .gradients; places = r .places }
 
 abbrev pub celled : List Cell → Reading → Reading
-celled cells r = record { number = r .number; detail = r .detail; layout = r .layout; row = r .row; cells = cells; gradients = r .gradients; places = r .places }
+celled cells r =
+    record { number = r .number; detail = r .detail; layout = r .layout; row = r .row; cells = cells; gradients = r .gradients; places = r .places }
 
 module _ (c i : ℕ) (plan file : List ℕ) (x : Located) (h : Locates c i plan file x) (z : x .number ≡ 0) (g : GradientsRead)
     (gs : g ≡ gradientsIn (textAt (columnAt (x .layout) file (x .places)) (gradientsField (x .layout)))) (n k : ℕ) (r : Reading)
