@@ -1,5 +1,5 @@
 -- Where each value stands as it is written, the written form of the record is that of the file's own texts. Assumes nothing.
-use Prim.Native.Nat.{ℕ, suc, _-_, _≤_, _<_}
+use Prim.Native.Nat.{ℕ, suc, _+_, _-_, _≤_, _<_}
 use Rattle.fill.proofs.Stored.{SuitsAs, suits}
 use Rattle.fill.specs.Filled.{recordWith}
 use Rattle.layout.proofs.Labels.{kinds-length, kind-at, few}
@@ -39,7 +39,7 @@ use Rattle.writer.specs.declared.Written.{Written}
 use Rattle.written.proofs.Sizes.{message-small}
 use Rattle.written.proofs.Values.{cells-front}
 use Rattle.written.specs.Written.{writtenOf, valuesIn, messageText}
-use lib.ListN.{length, getD, take, replicate}
+use lib.ListN.{length, getD, take, replicate, length-append, length-map, length-replicate}
 use mathlib.Core.Bool.{Bool, true}
 use mathlib.Core.List.{List, [], _∷_, map}
 use mathlib.Core.Path.{_≡_, refl, sym, ap, ap₂, _∙_, subst}
@@ -121,6 +121,10 @@ module _ (ca ioa : ℕ) (plan file : List ℕ) (x : Reading) (reads : Reads ca i
 
   values-length : length values ≡ sizeOf (x .layout)
   values-length = read-length all-read ∙ kinds-length (x .layout)
+
+  pub cells-room : length (x .cells) ≡ 26
+  unfolding cellsOf
+  cells-room = ap length cells-are ∙ simp (length-append, length-map, length-replicate) (omega (arith, values-length, few (x .layout)))
 
   values-are : valuesIn (x .layout) (x .cells) ≡ values
   unfolding valuesIn cellsOf

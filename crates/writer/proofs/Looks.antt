@@ -12,10 +12,12 @@ use Rattle.value.specs.declared.Value.{Value}
 use Rattle.value.specs.declared.Value.the-variants.{Blank}
 use Rattle.writer.specs.Copied.{allWritten}
 use Rattle.written.specs.Written.{valuesIn}
-use borrow.Author.Tests.{not-true, not-false}
+use Rattle.text.proofs.Tests.{and-parts}
+use borrow.Author.Tests.{ltb-true, ltb-false}
+use lib.Dec.{ltb}
 use lib.ListN.{length, getD, take, drop, length-map, drop-of-length-le, List·getD-map}
 use lib.Seq.{drop-cons, length-take-le, getD-take}
-use mathlib.Core.Bool.{Bool, true, false, not, _&&_}
+use mathlib.Core.Bool.{Bool, true, false, _&&_}
 use mathlib.Core.List.{List, [], map}
 use mathlib.Core.Path.{_≡_, refl, sym, ap, ap₂, _∙_, subst}
 use native.Mathlib.Numerals.{add-one}
@@ -77,11 +79,22 @@ module _ (n : ℕ) (small : n ≤ 26) (cells : List Cell) (room : length cells �
         let e : isWritten (getD vs k Blank) (getD col k []) ≡ b = ap₂ isWritten value-there text-there ∙ sym is in
         a .left ∙ one-more vs col k (omega (arith, values-count)) (omega (arith, texts-count)) ∙ ap (λ (x : Bool). x && rest) e
 
-    pub stop : not b ≡ true → false ≡ allWritten vs col
-    stop f = sym (step ∙ ap (λ (x : Bool). x && rest) (not-true b f))
+    pub turn : b ≡ true → Asked n cells file places (k + 1)
+    turn t = rw add-one record { near = h; left = step ∙ ap (λ (x : Bool). x && rest) t }
 
-    pub turn : not b ≡ false → Asked n cells file places (k + 1)
-    turn t = rw add-one record { near = h; left = step ∙ ap (λ (x : Bool). x && rest) (not-false b t) }
+-- ---- while all that were asked stand as they are written
+
+-- what the loop keeps, with whether they do
+abbrev pub Asking : ℕ → List Cell → List ℕ → List Span → Bool → ℕ → Type 0
+Asking n cells file places written k = (k ≤ n) × (written ≡ true → Asked n cells file places k)
+
+-- another is asked only then, and only where one is left
+pub one-left : (written : Bool) (k n : ℕ) → (written && ltb k n) ≡ true → (written ≡ true) × (k < n)
+one-left written k n e = let p = and-parts written (ltb k n) e in (p .0, ltb-true k n (p .1))
+
+-- once it ends, all were asked
+pub none-over : (written : Bool) (k n : ℕ) → (written && ltb k n) ≡ false → written ≡ true → n ≤ k
+none-over written k n e t = ltb-false k n (rw t at e)
 
 -- all fields of a layout
 pub of-layout : (l : Layout) (n : ℕ) → n ≡ sizeOf l → (cells : List Cell) (file : List ℕ) (places : List Span) (b : Bool)

@@ -99,27 +99,6 @@ pub fn write(r: Record, out: &mut [u8]) -> Written
     put_file(l, cells, &unit, &reason, &note, gradients, out)
 }
 
-// Whether each value that was read of a file stands there as it is written.
-fn all_written(l: Layout, cells: [Cell; 26], file: &[u8], places: [Span; 27]) -> bool
-    requires { ⌜ Placed (sizeOf l) (now file) places ⌝ }
-    ensures { λ r. ⌜ r ≡ allWritten (valuesIn l cells) (columnIn (sizeOf l) (now (file .entry)) places) ⌝ }
-{
-    let n = layout::size(l);
-    let mut k = 0;
-    while k < n {
-        let c = cells[k];
-        let v = c.value;
-        let w = places[k + 1];
-        let from = w.from as usize;
-        let to = w.to as usize;
-        if !render::is_written(v, &file[from..to]) {
-            return false;
-        }
-        k += 1;
-    }
-    true
-}
-
 // Brings a file to the written form of its record: the reader's refusals, then 11. Where each value stands as it is written the file's own texts are
 // copied, and else the values are rendered, with the record's texts taken from the file itself.
 pub fn normalise(ca: u32, ioa: u32, plan: &[u8], file: &[u8], out: &mut [u8]) -> Written
@@ -131,12 +110,24 @@ pub fn normalise(ca: u32, ioa: u32, plan: &[u8], file: &[u8], out: &mut [u8]) ->
         return Written::Refused(x.number, x.detail);
     }
     let l = x.layout;
+    let n = layout::size(l);
+    let mut written = true;
+    let mut k = 0;
+    while written & (k < n) {
+        let c = x.cells[k];
+        let v = c.value;
+        let w = x.places[k + 1];
+        let from = w.from as usize;
+        let to = w.to as usize;
+        written = render::is_written(v, &file[from..to]);
+        k += 1;
+    }
     let places = x.places;
-    let cells = x.cells;
-    if all_written(l, cells, file, places) {
+    if written {
         let row = x.row;
         return put_copied(l, file, row, places, out);
     }
+    let cells = x.cells;
     let gradients = x.gradients;
     put_file(
         l,
