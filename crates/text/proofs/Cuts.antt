@@ -313,6 +313,20 @@ module _ (a b : List ℕ) (i : ℕ) (h : i < length a) (k : i < length b) where
   unfolding same
   same-on e = rw (drop-step a i h, drop-step b i k, eq-eqb _ _ e)
 
+-- eight tests of two texts, as one
+pub same-eight : (a b : List ℕ) (i : ℕ) → i + 8 ≤ length a → i + 8 ≤ length b
+    → (eqb (getD a i 0) (getD b i 0)
+    && eqb (getD a (i + 1) 0) (getD b (i + 1) 0)
+    && eqb (getD a (i + 2) 0) (getD b (i + 2) 0)
+    && eqb (getD a (i + 3) 0) (getD b (i + 3) 0)
+    && eqb (getD a (i + 4) 0) (getD b (i + 4) 0)
+    && eqb (getD a (i + 5) 0) (getD b (i + 5) 0)
+    && eqb (getD a (i + 6) 0) (getD b (i + 6) 0)
+    && eqb (getD a (i + 7) 0) (getD b (i + 7) 0))
+    ≡ same (part i (i + 8) a) (part i (i + 8) b)
+unfolding same
+same-eight a b i h k = rw (eight 0 a i h, eight 0 b i k) (simp (and-assoc, and-true))
+
 -- two texts are the same where their first k bytes are, and what follows those
 pub same-cut : (k : ℕ) (a b : List ℕ) → same a b ≡ (same (take k a) (take k b) && same (drop k a) (drop k b))
 unfolding same

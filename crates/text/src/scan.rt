@@ -5,12 +5,20 @@ ghost use Rattle.text.specs.Bytes.{part, same, starts, all, any, is, run
 ghost use lib.ListN.{length, take, drop};
 ghost use mathlib.Core.Path.{_≡_};
 
-// Eight bytes of both from i on, each eight as one number.
+// Eight bytes of both from i on: eight tests without a branch between them, which compile to one compare of two words. (As two numbers of eight
+// bytes they compile to the same, but `alike` is then too large to be taken into its callers: 23 % slower with a plan of 64 rows.)
 fn eight_alike(a: &[u8], b: &[u8], i: usize) -> bool
     requires { ⌜ (i + 8 ≤ length (now a)) × (i + 8 ≤ length (now b)) ⌝ }
     ensures { λ r. ⌜ r ≡ same (part i (i + 8) (now (a .entry))) (part i (i + 8) (now (b .entry))) ⌝ }
 {
-    words::eight(a, i) == words::eight(b, i)
+    (a[i] == b[i])
+        & (a[i + 1] == b[i + 1])
+        & (a[i + 2] == b[i + 2])
+        & (a[i + 3] == b[i + 3])
+        & (a[i + 4] == b[i + 4])
+        & (a[i + 5] == b[i + 5])
+        & (a[i + 6] == b[i + 6])
+        & (a[i + 7] == b[i + 7])
 }
 
 // Four to seven bytes: the first four and the last four, which may overlap.

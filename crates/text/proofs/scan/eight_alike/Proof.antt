@@ -1,21 +1,137 @@
--- As many bytes are the same where their numbers are.
-use Rattle.text.proofs.Loads.{part-same}
+-- Eight tests joined are the test of the two parts.
+use Rattle.text.proofs.Cuts.{same-eight}
 use Rattle.text.proofs.scan.eight_alike.Statement.{statement}
 use Rattle.text.proofs.scan.eight_alike.Tie as tie
 use borrow.Author.Needs.{needs}
 
-eight-requires : tie.Need-eight-requires
-eight-requires c κs = search needs
+shared-slice-read-result : tie.Need-shared-slice-read-result
+shared-slice-read-result c = search needs
 
-eight-requires-2 : tie.Need-eight-requires-2
-eight-requires-2 c κs = search needs
+shared-slice-read-result-2 : tie.Need-shared-slice-read-result-2
+shared-slice-read-result-2 c = search needs
+
+add-result : tie.Need-add-result
+add-result c = search needs
+
+shared-slice-read-result-3 : tie.Need-shared-slice-read-result-3
+shared-slice-read-result-3 c = search needs
+
+add-result-2 : tie.Need-add-result-2
+add-result-2 c = search needs
+
+shared-slice-read-result-4 : tie.Need-shared-slice-read-result-4
+shared-slice-read-result-4 c = search needs
+
+add-result-3 : tie.Need-add-result-3
+add-result-3 c = search needs
+
+shared-slice-read-result-5 : tie.Need-shared-slice-read-result-5
+shared-slice-read-result-5 c = search needs
+
+add-result-4 : tie.Need-add-result-4
+add-result-4 c = search needs
+
+shared-slice-read-result-6 : tie.Need-shared-slice-read-result-6
+shared-slice-read-result-6 c = search needs
+
+add-result-5 : tie.Need-add-result-5
+add-result-5 c = search needs
+
+shared-slice-read-result-7 : tie.Need-shared-slice-read-result-7
+shared-slice-read-result-7 c = search needs
+
+add-result-6 : tie.Need-add-result-6
+add-result-6 c = search needs
+
+shared-slice-read-result-8 : tie.Need-shared-slice-read-result-8
+shared-slice-read-result-8 c = search needs
+
+add-result-7 : tie.Need-add-result-7
+add-result-7 c = search needs
+
+shared-slice-read-result-9 : tie.Need-shared-slice-read-result-9
+shared-slice-read-result-9 c = search needs
+
+add-result-8 : tie.Need-add-result-8
+add-result-8 c = search needs
+
+shared-slice-read-result-10 : tie.Need-shared-slice-read-result-10
+shared-slice-read-result-10 c = search needs
+
+add-result-9 : tie.Need-add-result-9
+add-result-9 c = search needs
+
+shared-slice-read-result-11 : tie.Need-shared-slice-read-result-11
+shared-slice-read-result-11 c = search needs
+
+add-result-10 : tie.Need-add-result-10
+add-result-10 c = search needs
+
+shared-slice-read-result-12 : tie.Need-shared-slice-read-result-12
+shared-slice-read-result-12 c = search needs
+
+add-result-11 : tie.Need-add-result-11
+add-result-11 c = search needs
+
+shared-slice-read-result-13 : tie.Need-shared-slice-read-result-13
+shared-slice-read-result-13 c = search needs
+
+add-result-12 : tie.Need-add-result-12
+add-result-12 c = search needs
+
+shared-slice-read-result-14 : tie.Need-shared-slice-read-result-14
+shared-slice-read-result-14 c = search needs
+
+add-result-13 : tie.Need-add-result-13
+add-result-13 c = search needs
+
+shared-slice-read-result-15 : tie.Need-shared-slice-read-result-15
+shared-slice-read-result-15 c = search needs
+
+add-result-14 : tie.Need-add-result-14
+add-result-14 c = search needs
+
+shared-slice-read-result-16 : tie.Need-shared-slice-read-result-16
+shared-slice-read-result-16 c = search needs
 
 returns : tie.Need-returns
 returns c =
-    let known = c .before .before in
-    let z = known .before .before in
-    part-same (z .args .a .now) (z .args .b .now) (z .args .i) 8 (known .before .shared-slice-known .given) (known .shared-slice-known2 .given) (z .pre .0) (z .pre .1)
-    (c .before .eight .ensures) (c .eight2 .ensures)
+    let eighth = c .before .before .before .before .before .before .before .before in
+    let s = eighth .before .before .before .before .before .before .before .before in
+    same-eight (s .args .a .now) (s .args .b .now) (s .args .i) (s .pre .0) (s .pre .1)
 
 pub eight-alike-spec : {M : Type 1} → statement M
-eight-alike-spec = tie.close (tie.spec eight-requires eight-requires-2 returns)
+eight-alike-spec =
+    tie.close
+    (tie.spec
+    shared-slice-read-result
+    shared-slice-read-result-2
+    add-result
+    shared-slice-read-result-3
+    add-result-2
+    shared-slice-read-result-4
+    add-result-3
+    shared-slice-read-result-5
+    add-result-4
+    shared-slice-read-result-6
+    add-result-5
+    shared-slice-read-result-7
+    add-result-6
+    shared-slice-read-result-8
+    add-result-7
+    shared-slice-read-result-9
+    add-result-8
+    shared-slice-read-result-10
+    add-result-9
+    shared-slice-read-result-11
+    add-result-10
+    shared-slice-read-result-12
+    add-result-11
+    shared-slice-read-result-13
+    add-result-12
+    shared-slice-read-result-14
+    add-result-13
+    shared-slice-read-result-15
+    add-result-14
+    shared-slice-read-result-16
+    returns)
