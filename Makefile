@@ -18,7 +18,7 @@ PREFIX ?= /usr/local
 VERSION = 0.1.0
 LIB = target/staticlib/libgateway.a
 # for make bench alone
-PACE = target/staticlib/libpace.a
+PACE = target/staticlib/libbench_book.a
 CFLAGS ?= -O2
 STRICT = -std=c11 -pedantic -Wall -Wextra -Werror
 
@@ -41,7 +41,7 @@ endif
 
 # what make bench times: the library, or the crates' code compiled for this machine (tools/native)
 TIMED = $(if $(UNPROVED),target/native/libgateway.a,$(LIB))
-TIMED_PACE = $(if $(UNPROVED),target/native/libpace.a,$(PACE))
+TIMED_PACE = $(if $(UNPROVED),target/native/libbench_book.a,$(PACE))
 STACK = $(if $(filter %stack,$(UNPROVED)),target/native/stack,target/host/stack)
 
 test:
@@ -57,8 +57,8 @@ read:
 	@{ printf 'ca=%s\nioa=%s\n' '$(CA)' '$(IOA)'; cat '$(FILE)'; } | (cd examples && ../tools/run halimpung)
 
 values:
-	@rt check values > /dev/null
-	@tools/run values < examples/values.txt
+	@rt check show_values > /dev/null
+	@tools/run show_values < examples/values.txt
 
 fmt:
 	rt fmt
@@ -139,7 +139,7 @@ target/native/lib%.a: crates.txt tools/native tools/native-clang $(shell find cr
 	@tools/native $*
 
 # they share a folder
-target/native/libpace.a: | target/native/libgateway.a
+target/native/libbench_book.a: | target/native/libgateway.a
 
 target/host/stack: $(LIB)
 target/native/stack: target/native/libgateway.a

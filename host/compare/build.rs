@@ -10,7 +10,7 @@ fn main() {
         link("HALIMPUNG_LIB", "../../target/staticlib/libgateway.a");
     }
     if timed {
-        link("HALIMPUNG_PACE_LIB", "../../target/staticlib/libpace.a");
+        link("HALIMPUNG_PACE_LIB", "../../target/staticlib/libbench_book.a");
     }
 }
 

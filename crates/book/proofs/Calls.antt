@@ -14,19 +14,19 @@ use Rattle.book.specs.declared.InForce.{InForce}
 use Rattle.book.specs.declared.InForce.the-variants.{Refused}
 use Rattle.book.specs.declared.fitness.Tally.{Tally}
 use Rattle.book.specs.declared.places.Seat.{Seat}
-use Rattle.asked.specs.Values.{instantIn}
-use Rattle.brief.specs.Brief.{unitOf, startOf, endOf}
-use Rattle.given.proofs.Comes.{instants-fit}
-use Rattle.keyed.specs.Keyed.{keep, insert, greatest, Ascending}
+use Rattle.value_ask.specs.Values.{instantIn}
+use Rattle.report_brief.specs.Brief.{unitOf, startOf, endOf}
+use Rattle.book_source.proofs.Comes.{instants-fit}
+use Rattle.book_lists.specs.Keyed.{keep, insert, greatest, Ascending}
 use Rattle.layout.specs.declared.Layout.{Layout}
-use Rattle.ledger.specs.Calls.{Call, command, revoke, close, firstOf, unfit}
-use Rattle.ledger.specs.Ledger.{answer, effect}
-use Rattle.order.specs.Messages.{isCommand, isRevocation, orderOf, strikeOf}
-use Rattle.order.specs.Orders.{number, nameOf, named, live, pastEnd, strikeAt, already}
-use Rattle.order.specs.declared.Order.{Order}
+use Rattle.book_ledger.specs.Calls.{Call, command, revoke, close, firstOf, unfit}
+use Rattle.book_ledger.specs.Ledger.{answer, effect}
+use Rattle.book_order.specs.Messages.{isCommand, isRevocation, orderOf, strikeOf}
+use Rattle.book_order.specs.Orders.{number, nameOf, named, live, pastEnd, strikeAt, already}
+use Rattle.book_order.specs.declared.Order.{Order}
 use Rattle.record.specs.declared.Record.{Record}
 use Rattle.text.specs.Bytes.{any, same}
-use Rattle.validity.specs.Validity.{isValid}
+use Rattle.record_check.specs.Validity.{isValid}
 use borrow.Author.Tests.{le-leb, lt-leb, lt-ltb, le-ltb, ne-eqb, eqb-false}
 use denote.Enum.Declared.{tagOf}
 use lib.Dec.{eqb, leb}

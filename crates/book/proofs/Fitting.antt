@@ -3,17 +3,17 @@ use Prim.Native.Nat.{ℕ, _≤_, _<_}
 use Rattle.book.specs.Answers.{outcome, freshOf}
 use Rattle.book.specs.Places.{bookOf, zeroBook, fitsAfter, formedUnit}
 use Rattle.book.specs.Steps.{unfitOf}
-use Rattle.brief.specs.Brief.{unitOf, briefOf, toldOf}
-use Rattle.brief.specs.declared.Brief.{Brief}
-use Rattle.name.proofs.RoundTrip.{unit-size}
-use Rattle.name.specs.Names.{isUnit}
-use Rattle.order.proofs.Joined.{three}
-use Rattle.order.specs.Orders.{emptyOrder, couldCome}
-use Rattle.order.specs.declared.Order.{Order}
+use Rattle.report_brief.specs.Brief.{unitOf, briefOf, toldOf}
+use Rattle.report_brief.specs.declared.Brief.{Brief}
+use Rattle.value_name.proofs.RoundTrip.{unit-size}
+use Rattle.value_name.specs.Names.{isUnit}
+use Rattle.book_order.proofs.Joined.{three}
+use Rattle.book_order.specs.Orders.{emptyOrder, couldCome}
+use Rattle.book_order.specs.declared.Order.{Order}
 use Rattle.record.specs.declared.Record.{Record}
-use Rattle.room.specs.Rooms.{keptIn}
+use Rattle.text_room.specs.Rooms.{keptIn}
 use Rattle.text.specs.Bytes.{all, is, same}
-use Rattle.validity.specs.Validity.{isValid}
+use Rattle.record_check.specs.Validity.{isValid}
 use borrow.Author.Tests.{le-leb, lt-leb}
 use lib.Dec.{leb, ltb}
 use lib.ListN.{length, take, drop, replicate}

@@ -6,14 +6,14 @@ use Rattle.book.specs.Places.{packed, bookOf, shelf, formedFrom, formedU
 use Rattle.book.specs.Steps.{leading, withOrders}
 use Rattle.book.specs.declared.Book.{Book}
 use Rattle.book.specs.declared.InForce.the-variants.{Refused}
-use Rattle.keyed.specs.Keyed.{keep}
+use Rattle.book_lists.specs.Keyed.{keep}
 use Rattle.layout.specs.declared.Layout.{Layout}
 use Rattle.layout.specs.declared.Layout.the-variants.{Market, Mfrr, Revocation, Generic, Exclusion, Limitation, Secondary, VoltVar, Rejection, Reserve}
-use Rattle.ledger.specs.Calls.{Call, ask}
-use Rattle.ledger.specs.Ledger.{answer, effect, inForce}
-use Rattle.name.specs.Names.{isUnit}
-use Rattle.order.specs.Orders.{pastEnd, emptyOrder, isZero, isMarket, isEmpty}
-use Rattle.order.specs.declared.Order.{Order}
+use Rattle.book_ledger.specs.Calls.{Call, ask}
+use Rattle.book_ledger.specs.Ledger.{answer, effect, inForce}
+use Rattle.value_name.specs.Names.{isUnit}
+use Rattle.book_order.specs.Orders.{pastEnd, emptyOrder, isZero, isMarket, isEmpty}
+use Rattle.book_order.specs.declared.Order.{Order}
 use Rattle.text.proofs.Tests.{and-parts}
 use Rattle.text.specs.Bytes.{all, is}
 use Rattle.text.specs.Puts.{roomOf}

@@ -4,9 +4,9 @@ use Rattle.book.specs.Places.{shelf, fitsAfter, formedFrom, formedUnit, 
 use Rattle.book.specs.Steps.{leading, tallyOf, orderAt}
 use Rattle.book.specs.declared.Book.{Book}
 use Rattle.book.specs.declared.fitness.Tally.the-variants.{Malformed, Holds}
-use Rattle.keyed.specs.Keyed.{keep, Above, Ascending}
-use Rattle.order.specs.Orders.{number, pastEnd, emptyOrder, isMarket, isEmpty, couldCome}
-use Rattle.order.specs.declared.Order.{Order}
+use Rattle.book_lists.specs.Keyed.{keep, Above, Ascending}
+use Rattle.book_order.specs.Orders.{number, pastEnd, emptyOrder, isMarket, isEmpty, couldCome}
+use Rattle.book_order.specs.declared.Order.{Order}
 use Rattle.text.proofs.Tests.{by-test, and-parts}
 use Rattle.text.specs.Bytes.{all}
 use borrow.Author.Tests.{leb-true, ltb-true, lt-ltb, le-ltb, eqb-true}

@@ -2,7 +2,7 @@
 use Prim.Native.Nat.{ℕ}
 use Rattle.book.specs.Steps.{withOrders}
 use Rattle.book.specs.declared.Book.{Book}
-use Rattle.order.specs.declared.Order.{Order}
+use Rattle.book_order.specs.declared.Order.{Order}
 use mathlib.Core.List.{List}
 use mathlib.Core.Path.{_≡_, ap, _∙_}
 

@@ -1,16 +1,16 @@
 -- The places changed: an order put in, one struck, those past an instant kept; and the last that is in force. Assumes nothing.
 use Prim.Native.Nat.{ℕ, zero, suc, max, _+_, _-_, _≤_, _<_}
-use Rattle.keyed.proofs.Keeping.{keep-append, length-keep}
-use Rattle.keyed.proofs.Sorting.{length-insert}
+use Rattle.book_lists.proofs.Keeping.{keep-append, length-keep}
+use Rattle.book_lists.proofs.Sorting.{length-insert}
 use Rattle.book.proofs.Leading.{Rising}
 use Rattle.book.proofs.Ranks.{rank-within, seat-inside}
 use Rattle.book.specs.Answers.{found}
 use Rattle.book.specs.Places.{packed}
 use Rattle.book.specs.Steps.{rankOf, putIn, orderAt, isHeldAt, seatOf, struckIn}
 use Rattle.book.specs.declared.InForce.the-variants.{Nothing, Number}
-use Rattle.keyed.specs.Keyed.{keep, insert, greatest, Above, Ascending}
-use Rattle.order.specs.Orders.{Strike, number, live, pastEnd, struckOut, strikeAt, emptyOrder}
-use Rattle.order.specs.declared.Order.{Order}
+use Rattle.book_lists.specs.Keyed.{keep, insert, greatest, Above, Ascending}
+use Rattle.book_order.specs.Orders.{Strike, number, live, pastEnd, struckOut, strikeAt, emptyOrder}
+use Rattle.book_order.specs.declared.Order.{Order}
 use Rattle.text.proofs.Tests.{by-test}
 use Rattle.text.specs.Bytes.{upto}
 use borrow.Author.Tests.{leb-true, leb-false, le-ltb, lt-ltb, ne-eqb, eqb-false}

@@ -3,8 +3,8 @@ use Prim.Native.Nat.{ℕ, suc, _+_, _≤_, _<_}
 use Rattle.book.proofs.Leading.{Rising}
 use Rattle.book.specs.Steps.{rankOf, orderAt, isHeldAt, seatOf}
 use Rattle.book.specs.declared.places.Seat.{Seat}
-use Rattle.order.specs.Orders.{Name, Strike, named, emptyOrder, already}
-use Rattle.order.specs.declared.Order.{Order}
+use Rattle.book_order.specs.Orders.{Name, Strike, named, emptyOrder, already}
+use Rattle.book_order.specs.declared.Order.{Order}
 use Rattle.text.proofs.Cuts.{upto-length, upto-here, upto-on, upto-end}
 use Rattle.text.proofs.Tests.{by-test, and-parts}
 use Rattle.text.specs.Bytes.{upto, any}

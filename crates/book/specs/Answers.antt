@@ -6,9 +6,9 @@ use Rattle.book.specs.declared.Book.{Book}
 use Rattle.book.specs.declared.InForce.{InForce}
 use Rattle.book.specs.declared.InForce.the-variants.{Refused, Nothing, Number}
 use Rattle.book.specs.declared.Outcome.{Outcome}
-use Rattle.ledger.specs.Calls.{Call, ask}
-use Rattle.ledger.specs.Ledger.{fresh, answer, step, inForce}
-use Rattle.name.specs.Names.{isUnit}
+use Rattle.book_ledger.specs.Calls.{Call, ask}
+use Rattle.book_ledger.specs.Ledger.{fresh, answer, step, inForce}
+use Rattle.value_name.specs.Names.{isUnit}
 use mathlib.Core.Bool.{cond}
 use mathlib.Core.List.{List}
 

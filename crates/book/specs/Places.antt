@@ -2,11 +2,11 @@
 -- other places are zero; and which books are malformed.
 use Prim.Native.Nat.{ℕ, suc, _-_}
 use Rattle.book.specs.declared.Book.{Book}
-use Rattle.keyed.specs.Keyed.{keep}
-use Rattle.ledger.specs.Ledger.{Ledger}
-use Rattle.name.specs.Names.{isUnit}
-use Rattle.order.specs.Orders.{pastEnd, emptyOrder, isEmpty, couldCome}
-use Rattle.order.specs.declared.Order.{Order}
+use Rattle.book_lists.specs.Keyed.{keep}
+use Rattle.book_ledger.specs.Ledger.{Ledger}
+use Rattle.value_name.specs.Names.{isUnit}
+use Rattle.book_order.specs.Orders.{pastEnd, emptyOrder, isEmpty, couldCome}
+use Rattle.book_order.specs.declared.Order.{Order}
 use Rattle.text.specs.Bytes.{all, is}
 use Rattle.text.specs.Puts.{roomOf}
 use lib.Dec.{leb, ltb}

@@ -5,10 +5,10 @@ use Rattle.book.specs.declared.Book.{Book}
 use Rattle.book.specs.declared.fitness.Tally.{Tally}
 use Rattle.book.specs.declared.fitness.Tally.the-variants.{Malformed, Holds}
 use Rattle.book.specs.declared.places.Seat.{Seat}
-use Rattle.ledger.specs.Calls.{firstOf, unfit}
-use Rattle.order.specs.declared.Order.{Order}
+use Rattle.book_ledger.specs.Calls.{firstOf, unfit}
+use Rattle.book_order.specs.declared.Order.{Order}
 use Rattle.record.specs.declared.Record.{Record}
-use Rattle.order.specs.Orders.{emptyOrder, struckOut}
+use Rattle.book_order.specs.Orders.{emptyOrder, struckOut}
 use Rattle.text.specs.Bytes.{upto}
 use lib.Dec.{leb, ltb, eqb}
 use lib.ListN.{length, getD, take, drop}

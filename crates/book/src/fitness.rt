@@ -1,11 +1,11 @@
 // Whether a call is fit for a book: the book is not malformed, and the message is one for it.
 use crate::Book;
-use order::Order;
+use book_order::Order;
 use record::Record;
 use text::scan;
 ghost use Rattle.book.specs.Places.{fitsAfter, formedUnit};
 ghost use Rattle.book.specs.Steps.{leading, tallyOf, unfitOf};
-ghost use Rattle.order.specs.Orders.{isEmpty};
+ghost use Rattle.book_order.specs.Orders.{isEmpty};
 ghost use Rattle.text.specs.Bytes.{all};
 ghost use lib.ListN.{take, drop};
 ghost use mathlib.Core.Path.{_≡_};
@@ -23,14 +23,14 @@ fn is_formed_unit(size: usize, unit: &[u8]) -> bool
     if 16 < size {
         return false;
     }
-    name::unit::is_unit(scan::front(unit, size)) & scan::are_zero(scan::rest(unit, size))
+    value_name::unit::is_unit(scan::front(unit, size)) & scan::are_zero(scan::rest(unit, size))
 }
 
 // Whether an order may stand after numbers below `least`, in a book with this floor.
 fn fits_after(floor: u32, least: u64, o: Order) -> bool
     ensures { λ r. ⌜ r ≡ fitsAfter floor least o ⌝ }
 {
-    (least <= o.number) & (floor < o.end) & order::could_come(o)
+    (least <= o.number) & (floor < o.end) & book_order::could_come(o)
 }
 
 // The places from the place n on are empty.
@@ -39,7 +39,7 @@ fn are_empty(b: Book, n: usize) -> bool
 {
     let mut i = n;
     while i < 96 {
-        if !order::is_empty(b.orders[i]) {
+        if !book_order::is_empty(b.orders[i]) {
             return false;
         }
         i += 1;
@@ -83,13 +83,13 @@ pub fn count_held(b: Book) -> Tally
 pub fn unfit(b: Book, r: Record, right: bool) -> u8
     ensures { λ n. ⌜ n ≡ unfitOf right (take (b .size) (b .unit)) r ⌝ }
 {
-    if !validity::is_valid(r) {
+    if !record_check::is_valid(r) {
         return 12;
     }
     if !right {
         return 29;
     }
-    let told = brief::of_record(r);
+    let told = report_brief::of_record(r);
     let theirs = told.unit;
     let ours = b.unit;
     if !scan::same(scan::front(&theirs, told.size), scan::front(&ours, b.size)) {

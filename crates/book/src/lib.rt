@@ -3,13 +3,13 @@
 mod fitness;
 mod places;
 
+use book_order::Order;
 use fitness::Tally;
-use name::unit;
-use order::Order;
 use record::Record;
+use value_name::unit;
 ghost use Rattle.book.specs.Answers.{outcome, outcomeOf, freshOf, askedOf};
 ghost use Rattle.book.specs.Places.{zeroBook};
-ghost use Rattle.ledger.specs.Calls.{Call};
+ghost use Rattle.book_ledger.specs.Calls.{Call};
 ghost use mathlib.Core.Path.{_≡_};
 
 // The unit's code stands in the first `size` bytes of its room.
@@ -58,7 +58,7 @@ fn zero() -> Book
         size: 0,
         unit: [0; 16],
         floor: 0,
-        orders: [order::EMPTY; 96],
+        orders: [book_order::EMPTY; 96],
     }
 }
 
@@ -73,9 +73,9 @@ pub fn fresh(unit: &[u8]) -> Outcome
         0,
         Book {
             size: unit.len(),
-            unit: room::keep_unit(unit),
+            unit: text_room::keep_unit(unit),
             floor: 0,
-            orders: [order::EMPTY; 96],
+            orders: [book_order::EMPTY; 96],
         },
     )
 }
@@ -89,11 +89,11 @@ impl Book {
             return answered(20, self);
         };
         let layout = r.layout;
-        let unfit = fitness::unfit(self, r, order::is_command(layout));
+        let unfit = fitness::unfit(self, r, book_order::is_command(layout));
         if unfit != 0 {
             return answered(unfit, self);
         }
-        let o = order::of_record(r);
+        let o = book_order::of_record(r);
         if o.end <= self.floor {
             return answered(23, self);
         }
@@ -116,11 +116,11 @@ impl Book {
             return answered(20, self);
         };
         let layout = r.layout;
-        let unfit = fitness::unfit(self, r, order::is_revocation(layout));
+        let unfit = fitness::unfit(self, r, book_order::is_revocation(layout));
         if unfit != 0 {
             return answered(unfit, self);
         }
-        let n = order::named_by(r);
+        let n = book_order::named_by(r);
         let seat = places::seat_of(self, count, n);
         let at = seat.at;
         if !seat.held {

@@ -1,13 +1,13 @@
 // The places of a book: finding an order, putting one in, striking, closing, and which is in force.
 use crate::Book;
 use crate::InForce;
-use order::Order;
+use book_order::Order;
 ghost use Prim.Native.Nat.{_≤_, _<_};
 ghost use Rattle.book.specs.Answers.{found};
 ghost use Rattle.book.specs.Places.{packed};
 ghost use Rattle.book.specs.Steps.{seatOf, putIn, struckIn, withOrders};
-ghost use Rattle.keyed.specs.Keyed.{keep, greatest, Ascending};
-ghost use Rattle.order.specs.Orders.{number, live, pastEnd};
+ghost use Rattle.book_lists.specs.Keyed.{keep, greatest, Ascending};
+ghost use Rattle.book_order.specs.Orders.{number, live, pastEnd};
 ghost use lib.ListN.{take};
 ghost use mathlib.Core.Path.{_≡_};
 
@@ -78,7 +78,7 @@ pub fn close(b: Book, count: usize, t: u32) -> Book
         size: b.size,
         unit,
         floor: t,
-        orders: [order::EMPTY; 96],
+        orders: [book_order::EMPTY; 96],
     };
     let mut kept = 0;
     let mut i = 0;
@@ -102,7 +102,7 @@ pub fn last_live(b: Book, count: usize, t: u32) -> InForce
     while 0 < i {
         i -= 1;
         let o = b.orders[i];
-        if order::is_live(o, t) {
+        if book_order::is_live(o, t) {
             return InForce::Number(o.number);
         }
     }

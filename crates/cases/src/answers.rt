@@ -2,10 +2,10 @@
 use crate::calls;
 use crate::lookups;
 use crate::said;
-use brief::Brief;
 use layout::Layout;
 use reader::Answer;
 use record::Record;
+use report_brief::Brief;
 use request::Kind;
 use request::Request;
 use request::parts::text_of;
@@ -16,8 +16,8 @@ use said::say_nothing;
 use said::say_number;
 use said::say_refusal;
 use said::say_unknown;
-use sheet::Which;
 use text::scan;
+use times_sheet::Which;
 use value::Value;
 use writer::Written;
 ghost use lib.ListN.{length};
@@ -50,7 +50,7 @@ fn say_ok() {
 
 fn say_instant(v: Value) {
     if let Value::When(d) = v {
-        say_number(date::instant(d));
+        say_number(value_date::instant(d));
         return;
     }
     say_nothing();
@@ -95,7 +95,7 @@ fn say_written(r: Record) {
 }
 
 fn say_record(r: Record) {
-    say_brief(brief::of_record(r));
+    say_brief(report_brief::of_record(r));
     say_blank();
     say_written(r);
 }

@@ -3,9 +3,9 @@ use crate::said::say;
 use crate::said::say_blank;
 use crate::said::say_number;
 use crate::said::say_refusal;
-use sheet::Which;
 use text::scan;
 use times::Time;
+use times_sheet::Which;
 
 // The part that the time's own call hands back.
 fn part<'a>(w: Which, ca: u32, ioa: u32, plan: &[u8], file: &'a [u8], sheet: &'a [u8]) -> &'a [u8] {

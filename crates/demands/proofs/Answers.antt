@@ -1,7 +1,7 @@
 -- What demand 1 says of refusals: whose number and detail they give, and that they leave the output as it was. Assumes nothing.
 use Prim.Native.Nat.{ℕ, _+_, _≤_, _<_}
-use Rattle.brief.proofs.Sizes.{six-length}
-use Rattle.brief.specs.Brief.{sixLines}
+use Rattle.report_brief.proofs.Sizes.{six-length}
+use Rattle.report_brief.specs.Brief.{sixLines}
 use Rattle.demands.specs.Demand1.{isReaders, Leaves}
 use Rattle.gateway.specs.Entry.{lengthOr11, codeOf, outOf}
 use Rattle.plan.specs.Plans.{planOf, soughtOf}
@@ -10,19 +10,19 @@ use Rattle.reader.specs.Refusals.{Given}
 use Rattle.reader.specs.Reader.{valued, labelled, reading, bodyIn, planned, answerAt, readOf}
 use Rattle.reader.specs.Refusals.{Refusal, answer}
 use Rattle.reader.specs.declared.Answer.{Answer}
-use Rattle.reading.proofs.Validity.{read-valid}
+use Rattle.reader_theorems.proofs.Validity.{read-valid}
 use Rattle.record.specs.Records.{zeroRecord}
 use Rattle.record.specs.declared.Record.{Record}
-use Rattle.roundtrip.proofs.RoundTrip.{small-file}
+use Rattle.writer_theorems.proofs.RoundTrip.{small-file}
 use Rattle.text.proofs.Tests.{by-test, eqb-tells, _and_, and-parts}
 use Rattle.text.specs.Bytes.{all}
 use Rattle.text.specs.Puts.{bufferOf}
-use Rattle.valid.specs.Valid.{Valid}
-use Rattle.validity.proofs.Decides.{valid-tells}
-use Rattle.validity.specs.Validity.{isSized, isValid}
+use Rattle.record_valid.specs.Valid.{Valid}
+use Rattle.record_check.proofs.Decides.{valid-tells}
+use Rattle.record_check.specs.Validity.{isSized, isValid}
 use Rattle.writer.specs.Writer.{fitted, writeOf, leftBy, normaliseOf, normalLeft}
 use Rattle.writer.specs.declared.Written.the-variants.{Length, Refused}
-use Rattle.written.specs.Written.{fileOf}
+use Rattle.writer_form.specs.Written.{fileOf}
 use borrow.Author.Tests.{eqb-true, leb-false, lt-leb}
 use lib.Dec.{eqb, leb}
 use lib.ListN.{length}
@@ -90,7 +90,7 @@ module _ (text : Record → List ℕ) (small : (r : Record) → Valid r → leng
       (λ e. let no : 65536 ≤ length t = rw e at h in absurd (omega arith))
       (λ e. no-room t out (leb-false (length t) (length out) e))
 
-  pub entry-leaves : Leaves text
+  pub reader-line-leaves : Leaves text
   unfolding codeOf outOf
   entry-leaves ca ioa plan file out h =
       let a = readOf ca ioa plan file in

@@ -7,15 +7,15 @@ use Rattle.demands.proofs.Unique.{calls, contracts, meets}
 use Rattle.demands.specs.Demand1.{Demand1}
 use Rattle.demands.specs.Demand2.{Demand2, address}
 use Rattle.demands.specs.Demand3.{Demand3}
-use Rattle.name.specs.Names.{isUnit}
+use Rattle.value_name.specs.Names.{isUnit}
 use Rattle.reader.specs.Reader.{unitIn, readOf}
-use Rattle.reading.proofs.Alike.{texts-decide}
-use Rattle.reading.proofs.Small.{detail-small}
-use Rattle.reading.proofs.Validity.{read-valid}
-use Rattle.roundtrip.proofs.Normal.{normal-same}
-use Rattle.roundtrip.proofs.RoundTrip.{round-trip}
-use Rattle.runs.proofs.Theorems.{kept, unkept, asked-refusal, removal, refused-same}
-use Rattle.validity.proofs.Decides.{valid-tells}
+use Rattle.reader_theorems.proofs.Alike.{texts-decide}
+use Rattle.reader_theorems.proofs.Small.{detail-small}
+use Rattle.reader_theorems.proofs.Validity.{read-valid}
+use Rattle.writer_theorems.proofs.Normal.{normal-same}
+use Rattle.writer_theorems.proofs.RoundTrip.{round-trip}
+use Rattle.book_theorems.proofs.Theorems.{kept, unkept, asked-refusal, removal, refused-same}
+use Rattle.record_check.proofs.Decides.{valid-tells}
 use mathlib.Core.Bool.{false}
 use mathlib.Core.List.{List}
 use mathlib.Core.Path.{_≡_, refl}
@@ -50,10 +50,10 @@ demand-2 =
       spaced-alike = λ ca ioa plan f g cf cg lines.
           let s = address ca ioa plan in
           at-same s f g (texts-decide (s .kind) (unitIn s) f g lines cf cg);
-      row-agrees = λ ca ioa plan file h. read-accepted ca ioa plan file h .row-is;
+      reader-row-agrees = λ ca ioa plan file h. read-accepted ca ioa plan file h .row-is;
       comes-back = λ r ca ioa plan v own. round-trip r v ca ioa plan own;
       written = λ r out v room. (written-length r out v room, written-bytes r out v room);
-      valid-exactly = valid-tells;
+      record-valid-exactly = valid-tells;
       normal-form = normal-same;
     }
 

@@ -1,27 +1,27 @@
 -- What demand 2 says of files, at any address of any plan. Assumes nothing.
 use Prim.Native.Nat.{ℕ, _+_, _≤_}
 use Rattle.demands.specs.Demand2.{address}
-use Rattle.lines.specs.Order.{Perm}
-use Rattle.lines.specs.Entries.{again}
-use Rattle.name.specs.declared.MessageType.{MessageType}
+use Rattle.text_lines.specs.Order.{Perm}
+use Rattle.text_lines.specs.Entries.{again}
+use Rattle.value_name.specs.declared.MessageType.{MessageType}
 use Rattle.plan.specs.declared.Sought.{Sought}
 use Rattle.reader.proofs.Firsts.{NoneHolds, none, next, none-given, accepted-none, numbers}
 use Rattle.reader.specs.Messages.{given, rowIn, entriesIn}
 use Rattle.reader.specs.Reader.{Sound, bodyIn, messageOf, unitIn, planned, answerAt, readOf}
 use Rattle.reader.specs.Refusals.{Refusal, refused, answer}
 use Rattle.reader.specs.declared.Answer.{Answer}
-use Rattle.reading.proofs.Agreed.{Accepted, accepted}
-use Rattle.reading.proofs.Alike.{reordered}
+use Rattle.reader_theorems.proofs.Agreed.{Accepted, accepted}
+use Rattle.reader_theorems.proofs.Alike.{reordered}
 use Rattle.record.specs.declared.Record.{Record}
-use Rattle.roundtrip.proofs.RoundTrip.{planned-back, small-file}
+use Rattle.writer_theorems.proofs.RoundTrip.{planned-back, small-file}
 use Rattle.text.proofs.Tests.{or-parts}
 use Rattle.text.specs.Bytes.{any}
 use Rattle.text.specs.Puts.{bufferOf}
-use Rattle.valid.specs.Valid.{Valid}
-use Rattle.validity.proofs.Decides.{valid-tells}
+use Rattle.record_valid.specs.Valid.{Valid}
+use Rattle.record_check.proofs.Decides.{valid-tells}
 use Rattle.writer.specs.Writer.{fitted, writeOf, leftBy}
 use Rattle.writer.specs.declared.Written.the-variants.{Length}
-use Rattle.written.specs.Written.{fileOf}
+use Rattle.writer_form.specs.Written.{fileOf}
 use borrow.Author.Tests.{le-leb}
 use lib.Dec.{eqb}
 use lib.ListN.{length, take, drop}
@@ -110,12 +110,12 @@ module _ (r : Record) (out : List ℕ) (v : Valid r) (room : 8192 ≤ length out
   fits : length (fileOf r) ≤ length out
   fits = omega (arith, small-file r v)
 
-  pub written-length : writeOf r (length out) ≡ Length (length (fileOf r))
+  pub writer-form-length : writeOf r (length out) ≡ Length (length (fileOf r))
   unfolding writeOf fitted
-  written-length = rw (valid-tells r .1 v, le-leb (length (fileOf r)) (length out) fits)
+  writer-form-length = rw (valid-tells r .1 v, le-leb (length (fileOf r)) (length out) fits)
 
-  pub written-bytes : take (length (fileOf r)) (leftBy r out) ≡ fileOf r
+  pub writer-form-bytes : take (length (fileOf r)) (leftBy r out) ≡ fileOf r
   unfolding leftBy bufferOf
-  written-bytes =
+  writer-form-bytes =
       let z : 0 + length (fileOf r) ≤ length out = omega (arith, fits) in
       rw (valid-tells r .1 v, le-leb (0 + length (fileOf r)) (length out) z) (take-append-seam (fileOf r) (drop (0 + length (fileOf r)) out))

@@ -1,20 +1,20 @@
 -- The calls that a caller outside these crates makes: their contracts, and that their code meets them.
 use Rattle.book.proofs as book
-use Rattle.brief.proofs as brief
-use Rattle.date.proofs as date
+use Rattle.report_brief.proofs as report_brief
+use Rattle.value_date.proofs as value_date
 use Rattle.gateway.proofs as gateway
-use Rattle.list.proofs as list
-use Rattle.name.proofs as name
-use Rattle.number.proofs as number
+use Rattle.value_list.proofs as value_list
+use Rattle.value_name.proofs as value_name
+use Rattle.value_number.proofs as value_number
 use Rattle.plan.proofs as plan
 use Rattle.reader.proofs as reader
-use Rattle.render.proofs as render
+use Rattle.value_put.proofs as value_put
 use Rattle.report.proofs as report
-use Rattle.rules.proofs as rules
+use Rattle.record_rules.proofs as record_rules
 use Rattle.times.proofs as times
-use Rattle.validity.proofs as validity
+use Rattle.record_check.proofs as record_check
 use Rattle.value.proofs as value
-use Rattle.word.proofs as word
+use Rattle.value_word.proofs as value_word
 use Rattle.writer.proofs as writer
 use Rattle.demands.specs.Shapes.{Answers, Lends, Writes}
 
@@ -28,9 +28,9 @@ pub record Calls : Type 0 where
   pub reader-read : Answers reader.read.ended reader.read.Reads.Asked reader.read.Reads.Learnt
   pub writer-write : Writes writer.write.ended (λ κs e. e .1 .0 .now) writer.write.Reads.Asked writer.write.Reads.Learnt
   pub writer-normalise : Writes writer.normalise.ended (λ κs e. e .1 .1 .1 .1 .0 .now) writer.normalise.Reads.Asked writer.normalise.Reads.Learnt
-  pub validity-is-valid : Answers validity.is_valid.ended validity.is_valid.Reads.Asked validity.is_valid.Reads.Learnt
-  pub rules-lowest-broken : Answers rules.lowest_broken.ended rules.lowest_broken.Reads.Asked rules.lowest_broken.Reads.Learnt
-  pub brief-of-record : Answers brief.of_record.ended brief.of_record.Reads.Asked brief.of_record.Reads.Learnt
+  pub record-check-is-valid : Answers record_check.is_valid.ended record_check.is_valid.Reads.Asked record_check.is_valid.Reads.Learnt
+  pub record-rules-lowest-broken : Answers record_rules.lowest_broken.ended record_rules.lowest_broken.Reads.Asked record_rules.lowest_broken.Reads.Learnt
+  pub report-brief-of-record : Answers report_brief.of_record.ended report_brief.of_record.Reads.Asked report_brief.of_record.Reads.Learnt
   -- the book: a fresh one, and the four calls
   pub book-fresh : Answers book.fresh.ended book.fresh.Reads.Asked book.fresh.Reads.Learnt
   pub book-command : Answers book.Book.command.ended book.Book.command.Reads.Asked book.Book.command.Reads.Learnt
@@ -48,20 +48,20 @@ pub record Calls : Type 0 where
   pub report-print : Writes report.print.ended (λ κs e. e .0 .now) report.print.Reads.Asked report.print.Reads.Learnt
   -- values: of every kind, read and written
   pub value-read-read : Answers value.read.read.ended value.read.read.Reads.Asked value.read.read.Reads.Learnt
-  pub render-write-value : Writes render.write_value.ended (λ κs e. e .0 .now) render.write_value.Reads.Asked render.write_value.Reads.Learnt
-  pub number-read : Answers number.read.ended number.read.Reads.Asked number.read.Reads.Learnt
-  pub date-read : Answers date.read.ended date.read.Reads.Asked date.read.Reads.Learnt
-  pub date-is-real : Answers date.is_real.ended date.is_real.Reads.Asked date.is_real.Reads.Learnt
-  pub date-instant : Answers date.instant.ended date.instant.Reads.Asked date.instant.Reads.Learnt
-  pub date-is-before : Answers date.is_before.ended date.is_before.Reads.Asked date.is_before.Reads.Learnt
-  pub name-identifier-read : Answers name.identifier.read.ended name.identifier.read.Reads.Asked name.identifier.read.Reads.Learnt
-  pub name-sequence-read : Answers name.sequence.read.ended name.sequence.read.Reads.Asked name.sequence.read.Reads.Learnt
-  pub name-unit-is-unit : Answers name.unit.is_unit.ended name.unit.is_unit.Reads.Asked name.unit.is_unit.Reads.Learnt
-  pub name-code : Answers name.code.ended name.code.Reads.Asked name.code.Reads.Learnt
-  pub word-read : Answers word.read.ended word.read.Reads.Asked word.read.Reads.Learnt
-  pub list-few-read-profile : Answers list.few.read_profile.ended list.few.read_profile.Reads.Asked list.few.read_profile.Reads.Learnt
-  pub list-few-read-bands : Answers list.few.read_bands.ended list.few.read_bands.Reads.Asked list.few.read_bands.Reads.Learnt
-  pub list-triples-read : Answers list.triples.read.ended list.triples.read.Reads.Asked list.triples.read.Reads.Learnt
+  pub value-put-write-value : Writes value_put.write_value.ended (λ κs e. e .0 .now) value_put.write_value.Reads.Asked value_put.write_value.Reads.Learnt
+  pub value-number-read : Answers value_number.read.ended value_number.read.Reads.Asked value_number.read.Reads.Learnt
+  pub value-date-read : Answers value_date.read.ended value_date.read.Reads.Asked value_date.read.Reads.Learnt
+  pub value-date-is-real : Answers value_date.is_real.ended value_date.is_real.Reads.Asked value_date.is_real.Reads.Learnt
+  pub value-date-instant : Answers value_date.instant.ended value_date.instant.Reads.Asked value_date.instant.Reads.Learnt
+  pub value-date-is-before : Answers value_date.is_before.ended value_date.is_before.Reads.Asked value_date.is_before.Reads.Learnt
+  pub value-name-identifier-read : Answers value_name.identifier.read.ended value_name.identifier.read.Reads.Asked value_name.identifier.read.Reads.Learnt
+  pub value-name-sequence-read : Answers value_name.sequence.read.ended value_name.sequence.read.Reads.Asked value_name.sequence.read.Reads.Learnt
+  pub value-name-unit-is-unit : Answers value_name.unit.is_unit.ended value_name.unit.is_unit.Reads.Asked value_name.unit.is_unit.Reads.Learnt
+  pub value-name-code : Answers value_name.code.ended value_name.code.Reads.Asked value_name.code.Reads.Learnt
+  pub value-word-read : Answers value_word.read.ended value_word.read.Reads.Asked value_word.read.Reads.Learnt
+  pub value-list-few-read-profile : Answers value_list.few.read_profile.ended value_list.few.read_profile.Reads.Asked value_list.few.read_profile.Reads.Learnt
+  pub value-list-few-read-bands : Answers value_list.few.read_bands.ended value_list.few.read_bands.Reads.Asked value_list.few.read_bands.Reads.Learnt
+  pub value-list-triples-read : Answers value_list.triples.read.ended value_list.triples.read.Reads.Asked value_list.triples.read.Reads.Learnt
 
 -- In every model of the program logic the code of each meets its contract: it ends, and with an answer that the contract allows. (The code's own theorems)
 pub record Meets : Type 2 where
@@ -70,7 +70,7 @@ pub record Meets : Type 2 where
   pub reader-read : (M : Type 1) → reader.read.Statement.statement M
   pub writer-write : (M : Type 1) → writer.write.Statement.statement M
   pub writer-normalise : (M : Type 1) → writer.normalise.Statement.statement M
-  pub validity-is-valid : (M : Type 1) → validity.is_valid.Statement.statement M
+  pub record-check-is-valid : (M : Type 1) → record_check.is_valid.Statement.statement M
   pub book-fresh : (M : Type 1) → book.fresh.Statement.statement M
   pub book-command : (M : Type 1) → book.Book.command.Statement.statement M
   pub book-revoke : (M : Type 1) → book.Book.revoke.Statement.statement M

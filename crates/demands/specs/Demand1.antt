@@ -3,11 +3,11 @@
 use Prim.Native.Nat.{ℕ, _≤_, _<_}
 use Rattle.book.specs.Answers.{outcomeOf, askedOf}
 use Rattle.book.specs.declared.Book.{Book}
-use Rattle.brief.specs.Brief.{sixLines}
+use Rattle.report_brief.specs.Brief.{sixLines}
 use Rattle.demands.specs.Calls.{Calls, Meets}
 use Rattle.demands.specs.Contracts.{Contracts}
 use Rattle.gateway.specs.Entry.{codeOf, outOf}
-use Rattle.ledger.specs.Calls.{Call}
+use Rattle.book_ledger.specs.Calls.{Call}
 use Rattle.plan.specs.Plans.{planOf, soughtOf}
 use Rattle.reader.specs.Refusals.{Given}
 use Rattle.reader.specs.Reader.{planned, readOf}
@@ -15,7 +15,7 @@ use Rattle.record.specs.Records.{zeroRecord}
 use Rattle.record.specs.declared.Record.{Record}
 use Rattle.writer.specs.Writer.{writeOf, leftBy, normaliseOf, normalLeft}
 use Rattle.writer.specs.declared.Written.the-variants.{Refused}
-use Rattle.written.specs.Written.{fileOf}
+use Rattle.writer_form.specs.Written.{fileOf}
 use lib.Dec.{eqb, leb}
 use lib.ListN.{length}
 use mathlib.Core.Bool.{Bool, true, _||_}

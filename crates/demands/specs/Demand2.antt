@@ -1,23 +1,23 @@
 -- Demand 2, sentence by sentence, over the definitions that the contracts name. (`Clean`, allowed size and bytes, and `Sound`, separators too, are in
--- reading/proofs/Alike.antt; `Perm`, another order, in lines/proofs/Order.antt; `bodyColumn`, the body's values, in reading/proofs/Agreed.antt)
+-- reader_theorems/proofs/Alike.antt; `Perm`, another order, in text_lines/proofs/Order.antt; `bodyColumn`, the body's values, in reader_theorems/proofs/Agreed.antt)
 use Prim.Native.Nat.{ℕ, _≤_}
 use Rattle.layout.specs.Rows.{rowOf}
-use Rattle.lines.specs.Order.{Perm}
-use Rattle.lines.specs.Entries.{again}
-use Rattle.lines.specs.Lines.{texts}
+use Rattle.text_lines.specs.Order.{Perm}
+use Rattle.text_lines.specs.Entries.{again}
+use Rattle.text_lines.specs.Lines.{texts}
 use Rattle.plan.specs.Plans.{planOf, soughtOf}
 use Rattle.plan.specs.declared.Sought.{Sought}
 use Rattle.reader.specs.Messages.{given, rowIn, layoutIn, entriesIn}
 use Rattle.reader.specs.Reader.{Clean, Sound, bodyColumn, bodyIn, planned, readOf}
 use Rattle.reader.specs.Refusals.{Refusal, accepted}
 use Rattle.record.specs.declared.Record.{Record}
-use Rattle.roundtrip.specs.Own.{OwnAddress}
+use Rattle.writer_theorems.specs.Own.{OwnAddress}
 use Rattle.text.specs.Bytes.{any}
-use Rattle.valid.specs.Valid.{Valid}
-use Rattle.validity.specs.Validity.{isValid}
+use Rattle.record_valid.specs.Valid.{Valid}
+use Rattle.record_check.specs.Validity.{isValid}
 use Rattle.writer.specs.Writer.{writeOf, leftBy}
 use Rattle.writer.specs.declared.Written.the-variants.{Length}
-use Rattle.written.specs.Written.{fileOf}
+use Rattle.writer_form.specs.Written.{fileOf}
 use lib.ListN.{length, take}
 use mathlib.Core.Bool.{true, false}
 use mathlib.Core.List.{List, []}
@@ -53,7 +53,7 @@ pub record Demand2 : Type 0 where
   -- and with other blanks at the ends of its lines and other line ends
   pub spaced-alike : (ca ioa : ℕ) (plan f g : List ℕ) → Clean f → Clean g → texts f ≡ texts g → readOf ca ioa plan f ≡ readOf ca ioa plan g
   -- "Its summary row agrees with its body byte for byte."
-  pub row-agrees : (ca ioa : ℕ) (plan file : List ℕ)
+  pub reader-row-agrees : (ca ioa : ℕ) (plan file : List ℕ)
       → readOf ca ioa plan file .number ≡ 0
       → rowIn file ≡ rowOf (layoutIn (address ca ioa plan .kind) (given file)) (bodyColumn (address ca ioa plan .kind) file)
   -- "A valid record, written and read at its own address, comes back the same."
@@ -62,7 +62,7 @@ pub record Demand2 : Type 0 where
   pub written : (r : Record) (out : List ℕ) → Valid r
       → 8192 ≤ length out
       → (writeOf r (length out) ≡ Length (length (fileOf r))) × (take (length (fileOf r)) (leftBy r out) ≡ fileOf r)
-  pub valid-exactly : (r : Record) → isValid r ≡ true ↔ Valid r
+  pub record-valid-exactly : (r : Record) → isValid r ≡ true ↔ Valid r
   -- the normaliser: the written form of what was read gives the same answer
   pub normal-form : (ca ioa : ℕ) (plan file : List ℕ)
       → readOf ca ioa plan file .number ≡ 0

@@ -1,12 +1,12 @@
--- Demand 3, sentence by sentence: what `Kept`, `Revoked` and `LeftOut` say is in runs/specs/Books.antt and ledger/specs/Demand.antt.
+-- Demand 3, sentence by sentence: what `Kept`, `Revoked` and `LeftOut` say is in book_theorems/specs/Books.antt and book_ledger/specs/Demand.antt.
 use Prim.Native.Nat.{ℕ}
 use Rattle.book.specs.Answers.{codeOf, refusalIn, askedOf, freshOf}
 use Rattle.book.specs.declared.Book.{Book}
-use Rattle.ledger.specs.Calls.{Call, ask}
-use Rattle.ledger.specs.Demand.{Revoked, LeftOut}
-use Rattle.name.specs.Names.{isUnit}
+use Rattle.book_ledger.specs.Calls.{Call, ask}
+use Rattle.book_ledger.specs.Demand.{Revoked, LeftOut}
+use Rattle.value_name.specs.Names.{isUnit}
 use Rattle.record.specs.declared.Record.{Record}
-use Rattle.runs.specs.Books.{books, bookFor, after, Kept}
+use Rattle.book_theorems.specs.Books.{books, bookFor, after, Kept}
 use mathlib.Core.Bool.{true, false}
 use mathlib.Core.List.{List}
 use mathlib.Core.Path.{_≡_}

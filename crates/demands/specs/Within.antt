@@ -1,39 +1,39 @@
 -- The functions that are public because crates above call them: one answer at most satisfies the contract of each. What some of them ask of the caller is
 -- in docs/DECISIONS.md, D10; the others ask nothing (`Answers`, `Writes`, `Lends`).
 -- Not here are four whose contract leaves open where things stand in a file (an empty text stands in many places), since no answer of the reader depends on
--- it (reader/specs/State.antt): `lines::trim_span`, `entry::line_of`, `walk::walk` and `reader::judged`.
-use Rattle.address.proofs as address
-use Rattle.asked.proofs as asked
-use Rattle.banner.proofs as banner
-use Rattle.body.proofs as body
-use Rattle.brief.proofs as brief
-use Rattle.compose.proofs as compose
-use Rattle.date.proofs as date
+-- it (reader/specs/State.antt): `text_lines::trim_span`, `reader_line::line_of`, `reader_walk::walk` and `reader::judged`.
+use Rattle.plan_row.proofs as plan_row
+use Rattle.value_ask.proofs as value_ask
+use Rattle.layout_banner.proofs as layout_banner
+use Rattle.writer_lines.proofs as writer_lines
+use Rattle.report_brief.proofs as report_brief
+use Rattle.writer_message.proofs as writer_message
+use Rattle.value_date.proofs as value_date
 use Rattle.demands.specs.Shapes.{Answers, Lends, OneOutput, OneResult, OneText}
-use Rattle.entry.proofs as entry
-use Rattle.fill.proofs as fill
-use Rattle.fit.proofs as fit
-use Rattle.keyline.proofs as keyline
-use Rattle.kind.proofs as kind
-use Rattle.label.proofs as label
+use Rattle.reader_line.proofs as reader_line
+use Rattle.reader_fill.proofs as reader_fill
+use Rattle.value_fits.proofs as value_fits
+use Rattle.text_keyline.proofs as text_keyline
+use Rattle.layout_kind.proofs as layout_kind
+use Rattle.layout_label.proofs as layout_label
 use Rattle.layout.proofs as layout
-use Rattle.lines.proofs as lines
-use Rattle.list.proofs as list
-use Rattle.name.proofs as name
-use Rattle.number.proofs as number
-use Rattle.order.proofs as order
+use Rattle.text_lines.proofs as text_lines
+use Rattle.value_list.proofs as value_list
+use Rattle.value_name.proofs as value_name
+use Rattle.value_number.proofs as value_number
+use Rattle.book_order.proofs as book_order
 use Rattle.reader.proofs as reader
 use Rattle.record.proofs as records
-use Rattle.render.proofs as render
+use Rattle.value_put.proofs as value_put
 use Rattle.report.proofs as report
-use Rattle.room.proofs as room
-use Rattle.row.proofs as row
-use Rattle.rules.proofs as rules
-use Rattle.sheet.proofs as sheet
-use Rattle.summary.proofs as summary
+use Rattle.text_room.proofs as text_room
+use Rattle.reader_row.proofs as reader_row
+use Rattle.record_rules.proofs as record_rules
+use Rattle.times_sheet.proofs as times_sheet
+use Rattle.writer_row.proofs as writer_row
 use Rattle.text.proofs as text
-use Rattle.voltvar.proofs as voltvar
-use Rattle.word.proofs as word
+use Rattle.record_voltvar.proofs as record_voltvar
+use Rattle.value_word.proofs as value_word
 
 pub record Within : Type 0 where
   -- text
@@ -60,125 +60,125 @@ pub record Within : Type 0 where
   pub text-words-four : OneResult text.words.four.ended text.words.four.Reads.Learnt
   pub text-words-put-word : OneOutput text.words.put_word.ended (λ κs e. e .0 .now) text.words.put_word.Reads.Learnt
   pub text-words-put-half : OneOutput text.words.put_half.ended (λ κs e. e .0 .now) text.words.put_half.Reads.Learnt
-  -- word
-  pub word-put : OneOutput word.put.ended (λ κs e. e .0 .now) word.put.Reads.Learnt
-  -- date
-  pub date-put : OneOutput date.put.ended (λ κs e. e .0 .now) date.put.Reads.Learnt
-  -- number
-  pub number-are-short : Answers number.are_short.ended number.are_short.Reads.Asked number.are_short.Reads.Learnt
-  pub number-read-part : OneResult number.read_part.ended number.read_part.Reads.Learnt
-  pub number-put : OneOutput number.put.ended (λ κs e. e .0 .now) number.put.Reads.Learnt
-  -- name
-  pub name-unit-run : Answers name.unit.run.ended name.unit.run.Reads.Asked name.unit.run.Reads.Learnt
-  pub name-identifier-put : OneOutput name.identifier.put.ended (λ κs e. e .0 .now) name.identifier.put.Reads.Learnt
-  -- lines
-  pub lines-plain-run : Answers lines.plain_run.ended lines.plain_run.Reads.Asked lines.plain_run.Reads.Learnt
-  pub lines-break-at : OneResult lines.break_at.ended lines.break_at.Reads.Learnt
-  pub lines-is-separator : Answers lines.is_separator.ended lines.is_separator.Reads.Asked lines.is_separator.Reads.Learnt
-  -- room
-  pub room-keep-unit : Answers room.keep_unit.ended room.keep_unit.Reads.Asked room.keep_unit.Reads.Learnt
-  pub room-keep-reason : Answers room.keep_reason.ended room.keep_reason.Reads.Asked room.keep_reason.Reads.Learnt
-  pub room-keep-note : Answers room.keep_note.ended room.keep_note.Reads.Asked room.keep_note.Reads.Learnt
-  -- list
-  pub list-few-read : OneResult list.few.read.ended list.few.read.Reads.Learnt
-  pub list-few-put : OneOutput list.few.put.ended (λ κs e. e .0 .now) list.few.put.Reads.Learnt
-  pub list-triples-none : Answers list.triples.none.ended list.triples.none.Reads.Asked list.triples.none.Reads.Learnt
-  pub list-triples-put : OneOutput list.triples.put.ended (λ κs e. e .0 .now) list.triples.put.Reads.Learnt
-  -- keyline
-  pub keyline-line-of : Answers keyline.line_of.ended keyline.line_of.Reads.Asked keyline.line_of.Reads.Learnt
-  pub keyline-value : Lends keyline.value.ended (λ κs z. z .now) keyline.value.Reads.Asked keyline.value.Reads.Learnt
-  pub keyline-below : Lends keyline.below.ended (λ κs z. z .now) keyline.below.Reads.Asked keyline.below.Reads.Learnt
-  pub keyline-whole : Answers keyline.whole.ended keyline.whole.Reads.Asked keyline.whole.Reads.Learnt
-  pub keyline-number : Answers keyline.number.ended keyline.number.Reads.Asked keyline.number.Reads.Learnt
-  -- address
-  pub address-sought-key : Answers address.sought_key.ended address.sought_key.Reads.Asked address.sought_key.Reads.Learnt
-  pub address-row-at : OneResult address.row_at.ended address.row_at.Reads.Learnt
-  -- sheet
-  pub sheet-is-for : Answers sheet.is_for.ended sheet.is_for.Reads.Asked sheet.is_for.Reads.Learnt
-  pub sheet-time-part : OneResult sheet.time_part.ended sheet.time_part.Reads.Learnt
-  -- render
-  pub render-is-written : Answers render.is_written.ended render.is_written.Reads.Asked render.is_written.Reads.Learnt
-  pub render-put-value : OneOutput render.put_value.ended (λ κs e. e .0 .now) render.put_value.Reads.Learnt
+  -- value_word
+  pub value-word-put : OneOutput value_word.put.ended (λ κs e. e .0 .now) value_word.put.Reads.Learnt
+  -- value_date
+  pub value-date-put : OneOutput value_date.put.ended (λ κs e. e .0 .now) value_date.put.Reads.Learnt
+  -- value_number
+  pub value-number-are-short : Answers value_number.are_short.ended value_number.are_short.Reads.Asked value_number.are_short.Reads.Learnt
+  pub value-number-read-part : OneResult value_number.read_part.ended value_number.read_part.Reads.Learnt
+  pub value-number-put : OneOutput value_number.put.ended (λ κs e. e .0 .now) value_number.put.Reads.Learnt
+  -- value_name
+  pub value-name-unit-run : Answers value_name.unit.run.ended value_name.unit.run.Reads.Asked value_name.unit.run.Reads.Learnt
+  pub value-name-identifier-put : OneOutput value_name.identifier.put.ended (λ κs e. e .0 .now) value_name.identifier.put.Reads.Learnt
+  -- text_lines
+  pub text-lines-plain-run : Answers text_lines.plain_run.ended text_lines.plain_run.Reads.Asked text_lines.plain_run.Reads.Learnt
+  pub text-lines-break-at : OneResult text_lines.break_at.ended text_lines.break_at.Reads.Learnt
+  pub text-lines-is-separator : Answers text_lines.is_separator.ended text_lines.is_separator.Reads.Asked text_lines.is_separator.Reads.Learnt
+  -- text_room
+  pub text-room-keep-unit : Answers text_room.keep_unit.ended text_room.keep_unit.Reads.Asked text_room.keep_unit.Reads.Learnt
+  pub text-room-keep-reason : Answers text_room.keep_reason.ended text_room.keep_reason.Reads.Asked text_room.keep_reason.Reads.Learnt
+  pub text-room-keep-note : Answers text_room.keep_note.ended text_room.keep_note.Reads.Asked text_room.keep_note.Reads.Learnt
+  -- value_list
+  pub value-list-few-read : OneResult value_list.few.read.ended value_list.few.read.Reads.Learnt
+  pub value-list-few-put : OneOutput value_list.few.put.ended (λ κs e. e .0 .now) value_list.few.put.Reads.Learnt
+  pub value-list-triples-none : Answers value_list.triples.none.ended value_list.triples.none.Reads.Asked value_list.triples.none.Reads.Learnt
+  pub value-list-triples-put : OneOutput value_list.triples.put.ended (λ κs e. e .0 .now) value_list.triples.put.Reads.Learnt
+  -- text_keyline
+  pub text-keyline-line-of : Answers text_keyline.line_of.ended text_keyline.line_of.Reads.Asked text_keyline.line_of.Reads.Learnt
+  pub text-keyline-value : Lends text_keyline.value.ended (λ κs z. z .now) text_keyline.value.Reads.Asked text_keyline.value.Reads.Learnt
+  pub text-keyline-below : Lends text_keyline.below.ended (λ κs z. z .now) text_keyline.below.Reads.Asked text_keyline.below.Reads.Learnt
+  pub text-keyline-whole : Answers text_keyline.whole.ended text_keyline.whole.Reads.Asked text_keyline.whole.Reads.Learnt
+  pub text-keyline-number : Answers text_keyline.number.ended text_keyline.number.Reads.Asked text_keyline.number.Reads.Learnt
+  -- plan_row
+  pub plan-row-sought-key : Answers plan_row.sought_key.ended plan_row.sought_key.Reads.Asked plan_row.sought_key.Reads.Learnt
+  pub plan-row-row-at : OneResult plan_row.row_at.ended plan_row.row_at.Reads.Learnt
+  -- times_sheet
+  pub times-sheet-is-for : Answers times_sheet.is_for.ended times_sheet.is_for.Reads.Asked times_sheet.is_for.Reads.Learnt
+  pub times-sheet-time-part : OneResult times_sheet.time_part.ended times_sheet.time_part.Reads.Learnt
+  -- value_put
+  pub value-put-is-written : Answers value_put.is_written.ended value_put.is_written.Reads.Asked value_put.is_written.Reads.Learnt
+  pub value-put-put-value : OneOutput value_put.put_value.ended (λ κs e. e .0 .now) value_put.put_value.Reads.Learnt
   -- layout
   pub layout-type-of : Answers layout.type_of.ended layout.type_of.Reads.Asked layout.type_of.Reads.Learnt
   pub layout-of-type : Answers layout.of_type.ended layout.of_type.Reads.Asked layout.of_type.Reads.Learnt
   pub layout-size : Answers layout.size.ended layout.size.Reads.Asked layout.size.Reads.Learnt
   pub layout-row-size : Answers layout.row.size.ended layout.row.size.Reads.Asked layout.row.size.Reads.Learnt
   pub layout-row-field : OneResult layout.row.field.ended layout.row.field.Reads.Learnt
-  -- asked
-  pub asked-is-filled : Answers asked.is_filled.ended asked.is_filled.Reads.Asked asked.is_filled.Reads.Learnt
-  pub asked-number-in : Answers asked.number_in.ended asked.number_in.Reads.Asked asked.number_in.Reads.Learnt
-  pub asked-count-in : Answers asked.count_in.ended asked.count_in.Reads.Asked asked.count_in.Reads.Learnt
-  pub asked-size-in : Answers asked.size_in.ended asked.size_in.Reads.Asked asked.size_in.Reads.Learnt
-  pub asked-instant-in : Answers asked.instant_in.ended asked.instant_in.Reads.Asked asked.instant_in.Reads.Learnt
-  pub asked-amount-in : Answers asked.amount_in.ended asked.amount_in.Reads.Asked asked.amount_in.Reads.Learnt
-  pub asked-word-number : Answers asked.word_number.ended asked.word_number.Reads.Asked asked.word_number.Reads.Learnt
-  pub asked-triples-in : Answers asked.triples_in.ended asked.triples_in.Reads.Asked asked.triples_in.Reads.Learnt
-  pub asked-not-negative : Answers asked.not_negative.ended asked.not_negative.Reads.Asked asked.not_negative.Reads.Learnt
-  -- label
-  pub label-of-field : Answers label.of_field.ended label.of_field.Reads.Asked label.of_field.Reads.Learnt
-  pub label-put-label : OneOutput label.put_label.ended (λ κs e. e .0 .now) label.put_label.Reads.Learnt
-  pub label-put : OneOutput label.put.ended (λ κs e. e .0 .now) label.put.Reads.Learnt
-  pub label-is-printed : Answers label.is_printed.ended label.is_printed.Reads.Asked label.is_printed.Reads.Learnt
-  -- entry
-  pub entry-is-label : Answers entry.is_label.ended entry.is_label.Reads.Asked entry.is_label.Reads.Learnt
-  -- fit
-  pub fit-holds : Answers fit.holds.ended fit.holds.Reads.Asked fit.holds.Reads.Learnt
-  pub fit-triples-are-none : Answers fit.triples.are_none.ended fit.triples.are_none.Reads.Asked fit.triples.are_none.Reads.Learnt
-  pub fit-triples-are-listed : Answers fit.triples.are_listed.ended fit.triples.are_listed.Reads.Asked fit.triples.are_listed.Reads.Learnt
-  -- kind
-  pub kind-of-field : Answers kind.of_field.ended kind.of_field.Reads.Asked kind.of_field.Reads.Learnt
-  -- row
-  pub row-agrees : OneResult row.agrees.ended row.agrees.Reads.Learnt
-  -- banner
-  pub banner-put : OneOutput banner.put.ended (λ κs e. e .0 .now) banner.put.Reads.Learnt
+  -- value_ask
+  pub value-ask-is-filled : Answers value_ask.is_filled.ended value_ask.is_filled.Reads.Asked value_ask.is_filled.Reads.Learnt
+  pub value-ask-number-in : Answers value_ask.number_in.ended value_ask.number_in.Reads.Asked value_ask.number_in.Reads.Learnt
+  pub value-ask-count-in : Answers value_ask.count_in.ended value_ask.count_in.Reads.Asked value_ask.count_in.Reads.Learnt
+  pub value-ask-size-in : Answers value_ask.size_in.ended value_ask.size_in.Reads.Asked value_ask.size_in.Reads.Learnt
+  pub value-ask-instant-in : Answers value_ask.instant_in.ended value_ask.instant_in.Reads.Asked value_ask.instant_in.Reads.Learnt
+  pub value-ask-amount-in : Answers value_ask.amount_in.ended value_ask.amount_in.Reads.Asked value_ask.amount_in.Reads.Learnt
+  pub value-ask-word-number : Answers value_ask.word_number.ended value_ask.word_number.Reads.Asked value_ask.word_number.Reads.Learnt
+  pub value-ask-triples-in : Answers value_ask.triples_in.ended value_ask.triples_in.Reads.Asked value_ask.triples_in.Reads.Learnt
+  pub value-ask-not-negative : Answers value_ask.not_negative.ended value_ask.not_negative.Reads.Asked value_ask.not_negative.Reads.Learnt
+  -- layout_label
+  pub layout-label-of-field : Answers layout_label.of_field.ended layout_label.of_field.Reads.Asked layout_label.of_field.Reads.Learnt
+  pub layout-label-put-label : OneOutput layout_label.put_label.ended (λ κs e. e .0 .now) layout_label.put_label.Reads.Learnt
+  pub layout-label-put : OneOutput layout_label.put.ended (λ κs e. e .0 .now) layout_label.put.Reads.Learnt
+  pub layout-label-is-printed : Answers layout_label.is_printed.ended layout_label.is_printed.Reads.Asked layout_label.is_printed.Reads.Learnt
+  -- reader_line
+  pub reader-line-is-label : Answers reader_line.is_label.ended reader_line.is_label.Reads.Asked reader_line.is_label.Reads.Learnt
+  -- value_fits
+  pub value-fits-holds : Answers value_fits.holds.ended value_fits.holds.Reads.Asked value_fits.holds.Reads.Learnt
+  pub value-fits-triples-are-none : Answers value_fits.triples.are_none.ended value_fits.triples.are_none.Reads.Asked value_fits.triples.are_none.Reads.Learnt
+  pub value-fits-triples-are-listed : Answers value_fits.triples.are_listed.ended value_fits.triples.are_listed.Reads.Asked value_fits.triples.are_listed.Reads.Learnt
+  -- layout_kind
+  pub layout-kind-of-field : Answers layout_kind.of_field.ended layout_kind.of_field.Reads.Asked layout_kind.of_field.Reads.Learnt
+  -- reader_row
+  pub reader-row-agrees : OneResult reader_row.agrees.ended reader_row.agrees.Reads.Learnt
+  -- layout_banner
+  pub layout-banner-put : OneOutput layout_banner.put.ended (λ κs e. e .0 .now) layout_banner.put.Reads.Learnt
   -- record
   pub record-zero : Answers records.zero.ended records.zero.Reads.Asked records.zero.Reads.Learnt
   pub record-field : OneResult records.field.ended records.field.Reads.Learnt
   pub record-reason-field : Answers records.reason_field.ended records.reason_field.Reads.Asked records.reason_field.Reads.Learnt
   pub record-note-field : Answers records.note_field.ended records.note_field.Reads.Asked records.note_field.Reads.Learnt
   pub record-gradients-field : Answers records.gradients_field.ended records.gradients_field.Reads.Asked records.gradients_field.Reads.Learnt
-  -- brief
-  pub brief-end-field : Answers brief.end_field.ended brief.end_field.Reads.Asked brief.end_field.Reads.Learnt
-  pub brief-of-values : Answers brief.of_values.ended brief.of_values.Reads.Asked brief.of_values.Reads.Learnt
-  pub brief-put-number : OneOutput brief.put_number.ended (λ κs e. e .0 .now) brief.put_number.Reads.Learnt
-  pub brief-put-lines : OneOutput brief.put_lines.ended (λ κs e. e .0 .now) brief.put_lines.Reads.Learnt
-  -- fill
-  pub fill-text-at : OneText fill.text_at.ended (λ κs z. z .now) fill.text_at.Reads.Learnt
-  pub fill-gradients-of : OneResult fill.gradients_of.ended fill.gradients_of.Reads.Learnt
-  pub fill-value-in : OneResult fill.value_in.ended fill.value_in.Reads.Learnt
-  pub fill-record-of : OneResult fill.record_of.ended fill.record_of.Reads.Learnt
-  -- voltvar
-  pub voltvar-in-table : Answers voltvar.in_table.ended voltvar.in_table.Reads.Asked voltvar.in_table.Reads.Learnt
-  -- rules
-  pub rules-of-market : Answers rules.of_market.ended rules.of_market.Reads.Asked rules.of_market.Reads.Learnt
-  pub rules-of-ramps : Answers rules.of_ramps.ended rules.of_ramps.Reads.Asked rules.of_ramps.Reads.Learnt
-  pub rules-of-order : Answers rules.of_order.ended rules.of_order.Reads.Asked rules.of_order.Reads.Learnt
-  pub rules-of-exclusion : Answers rules.of_exclusion.ended rules.of_exclusion.Reads.Asked rules.of_exclusion.Reads.Learnt
-  pub rules-of-limitation : Answers rules.of_limitation.ended rules.of_limitation.Reads.Asked rules.of_limitation.Reads.Learnt
-  pub rules-of-secondary : Answers rules.of_secondary.ended rules.of_secondary.Reads.Asked rules.of_secondary.Reads.Learnt
-  pub rules-of-volt-var : Answers rules.of_volt_var.ended rules.of_volt_var.Reads.Asked rules.of_volt_var.Reads.Learnt
-  pub rules-of-reserve : Answers rules.of_reserve.ended rules.of_reserve.Reads.Asked rules.of_reserve.Reads.Learnt
-  pub rules-lowest-of : Answers rules.lowest_of.ended rules.lowest_of.Reads.Asked rules.lowest_of.Reads.Learnt
-  -- order
-  pub order-is-command : Answers order.is_command.ended order.is_command.Reads.Asked order.is_command.Reads.Learnt
-  pub order-is-revocation : Answers order.is_revocation.ended order.is_revocation.Reads.Asked order.is_revocation.Reads.Learnt
-  pub order-of-record : OneResult order.of_record.ended order.of_record.Reads.Learnt
-  pub order-named-by : Answers order.named_by.ended order.named_by.Reads.Asked order.named_by.Reads.Learnt
-  pub order-is-live : Answers order.is_live.ended order.is_live.Reads.Asked order.is_live.Reads.Learnt
-  pub order-is-empty : Answers order.is_empty.ended order.is_empty.Reads.Asked order.is_empty.Reads.Learnt
-  pub order-could-come : Answers order.could_come.ended order.could_come.Reads.Asked order.could_come.Reads.Learnt
+  -- report_brief
+  pub report-brief-end-field : Answers report_brief.end_field.ended report_brief.end_field.Reads.Asked report_brief.end_field.Reads.Learnt
+  pub report-brief-of-values : Answers report_brief.of_values.ended report_brief.of_values.Reads.Asked report_brief.of_values.Reads.Learnt
+  pub report-brief-put-number : OneOutput report_brief.put_number.ended (λ κs e. e .0 .now) report_brief.put_number.Reads.Learnt
+  pub report-brief-put-lines : OneOutput report_brief.put_lines.ended (λ κs e. e .0 .now) report_brief.put_lines.Reads.Learnt
+  -- reader_fill
+  pub reader-fill-text-at : OneText reader_fill.text_at.ended (λ κs z. z .now) reader_fill.text_at.Reads.Learnt
+  pub reader-fill-gradients-of : OneResult reader_fill.gradients_of.ended reader_fill.gradients_of.Reads.Learnt
+  pub reader-fill-value-in : OneResult reader_fill.value_in.ended reader_fill.value_in.Reads.Learnt
+  pub reader-fill-record-of : OneResult reader_fill.record_of.ended reader_fill.record_of.Reads.Learnt
+  -- record_voltvar
+  pub record-voltvar-in-table : Answers record_voltvar.in_table.ended record_voltvar.in_table.Reads.Asked record_voltvar.in_table.Reads.Learnt
+  -- record_rules
+  pub record-rules-of-market : Answers record_rules.of_market.ended record_rules.of_market.Reads.Asked record_rules.of_market.Reads.Learnt
+  pub record-rules-of-ramps : Answers record_rules.of_ramps.ended record_rules.of_ramps.Reads.Asked record_rules.of_ramps.Reads.Learnt
+  pub record-rules-of-order : Answers record_rules.of_order.ended record_rules.of_order.Reads.Asked record_rules.of_order.Reads.Learnt
+  pub record-rules-of-exclusion : Answers record_rules.of_exclusion.ended record_rules.of_exclusion.Reads.Asked record_rules.of_exclusion.Reads.Learnt
+  pub record-rules-of-limitation : Answers record_rules.of_limitation.ended record_rules.of_limitation.Reads.Asked record_rules.of_limitation.Reads.Learnt
+  pub record-rules-of-secondary : Answers record_rules.of_secondary.ended record_rules.of_secondary.Reads.Asked record_rules.of_secondary.Reads.Learnt
+  pub record-rules-of-volt-var : Answers record_rules.of_volt_var.ended record_rules.of_volt_var.Reads.Asked record_rules.of_volt_var.Reads.Learnt
+  pub record-rules-of-reserve : Answers record_rules.of_reserve.ended record_rules.of_reserve.Reads.Asked record_rules.of_reserve.Reads.Learnt
+  pub record-rules-lowest-of : Answers record_rules.lowest_of.ended record_rules.lowest_of.Reads.Asked record_rules.lowest_of.Reads.Learnt
+  -- book_order
+  pub book-order-is-command : Answers book_order.is_command.ended book_order.is_command.Reads.Asked book_order.is_command.Reads.Learnt
+  pub book-order-is-revocation : Answers book_order.is_revocation.ended book_order.is_revocation.Reads.Asked book_order.is_revocation.Reads.Learnt
+  pub book-order-of-record : OneResult book_order.of_record.ended book_order.of_record.Reads.Learnt
+  pub book-order-named-by : Answers book_order.named_by.ended book_order.named_by.Reads.Asked book_order.named_by.Reads.Learnt
+  pub book-order-is-live : Answers book_order.is_live.ended book_order.is_live.Reads.Asked book_order.is_live.Reads.Learnt
+  pub book-order-is-empty : Answers book_order.is_empty.ended book_order.is_empty.Reads.Asked book_order.is_empty.Reads.Learnt
+  pub book-order-could-come : Answers book_order.could_come.ended book_order.could_come.Reads.Asked book_order.could_come.Reads.Learnt
   -- reader
   pub reader-refuse : Answers reader.refuse.ended reader.refuse.Reads.Asked reader.refuse.Reads.Learnt
   -- report
   pub report-put-record : OneOutput report.put_record.ended (λ κs e. e .0 .now) report.put_record.Reads.Learnt
   pub report-put-refusal : OneOutput report.put_refusal.ended (λ κs e. e .0 .now) report.put_refusal.Reads.Learnt
   pub report-put-answer : OneOutput report.put_answer.ended (λ κs e. e .0 .now) report.put_answer.Reads.Learnt
-  -- body
-  pub body-put-text-lines : OneOutput body.put_text_lines.ended (λ κs e. e .0 .now) body.put_text_lines.Reads.Learnt
-  pub body-put-lines : OneOutput body.put_lines.ended (λ κs e. e .0 .now) body.put_lines.Reads.Learnt
-  -- summary
-  pub summary-put-row : OneOutput summary.put_row.ended (λ κs e. e .0 .now) summary.put_row.Reads.Learnt
-  -- compose
-  pub compose-put-copied : OneOutput compose.put_copied.ended (λ κs e. e .0 .now) compose.put_copied.Reads.Learnt
-  pub compose-put-message : OneOutput compose.put_message.ended (λ κs e. e .0 .now) compose.put_message.Reads.Learnt
+  -- writer_lines
+  pub writer-lines-put-text-lines : OneOutput writer_lines.put_text_lines.ended (λ κs e. e .0 .now) writer_lines.put_text_lines.Reads.Learnt
+  pub writer-lines-put-lines : OneOutput writer_lines.put_lines.ended (λ κs e. e .0 .now) writer_lines.put_lines.Reads.Learnt
+  -- writer_row
+  pub writer-row-put-row : OneOutput writer_row.put_row.ended (λ κs e. e .0 .now) writer_row.put_row.Reads.Learnt
+  -- writer_message
+  pub writer-message-put-copied : OneOutput writer_message.put_copied.ended (λ κs e. e .0 .now) writer_message.put_copied.Reads.Learnt
+  pub writer-message-put-message : OneOutput writer_message.put_message.ended (λ κs e. e .0 .now) writer_message.put_message.Reads.Learnt

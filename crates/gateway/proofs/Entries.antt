@@ -1,6 +1,6 @@
 -- The entry's three ends: refused by the reader, no room, written. Assumes nothing.
 use Prim.Native.Nat.{ℕ, _+_, _*_, _≤_, _<_}
-use Rattle.brief.specs.Brief.{sixLines}
+use Rattle.report_brief.specs.Brief.{sixLines}
 use Rattle.gateway.specs.Entry.{lengthOr11, codeOf, outOf}
 use Rattle.reader.specs.Refusals.{refused, accepted}
 use Rattle.reader.specs.declared.Answer.{Answer}

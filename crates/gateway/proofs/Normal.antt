@@ -3,13 +3,13 @@ use Prim.Native.Nat.{ℕ, _+_, _*_, _≤_, _<_}
 use Rattle.gateway.specs.Entry.{lengthOr11, codeOf, outOf}
 use Rattle.reader.specs.Reader.{readOf}
 use Rattle.reader.specs.declared.Answer.{Answer}
-use Rattle.reading.proofs.Small.{detail-small, number-small}
+use Rattle.reader_theorems.proofs.Small.{detail-small, number-small}
 use Rattle.text.proofs.Tests.{by-test}
 use Rattle.writer.proofs.Held.{read-held, held-small}
 use Rattle.writer.specs.Writer.{fitted, normaliseOf, normalLeft}
 use Rattle.writer.specs.declared.Written.{Written}
 use Rattle.writer.specs.declared.Written.the-variants.{Length, Refused}
-use Rattle.written.specs.Written.{fileOf}
+use Rattle.writer_form.specs.Written.{fileOf}
 use borrow.Author.Tests.{eqb-true}
 use lib.Dec.{eqb, leb}
 use lib.ListN.{length}

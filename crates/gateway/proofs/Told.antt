@@ -1,11 +1,11 @@
 -- What is told of what was read: its refusal, or what is told of its record. Assumes nothing.
 use Prim.Native.Nat.{ℕ, _+_, _-_, _*_, _≤_, _<_}
-use Rattle.brief.proofs.Fields.{end-within}
-use Rattle.brief.proofs.Sizes.{six-length}
-use Rattle.brief.specs.Brief.{endField, endOf, toldOf, briefOf, sixOf}
-use Rattle.brief.specs.declared.Brief.{Brief}
-use Rattle.fill.proofs.Stored.{kept-in-room}
-use Rattle.fill.specs.Filled.{recordWith}
+use Rattle.report_brief.proofs.Fields.{end-within}
+use Rattle.report_brief.proofs.Sizes.{six-length}
+use Rattle.report_brief.specs.Brief.{endField, endOf, toldOf, briefOf, sixOf}
+use Rattle.report_brief.specs.declared.Brief.{Brief}
+use Rattle.reader_fill.proofs.Stored.{kept-in-room}
+use Rattle.reader_fill.specs.Filled.{recordWith}
 use Rattle.gateway.proofs.Entries.{Ends, refused-end, no-room-end, written-end}
 use Rattle.layout.specs.Rows.{textAt}
 use Rattle.reader.proofs.Concluding.{concluded-no, concluded-yes}
@@ -14,12 +14,12 @@ use Rattle.reader.specs.Refusals.{refused, accepted}
 use Rattle.reader.specs.State.{columnAt, Reads}
 use Rattle.reader.specs.declared.Answer.{Answer}
 use Rattle.reader.specs.declared.Reading.{Reading}
-use Rattle.reading.proofs.Small.{detail-small, number-small}
+use Rattle.reader_theorems.proofs.Small.{detail-small, number-small}
 use Rattle.record.proofs.Fields.{field-at}
 use Rattle.record.specs.Records.{cell, fieldOf}
 use Rattle.record.specs.declared.Cell.{Cell}
 use Rattle.record.specs.declared.Record.{Record}
-use Rattle.room.specs.Rooms.{keptIn}
+use Rattle.text_room.specs.Rooms.{keptIn}
 use Rattle.value.specs.declared.Value.{Value}
 use Rattle.value.specs.declared.Value.the-variants.{Blank}
 use lib.ListN.{length, getD, take, replicate}

@@ -2,10 +2,10 @@
 use text::put;
 use text::scan;
 use writer::Written;
-ghost use Rattle.brief.specs.Brief.{sixLines};
+ghost use Rattle.report_brief.specs.Brief.{sixLines};
 ghost use Rattle.gateway.specs.Entry.{codeOf, outOf};
 ghost use Rattle.reader.specs.Reader.{readOf};
-ghost use Rattle.written.specs.Written.{fileOf};
+ghost use Rattle.writer_form.specs.Written.{fileOf};
 ghost use lib.ListN.{length};
 ghost use mathlib.Core.Path.{_≡_};
 
@@ -23,22 +23,22 @@ pub extern "C" fn halimpung_read(ca: u32, ioa: u32, plan: &[u8], file: &[u8], ou
     let first = x.cells[0];
     let second = x.cells[1];
     let third = x.cells[2];
-    let last = x.cells[brief::end_field(l) - 1];
+    let last = x.cells[report_brief::end_field(l) - 1];
     let places = x.places;
     let number = first.value;
     let unit = second.value;
     let start = third.value;
     let end = last.value;
-    let told = brief::of_values(
+    let told = report_brief::of_values(
         l,
         number,
         unit,
-        room::keep_unit(fill::text_at(l, file, places, 2)),
+        text_room::keep_unit(reader_fill::text_at(l, file, places, 2)),
         start,
         end,
     );
     let mut lines = [0u8; 89];
-    let size = brief::put_lines(&mut lines, 0, told);
+    let size = report_brief::put_lines(&mut lines, 0, told);
     let length = size as u32;
     if out.len() < size {
         return 11 * 65536 + length;

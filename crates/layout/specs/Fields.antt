@@ -4,8 +4,8 @@
 -- 13 and 14 I and E, 15 to 18 the modes and 19 to 22 the regulations of VQ, 28 and 29 the reserves and 30 and 31 the quantities of QR.
 use Prim.Native.Nat.{ℕ}
 use Prim.Native.String.{String}
-use Rattle.name.specs.declared.MessageType.{MessageType}
-use Rattle.name.specs.declared.MessageType.the-variants.{Cb, Rc, Mg, Eb, Lb, Sr, Vq, Ri, Qr}
+use Rattle.value_name.specs.declared.MessageType.{MessageType}
+use Rattle.value_name.specs.declared.MessageType.the-variants.{Cb, Rc, Mg, Eb, Lb, Sr, Vq, Ri, Qr}
 use Rattle.text.specs.Bytes.{bytes}
 use Rattle.value.specs.declared.Kind.{Kind}
 use Rattle.value.specs.declared.Shape.{Shape}

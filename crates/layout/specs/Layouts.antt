@@ -3,8 +3,8 @@ use Prim.Native.Nat.{ℕ}
 use Rattle.layout.specs.Fields.{Field, market, mfrr, rc, mg, eb, lb, sr, vq, ri, qr}
 use Rattle.layout.specs.declared.Layout.{Layout}
 use Rattle.layout.specs.declared.Layout.the-variants.{Market, Mfrr, Revocation, Generic, Exclusion, Limitation, Secondary, VoltVar, Rejection, Reserve}
-use Rattle.name.specs.declared.MessageType.{MessageType}
-use Rattle.name.specs.declared.MessageType.the-variants.{Cb, Rc, Mg, Eb, Lb, Sr, Vq, Ri, Qr}
+use Rattle.value_name.specs.declared.MessageType.{MessageType}
+use Rattle.value_name.specs.declared.MessageType.the-variants.{Cb, Rc, Mg, Eb, Lb, Sr, Vq, Ri, Qr}
 use Rattle.value.specs.declared.Kind.{Kind}
 use Rattle.value.specs.declared.Shape.the-variants.{IsNote}
 use lib.ListN.{length, getD}

@@ -2,7 +2,7 @@
 // code's own tables to it, and this one its sizes and the order of its rows.
 pub mod row;
 
-use name::MessageType;
+use value_name::MessageType;
 ghost use Rattle.layout.specs.Layouts.{typeOf, layoutOf, sizeOf};
 ghost use mathlib.Core.Path.{_≡_};
 

@@ -2,10 +2,10 @@
 -- Assumes nothing.
 use Prim.Native.Nat.{ℕ}
 use Prim.Native.String.{String}
-use Rattle.address.specs.Rows.{row, unitAt, typeFrom, typeAt, rowOf}
-use Rattle.keyline.specs.Keylines.{lineOf, wholeUpto, numberAt}
-use Rattle.name.specs.Names.{isUnit, sequenceOf}
-use Rattle.name.specs.declared.MessageType.the-variants.{Rc, Vq}
+use Rattle.plan_row.specs.Rows.{row, unitAt, typeFrom, typeAt, rowOf}
+use Rattle.text_keyline.specs.Keylines.{lineOf, wholeUpto, numberAt}
+use Rattle.value_name.specs.Names.{isUnit, sequenceOf}
+use Rattle.value_name.specs.declared.MessageType.the-variants.{Rc, Vq}
 use Rattle.plan.specs.Plans.{Plan, rows, wrong, planFrom, planOf}
 use Rattle.text.specs.Bytes.{bytes, same, starts, upto, past, any, all}
 use Rattle.text.specs.Digits.{numberFrom, digitsOf}

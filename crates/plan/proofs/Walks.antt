@@ -1,22 +1,22 @@
 -- The plan row by row: what is read so far, and what the rest gives below it, is the plan.
 -- Assumes nothing.
 use Prim.Native.Nat.{ℕ, zero, suc, _+_, _-_, _*_, _≤_, _<_}
-use Rattle.address.proofs.Addresses.{kept-row, any-kept, key-place, key-sought}
-use Rattle.address.proofs.Codes.{type-told}
-use Rattle.address.proofs.Lines.{unit-told}
-use Rattle.address.proofs.Readers.{At, at-length, next-line, second-line}
-use Rattle.address.specs.Kept.{soughtKey, rowsOf, thirdOf, entryOf, rowAtOf}
-use Rattle.address.specs.Rows.{Row, row, unitAt, caAt, ioaAt, typeAt, isAt, RowRead, good, bad, named, begun, rowOf}
-use Rattle.address.specs.declared.Entry.{Entry}
-use Rattle.address.specs.declared.RowAt.the-variants.{Good, Bad}
-use Rattle.address.specs.declared.RowAt.{RowAt}
-use Rattle.keyline.proofs.Values.{number-told}
-use Rattle.keyline.specs.Keylines.{valueIn, below}
-use Rattle.name.specs.declared.MessageType.{MessageType}
+use Rattle.plan_row.proofs.Addresses.{kept-row, any-kept, key-place, key-sought}
+use Rattle.plan_row.proofs.Codes.{type-told}
+use Rattle.plan_row.proofs.Lines.{unit-told}
+use Rattle.plan_row.proofs.Readers.{At, at-length, next-line, second-line}
+use Rattle.plan_row.specs.Kept.{soughtKey, rowsOf, thirdOf, entryOf, rowAtOf}
+use Rattle.plan_row.specs.Rows.{Row, row, unitAt, caAt, ioaAt, typeAt, isAt, RowRead, good, bad, named, begun, rowOf}
+use Rattle.plan_row.specs.declared.Entry.{Entry}
+use Rattle.plan_row.specs.declared.RowAt.the-variants.{Good, Bad}
+use Rattle.plan_row.specs.declared.RowAt.{RowAt}
+use Rattle.text_keyline.proofs.Values.{number-told}
+use Rattle.text_keyline.specs.Keylines.{valueIn, below}
+use Rattle.value_name.specs.declared.MessageType.{MessageType}
 use Rattle.plan.specs.Kept.{foundIn}
 use Rattle.plan.specs.Plans.{rows, wrong, after, planFrom, planOf, refusal, lookUp, soughtOf}
 use Rattle.plan.specs.declared.Sought.{Sought}
-use Rattle.room.specs.Rooms.{keptIn}
+use Rattle.text_room.specs.Rooms.{keptIn}
 use Rattle.text.proofs.Cuts.{tail, part-from, upto-take}
 use Rattle.text.specs.Bytes.{bytes, part, is, any, firstOf}
 use Rattle.text.specs.declared.digits.Digits.the-variants.{Are, Not}

@@ -1,8 +1,8 @@
 -- What the search answers for a row that it found, by what is kept of the row. No part of what a plan means.
 use Prim.Native.Nat.{ℕ}
-use Rattle.address.specs.declared.Entry.{Entry}
+use Rattle.plan_row.specs.declared.Entry.{Entry}
 use Rattle.plan.specs.declared.Sought.{Sought}
-use Rattle.room.specs.Rooms.{keptIn}
+use Rattle.text_room.specs.Rooms.{keptIn}
 use Rattle.text.specs.Bytes.{part}
 use lib.ListN.{length}
 use mathlib.Core.List.{List}

@@ -1,10 +1,10 @@
 -- The address plan. Document 01, "Addresses": 1 to 64 rows of four lines; the first bad line is told; a line too many is bad where it stands.
 use Prim.Native.Nat.{ℕ, zero, suc, _+_}
-use Rattle.address.specs.Rows.{Row, isAt, RowRead, good, bad, rowOf}
-use Rattle.keyline.specs.Keylines.{below}
-use Rattle.name.specs.declared.MessageType.the-variants.{Cb}
+use Rattle.plan_row.specs.Rows.{Row, isAt, RowRead, good, bad, rowOf}
+use Rattle.text_keyline.specs.Keylines.{below}
+use Rattle.value_name.specs.declared.MessageType.the-variants.{Cb}
 use Rattle.plan.specs.declared.Sought.{Sought}
-use Rattle.room.specs.Rooms.{keptIn}
+use Rattle.text_room.specs.Rooms.{keptIn}
 use lib.Dec.{eqb}
 use lib.ListN.{length, replicate}
 use mathlib.Core.Bool.{cond}

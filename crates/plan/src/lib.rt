@@ -1,7 +1,7 @@
 // The address plan: which unit and type of message an address (CA, IOA) has. The type comes from here alone, never from the message.
-use address::Entry;
-use address::RowAt;
-use name::MessageType;
+use plan_row::Entry;
+use plan_row::RowAt;
+use value_name::MessageType;
 ghost use Prim.Native.Nat.{max, _≤_};
 ghost use Rattle.plan.specs.Kept.{foundIn};
 ghost use Rattle.plan.specs.Plans.{planOf, refusal, soughtOf};
@@ -38,7 +38,7 @@ fn found_in(s: &[u8], e: Entry) -> Sought
     let from = e.from;
     let to = e.to;
     let u = &s[from..to];
-    let unit = room::keep_unit(u);
+    let unit = text_room::keep_unit(u);
     let kind = e.kind;
     Sought {
         number: 0,
@@ -62,7 +62,7 @@ pub fn seek(plan: &[u8], ca: u32, ioa: u32) -> Sought
     if plan.len() == 0 {
         return refused(13, 0);
     }
-    let sought = address::sought_key(ca, ioa);
+    let sought = plan_row::sought_key(ca, ioa);
     let mut keys = [0u64; 64];
     let mut count = 0;
     let mut greatest = 0;
@@ -73,7 +73,7 @@ pub fn seek(plan: &[u8], ca: u32, ioa: u32) -> Sought
         if count == 64 {
             return refused(13, line);
         }
-        match address::row_at(rest, &keys[0..count], greatest) {
+        match plan_row::row_at(rest, &keys[0..count], greatest) {
             RowAt::Bad(k) => {
                 return refused(13, line + k as usize);
             }

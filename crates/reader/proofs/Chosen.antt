@@ -1,24 +1,24 @@
 -- Which layout a CB file is: the labels seen say whether `Tipo Comando` has a line. Assumes nothing.
 use Prim.Native.Nat.{ℕ, _≤_}
-use Rattle.entry.specs.Items.{secondLabels}
+use Rattle.reader_line.specs.Items.{secondLabels}
 use Rattle.layout.specs.Fields.{mfrr}
 use Rattle.layout.specs.Layouts.{fieldsOf, labelsOf, layoutOf}
 use Rattle.layout.specs.declared.Layout.the-variants.{Mfrr}
-use Rattle.lines.proofs.Standing.{place-at}
-use Rattle.lines.specs.Entries.{entryOf, entries, placeOf, stands}
-use Rattle.lines.specs.Lines.{Param}
-use Rattle.lines.specs.declared.Span.{Span}
-use Rattle.name.specs.declared.MessageType.{MessageType}
-use Rattle.name.specs.declared.MessageType.the-variants.{Cb, Rc, Mg, Eb, Lb, Sr, Vq, Ri, Qr}
+use Rattle.text_lines.proofs.Standing.{place-at}
+use Rattle.text_lines.specs.Entries.{entryOf, entries, placeOf, stands}
+use Rattle.text_lines.specs.Lines.{Param}
+use Rattle.text_lines.specs.declared.Span.{Span}
+use Rattle.value_name.specs.declared.MessageType.{MessageType}
+use Rattle.value_name.specs.declared.MessageType.the-variants.{Cb, Rc, Mg, Eb, Lb, Sr, Vq, Ri, Qr}
 use Rattle.reader.specs.Messages.{given, layoutIn, isKindOfCommand}
 use Rattle.reader.specs.State.{isMfrr}
 use Rattle.text.proofs.Cuts.{same-true}
 use Rattle.text.proofs.Tests.{by-test}
 use Rattle.text.specs.Bytes.{bytes, same, any}
 use Rattle.text.specs.Lists.{sift}
-use Rattle.walk.proofs.Fields.{has-by}
-use Rattle.walk.specs.State.{Fields}
-use Rattle.walk.specs.declared.Marks.{Marks}
+use Rattle.reader_walk.proofs.Fields.{has-by}
+use Rattle.reader_walk.specs.State.{Fields}
+use Rattle.reader_walk.specs.declared.Marks.{Marks}
 use borrow.Author.Tests.{eq-eqb, ne-eqb, eqb-true}
 use lib.Dec.{eqb}
 use lib.ListN.{length, getD}

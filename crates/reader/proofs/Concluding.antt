@@ -1,12 +1,12 @@
 -- What was read leads to the answer: from the places to the reading, and from the reading to a refusal or the record. Assumes nothing.
 use Prim.Native.Nat.{ℕ}
-use Rattle.fill.specs.Filled.{recordWith}
+use Rattle.reader_fill.specs.Filled.{recordWith}
 use Rattle.layout.specs.Layouts.{sizeOf}
 use Rattle.layout.specs.Rows.{rowOf}
 use Rattle.layout.specs.declared.Layout.{Layout}
-use Rattle.lines.specs.Places.{partOf, Placed}
-use Rattle.lines.specs.declared.Span.{Span}
-use Rattle.list.specs.declared.Triple.{Triple}
+use Rattle.text_lines.specs.Places.{partOf, Placed}
+use Rattle.text_lines.specs.declared.Span.{Span}
+use Rattle.value_list.specs.declared.Triple.{Triple}
 use Rattle.reader.proofs.Firsts.{NoneHolds, accepted-none, none-given}
 use Rattle.reader.proofs.Firsts.NoneHolds.{next}
 use Rattle.reader.specs.Messages.{valuesOf, isBad, bodyOf}

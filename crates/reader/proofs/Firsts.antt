@@ -1,7 +1,7 @@
 -- A refusal is given exactly when its condition is the first in its list to hold: once, for every list of refusals.
 -- Assumes nothing.
 use Prim.Native.Nat.{ℕ}
-use Rattle.name.specs.declared.MessageType.{MessageType}
+use Rattle.value_name.specs.declared.MessageType.{MessageType}
 use Rattle.plan.specs.declared.Sought.{Sought}
 use Rattle.reader.specs.Reader.{valued, labelled, reading, planned}
 use Rattle.reader.specs.Refusals.{Refusal, refusal, refused, accepted, answer, First, here, later, Given}

@@ -1,16 +1,16 @@
 -- The loop of `judged` over the fields: what holds at its head, and where each way out of it leads. Assumes nothing.
 use Prim.Native.Nat.{ℕ, _+_, _≤_, _<_}
-use Rattle.fill.proofs.Gradients.{field-value}
-use Rattle.fill.proofs.Steps.{turn, stop, finish, Head}
-use Rattle.fill.specs.Filled.{filledOf, triplesOf, valueWith}
+use Rattle.reader_fill.proofs.Gradients.{field-value}
+use Rattle.reader_fill.proofs.Steps.{turn, stop, finish, Head}
+use Rattle.reader_fill.specs.Filled.{filledOf, triplesOf, valueWith}
 use Rattle.layout.specs.Layouts.{kindsOf, kindAt, sizeOf}
 use Rattle.layout.specs.Rows.{textAt, rowOf}
 use Rattle.layout.specs.declared.Layout.{Layout}
-use Rattle.lines.specs.Places.{partOf, spanAt}
-use Rattle.lines.specs.declared.Span.{Span}
-use Rattle.list.specs.Forms.{gradientsIn}
-use Rattle.list.specs.declared.GradientsRead.{GradientsRead}
-use Rattle.list.specs.declared.Triple.{Triple}
+use Rattle.text_lines.specs.Places.{partOf, spanAt}
+use Rattle.text_lines.specs.declared.Span.{Span}
+use Rattle.value_list.specs.Forms.{gradientsIn}
+use Rattle.value_list.specs.declared.GradientsRead.{GradientsRead}
+use Rattle.value_list.specs.declared.Triple.{Triple}
 use Rattle.reader.proofs.Concluding.{values-read}
 use Rattle.reader.proofs.Judging.{bad-value, by-verdict}
 use Rattle.reader.specs.State.{columnAt, Locates, Filling, verdict, Reads}
@@ -19,7 +19,7 @@ use Rattle.reader.specs.declared.Located.{Located}
 use Rattle.reader.specs.declared.Reading.{Reading}
 use Rattle.record.specs.Records.{cell, gradientsField}
 use Rattle.record.specs.declared.Cell.{Cell}
-use Rattle.rules.specs.Rules.{rulesOf, lowest}
+use Rattle.record_rules.specs.Rules.{rulesOf, lowest}
 use Rattle.text.specs.Bytes.{same}
 use Rattle.value.specs.Kinds.{valueOf}
 use Rattle.value.specs.declared.Got.{Got}

@@ -1,15 +1,15 @@
 -- Refusals 7 to 10 as the code meets them: one law for each way out of `judge`, and what its verdict says of the values. Assumes nothing.
 use Prim.Native.Nat.{ℕ, _≤_, _<_}
-use Rattle.fill.proofs.Records.{record-with, typed-bad-some, front-good}
-use Rattle.fill.specs.Filled.{Filled, filledOf, triplesOf, recordWith}
+use Rattle.reader_fill.proofs.Records.{record-with, typed-bad-some, front-good}
+use Rattle.reader_fill.specs.Filled.{Filled, filledOf, triplesOf, recordWith}
 use Rattle.layout.proofs.Labels.{few, some-fields}
 use Rattle.layout.specs.Layouts.{kindsOf, sizeOf}
 use Rattle.layout.specs.Rows.{textAt, rowOf}
 use Rattle.layout.specs.declared.Layout.{Layout}
-use Rattle.lines.proofs.Columns.{column-at}
-use Rattle.lines.specs.Places.{partOf, spanAt, Placed}
-use Rattle.lines.specs.declared.Span.{Span}
-use Rattle.list.specs.declared.Triple.{Triple}
+use Rattle.text_lines.proofs.Columns.{column-at}
+use Rattle.text_lines.specs.Places.{partOf, spanAt, Placed}
+use Rattle.text_lines.specs.declared.Span.{Span}
+use Rattle.value_list.specs.declared.Triple.{Triple}
 use Rattle.reader.proofs.Firsts.{answer-yes, answer-no, none-given}
 use Rattle.reader.proofs.Firsts.NoneHolds.{none}
 use Rattle.reader.specs.Messages.{valuesOf, isBad, goodOf, bodyOf}
@@ -20,7 +20,7 @@ use Rattle.reader.specs.declared.Early.{Early}
 use Rattle.record.specs.Records.{Typed, typed, cellsOf, badOf}
 use Rattle.record.specs.Records.Typed.{bad, good}
 use Rattle.record.specs.declared.Cell.{Cell}
-use Rattle.rules.specs.Rules.{rulesOf, lowest, brokenIn}
+use Rattle.record_rules.specs.Rules.{rulesOf, lowest, brokenIn}
 use Rattle.text.proofs.Tests.{by-test, by-eq}
 use Rattle.text.specs.Bytes.{same}
 use borrow.Author.Tests.{lt-ltb, le-ltb}

@@ -1,6 +1,6 @@
 -- Refusals 13 and 1 as the code meets them: what the plan gave, and what its unit's file leads to. Assumes nothing.
 use Prim.Native.Nat.{ℕ}
-use Rattle.address.specs.Rows.{Row, isAt}
+use Rattle.plan_row.specs.Rows.{Row, isAt}
 use Rattle.plan.specs.Plans.{Plan, lookUp, planOf, soughtOf}
 use Rattle.plan.specs.Plans.Plan.{rows, wrong}
 use Rattle.plan.specs.declared.Sought.{Sought}

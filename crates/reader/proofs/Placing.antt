@@ -3,9 +3,9 @@ use Prim.Native.Nat.{ℕ, _-_, _≤_, _<_}
 use Rattle.layout.proofs.Labels.{few, labels-length}
 use Rattle.layout.specs.Layouts.{labelsOf, sizeOf}
 use Rattle.layout.specs.declared.Layout.{Layout}
-use Rattle.lines.specs.Entries.{Entry, again, missing, column}
-use Rattle.lines.specs.Places.{partOf, Placed, columnIn}
-use Rattle.lines.specs.declared.Span.{Span}
+use Rattle.text_lines.specs.Entries.{Entry, again, missing, column}
+use Rattle.text_lines.specs.Places.{partOf, Placed, columnIn}
+use Rattle.text_lines.specs.declared.Span.{Span}
 use Rattle.reader.proofs.Firsts.{answer-yes, answer-no}
 use Rattle.reader.specs.Messages.{bodyOf}
 use Rattle.reader.specs.Reader.{valued, labelled, isThere, numberOr}
@@ -13,9 +13,9 @@ use Rattle.reader.specs.Refusals.{refused, answer}
 use Rattle.reader.specs.State.{nowhere, placedAs, Stands, continued}
 use Rattle.reader.specs.declared.Located.{Located}
 use Rattle.text.proofs.Tests.{by-eq}
-use Rattle.walk.proofs.Told.{repeat-none, repeat-some, seen-le, missing-by, placed-by, column-by}
-use Rattle.walk.specs.State.{Fields}
-use Rattle.walk.specs.declared.Marks.{Marks}
+use Rattle.reader_walk.proofs.Told.{repeat-none, repeat-some, seen-le, missing-by, placed-by, column-by}
+use Rattle.reader_walk.specs.State.{Fields}
+use Rattle.reader_walk.specs.declared.Marks.{Marks}
 use borrow.Author.Tests.{lt-ltb, le-ltb, eq-eqb, ne-eqb}
 use lib.Count.{ones}
 use lib.ListN.{length, replicate}

@@ -1,14 +1,14 @@
 -- Refusals 2 to 4 as the code meets them, and what a layout's fields lead to. Assumes nothing.
 use Prim.Native.Nat.{ℕ, _≤_, _<_}
-use Rattle.entry.specs.Items.{firstLabels, secondLabels}
+use Rattle.reader_line.specs.Items.{firstLabels, secondLabels}
 use Rattle.layout.specs.Layouts.{labelsOf, sizeOf, layoutOf}
 use Rattle.layout.specs.declared.Layout.{Layout}
 use Rattle.layout.specs.declared.Layout.the-variants.{Mfrr}
-use Rattle.lines.proofs.Steps.{allowed-length}
-use Rattle.lines.specs.Entries.{entries, column}
-use Rattle.lines.specs.Lines.{texts, framed, allowedUpto}
-use Rattle.lines.specs.Places.{Holds}
-use Rattle.name.specs.declared.MessageType.{MessageType}
+use Rattle.text_lines.proofs.Steps.{allowed-length}
+use Rattle.text_lines.specs.Entries.{entries, column}
+use Rattle.text_lines.specs.Lines.{texts, framed, allowedUpto}
+use Rattle.text_lines.specs.Places.{Holds}
+use Rattle.value_name.specs.declared.MessageType.{MessageType}
 use Rattle.reader.proofs.Chosen.{is-mfrr, not-mfrr}
 use Rattle.reader.proofs.Firsts.{answer-yes, answer-no}
 use Rattle.reader.proofs.Placing.{Onward, seen-few, placed-onward}
@@ -18,9 +18,9 @@ use Rattle.reader.specs.Refusals.{refused, answer}
 use Rattle.reader.specs.State.{nowhere, placedAs, continued, Walks, isMfrr}
 use Rattle.reader.specs.declared.Located.{Located}
 use Rattle.text.specs.Bytes.{within}
-use Rattle.walk.proofs.Told.{framed-by, row-by, first-by, second-by}
-use Rattle.walk.specs.State.{Fields, Whole}
-use Rattle.walk.specs.declared.Found.{Found}
+use Rattle.reader_walk.proofs.Told.{framed-by, row-by, first-by, second-by}
+use Rattle.reader_walk.specs.State.{Fields, Whole}
+use Rattle.reader_walk.specs.declared.Found.{Found}
 use borrow.Author.Tests.{lt-ltb, le-ltb, le-leb, lt-leb, eq-eqb, ne-eqb}
 use lib.Count.{ones}
 use lib.Dec.{eqb, ltb}

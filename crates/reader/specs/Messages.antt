@@ -3,10 +3,10 @@ use Prim.Native.Nat.{ℕ}
 use Rattle.layout.specs.Layouts.{labelsOf, kindsOf}
 use Rattle.layout.specs.declared.Layout.{Layout}
 use Rattle.layout.specs.declared.Layout.the-variants.{Market, Mfrr, Revocation, Generic, Exclusion, Limitation, Secondary, VoltVar, Rejection, Reserve}
-use Rattle.lines.specs.Entries.{Entry, entries}
-use Rattle.lines.specs.Lines.{Param, params, outside, inside, texts}
-use Rattle.name.specs.declared.MessageType.{MessageType}
-use Rattle.name.specs.declared.MessageType.the-variants.{Cb, Rc, Mg, Eb, Lb, Sr, Vq, Ri, Qr}
+use Rattle.text_lines.specs.Entries.{Entry, entries}
+use Rattle.text_lines.specs.Lines.{Param, params, outside, inside, texts}
+use Rattle.value_name.specs.declared.MessageType.{MessageType}
+use Rattle.value_name.specs.declared.MessageType.the-variants.{Cb, Rc, Mg, Eb, Lb, Sr, Vq, Ri, Qr}
 use Rattle.record.specs.Records.{Typed, typed, recordOf}
 use Rattle.record.specs.Records.Typed.{bad, good}
 use Rattle.record.specs.declared.Record.{Record}

@@ -3,9 +3,9 @@ use Prim.Native.Nat.{ℕ, _≤_}
 use Rattle.layout.specs.Layouts.{labelsOf}
 use Rattle.layout.specs.Rows.{textAt, rowOf}
 use Rattle.layout.specs.declared.Layout.{Layout}
-use Rattle.lines.specs.Entries.{Entry, again, missing, column}
-use Rattle.lines.specs.Lines.{texts, seps, framed, allowedUpto}
-use Rattle.name.specs.declared.MessageType.{MessageType}
+use Rattle.text_lines.specs.Entries.{Entry, again, missing, column}
+use Rattle.text_lines.specs.Lines.{texts, seps, framed, allowedUpto}
+use Rattle.value_name.specs.declared.MessageType.{MessageType}
 use Rattle.plan.specs.Plans.{planOf, soughtOf}
 use Rattle.plan.specs.declared.Sought.{Sought}
 use Rattle.reader.specs.Messages.{given, rowIn, layoutIn, entriesIn, valuesOf, isBad, bodyOf}
@@ -13,7 +13,7 @@ use Rattle.reader.specs.Refusals.{Refusal, refusal, answer}
 use Rattle.reader.specs.declared.Answer.{Answer}
 use Rattle.record.specs.Records.{badOf}
 use Rattle.record.specs.declared.Record.{Record}
-use Rattle.rules.specs.Rules.{brokenIn}
+use Rattle.record_rules.specs.Rules.{brokenIn}
 use Rattle.text.specs.Bytes.{same, within}
 use lib.Dec.{eqb, ltb}
 use lib.ListN.{length, take}

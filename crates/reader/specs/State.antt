@@ -1,15 +1,15 @@
 -- What the reader's parts hand on: where a message's values stand, and what is judged of them. No answer of the reader depends on how they do it.
 use Prim.Native.Nat.{ℕ, _-_, _≤_}
-use Rattle.fill.specs.Filled.{filledOf, triplesOf, recordWith}
+use Rattle.reader_fill.specs.Filled.{filledOf, triplesOf, recordWith}
 use Rattle.layout.specs.Layouts.{kindsOf, sizeOf}
 use Rattle.layout.specs.Rows.{rowOf}
 use Rattle.layout.specs.declared.Layout.{Layout}
 use Rattle.layout.specs.declared.Layout.the-variants.{Market}
-use Rattle.lines.specs.Places.{noSpan, partOf, Holds, Placed, columnIn}
-use Rattle.lines.specs.declared.Span.{Span}
-use Rattle.list.specs.declared.Triple.{Triple}
-use Rattle.name.specs.declared.MessageType.{MessageType}
-use Rattle.name.specs.declared.MessageType.the-variants.{Cb, Rc, Mg, Eb, Lb, Sr, Vq, Ri, Qr}
+use Rattle.text_lines.specs.Places.{noSpan, partOf, Holds, Placed, columnIn}
+use Rattle.text_lines.specs.declared.Span.{Span}
+use Rattle.value_list.specs.declared.Triple.{Triple}
+use Rattle.value_name.specs.declared.MessageType.{MessageType}
+use Rattle.value_name.specs.declared.MessageType.the-variants.{Cb, Rc, Mg, Eb, Lb, Sr, Vq, Ri, Qr}
 use Rattle.reader.specs.Messages.{valuesOf, isBad, bodyOf}
 use Rattle.reader.specs.Reader.{valued, messageOf, readOf}
 use Rattle.reader.specs.Refusals.{refused, accepted, answer}
@@ -18,8 +18,8 @@ use Rattle.reader.specs.declared.Early.{Early}
 use Rattle.reader.specs.declared.Located.{Located}
 use Rattle.reader.specs.declared.Reading.{Reading}
 use Rattle.record.specs.declared.Cell.{Cell}
-use Rattle.walk.specs.State.{has}
-use Rattle.walk.specs.declared.Marks.{Marks}
+use Rattle.reader_walk.specs.State.{has}
+use Rattle.reader_walk.specs.declared.Marks.{Marks}
 use lib.Count.{ones}
 use lib.Dec.{eqb, ltb}
 use lib.ListN.{length, take, replicate}

@@ -1,17 +1,17 @@
 // The reader: address, plan and file give the typed record, or one refusal with its detail and no record.
 use layout::Layout;
-use lines::Span;
-use list::Triple;
-use name::MessageType;
+use reader_walk::Marks;
 use record::Cell;
 use record::Record;
 use text::scan;
+use text_lines::Span;
 use value::Got;
-use walk::Marks;
+use value_list::Triple;
+use value_name::MessageType;
 ghost use Prim.Native.Nat.{_≤_};
 ghost use Rattle.layout.specs.Layouts.{sizeOf};
 ghost use Rattle.layout.specs.Rows.{textAt, rowOf};
-ghost use Rattle.lines.specs.Places.{partOf, Placed};
+ghost use Rattle.text_lines.specs.Places.{partOf, Placed};
 ghost use Rattle.reader.specs.Reader.{readOf};
 ghost use Rattle.reader.specs.Refusals.{refused, accepted};
 ghost use Rattle.reader.specs.State.{nowhere, placedAs, columnAt, Walks, Locates, verdict, concluded, Reads, isMfrr};
@@ -142,7 +142,7 @@ fn walk_file(t: MessageType, file: &[u8]) -> Located
     if 8192 < file.len() {
         return unplaced(2, 0);
     }
-    let found = walk::walk(t, file);
+    let found = reader_walk::walk(t, file);
     if found.stop < file.len() {
         return unplaced(3, found.stop);
     }
@@ -209,7 +209,7 @@ fn judge(l: Layout, unit: &[u8], file: &[u8], row: Span, places: [Span; 27], bro
             detail: 0,
         };
     }
-    if !row::agrees(l, file, row, places) {
+    if !reader_row::agrees(l, file, row, places) {
         return Early {
             number: 10,
             detail: 0,
@@ -242,14 +242,15 @@ pub fn judged(ca: u32, ioa: u32, plan: &[u8], file: &[u8]) -> Reading
     if x.number != 0 {
         return r;
     }
-    let g = fill::gradients_of(l, file, places);
+    let g = reader_fill::gradients_of(l, file, places);
     let list = g.list;
     let gradients = list.values;
     r.gradients = gradients;
     let n = layout::size(l);
     let mut k = 0;
     while k < n {
-        let Got::Read(v) = fill::value_in(l, k + 1, file, places[k + 1], g.good, list.count) else {
+        let Got::Read(v) = reader_fill::value_in(l, k + 1, file, places[k + 1], g.good, list.count)
+        else {
             r.number = 7;
             r.detail = k + 1;
             return r;
@@ -259,7 +260,7 @@ pub fn judged(ca: u32, ioa: u32, plan: &[u8], file: &[u8]) -> Reading
         k += 1;
     }
     let broken = match l {
-        Layout::Market => rules::of_market(
+        Layout::Market => record_rules::of_market(
             r.cells[2],
             r.cells[3],
             r.cells[17],
@@ -273,9 +274,14 @@ pub fn judged(ca: u32, ioa: u32, plan: &[u8], file: &[u8]) -> Reading
             r.cells[25],
             gradients,
         ),
-        Layout::Mfrr => rules::of_ramps(r.cells[2], r.cells[3], r.cells[4], r.cells[5]),
-        Layout::Exclusion => rules::of_exclusion(r.cells[2], r.cells[3], r.cells[4], r.cells[6]),
-        Layout::Limitation => rules::of_limitation(
+        Layout::Mfrr => record_rules::of_ramps(r.cells[2], r.cells[3], r.cells[4], r.cells[5]),
+        Layout::Exclusion => record_rules::of_exclusion(
+            r.cells[2],
+            r.cells[3],
+            r.cells[4],
+            r.cells[6],
+        ),
+        Layout::Limitation => record_rules::of_limitation(
             r.cells[2],
             r.cells[3],
             r.cells[4],
@@ -283,8 +289,13 @@ pub fn judged(ca: u32, ioa: u32, plan: &[u8], file: &[u8]) -> Reading
             r.cells[6],
             r.cells[8],
         ),
-        Layout::Secondary => rules::of_secondary(r.cells[2], r.cells[3], r.cells[4], r.cells[5]),
-        Layout::VoltVar => rules::of_volt_var(
+        Layout::Secondary => record_rules::of_secondary(
+            r.cells[2],
+            r.cells[3],
+            r.cells[4],
+            r.cells[5],
+        ),
+        Layout::VoltVar => record_rules::of_volt_var(
             r.cells[2],
             r.cells[3],
             r.cells[4],
@@ -295,8 +306,8 @@ pub fn judged(ca: u32, ioa: u32, plan: &[u8], file: &[u8]) -> Reading
             r.cells[9],
             r.cells[10],
         ),
-        Layout::Reserve => rules::of_reserve(r.cells[2], r.cells[3], r.cells[5], r.cells[6]),
-        _ => rules::of_order(r.cells[2], r.cells[3]),
+        Layout::Reserve => record_rules::of_reserve(r.cells[2], r.cells[3], r.cells[5], r.cells[6]),
+        _ => record_rules::of_order(r.cells[2], r.cells[3]),
     };
     let unit = x.unit;
     let early = judge(l, scan::front(&unit, x.size), file, row, places, broken);
@@ -317,7 +328,7 @@ fn conclude(file: &[u8], x: Reading) -> Answer
     let places = x.places;
     let cells = x.cells;
     let gradients = x.gradients;
-    accept(fill::record_of(l, file, places, cells, gradients))
+    accept(reader_fill::record_of(l, file, places, cells, gradients))
 }
 
 // A file read at an address of a plan.

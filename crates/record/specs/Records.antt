@@ -4,10 +4,10 @@ use Prim.Native.Nat.{ℕ, suc, _-_}
 use Rattle.layout.specs.Rows.{textAt}
 use Rattle.layout.specs.declared.Layout.{Layout}
 use Rattle.layout.specs.declared.Layout.the-variants.{Market, Mfrr, Revocation, Generic, Exclusion, Limitation, Secondary, VoltVar, Rejection, Reserve}
-use Rattle.list.specs.Forms.{gradientsIn, noTriple}
+use Rattle.value_list.specs.Forms.{gradientsIn, noTriple}
 use Rattle.record.specs.declared.Cell.{Cell}
 use Rattle.record.specs.declared.Record.{Record}
-use Rattle.room.specs.Rooms.{keptIn}
+use Rattle.text_room.specs.Rooms.{keptIn}
 use Rattle.value.specs.Kinds.{valueOf}
 use Rattle.value.specs.Texts.{Rooms, rooms}
 use Rattle.value.specs.declared.Got.{Got}

@@ -1,7 +1,7 @@
 // The typed record of a message, by value: what each field holds, and the rooms in which texts and triples stand.
 use layout::Layout;
-use list::Triple;
 use value::Value;
+use value_list::Triple;
 ghost use Prim.Native.Nat.{_≤_};
 ghost use Rattle.record.specs.Records.{fieldOf, reasonField, noteField, gradientsField, zeroRecord};
 ghost use mathlib.Core.Path.{_≡_};

@@ -1,5 +1,5 @@
 -- What is printed of an answer, by its number. Assumes nothing.
-use Rattle.brief.specs.Brief.{sixLines}
+use Rattle.report_brief.specs.Brief.{sixLines}
 use Rattle.reader.specs.declared.Answer.{Answer}
 use Rattle.report.specs.Report.{twoLines, reportOf}
 use borrow.Author.Tests.{eq-eqb, ne-eqb}

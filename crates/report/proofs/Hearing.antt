@@ -1,8 +1,8 @@
 -- The ways through the program's first two lines, and what is printed of the answer. Assumes nothing.
 use Prim.Native.Nat.{ℕ}
-use Rattle.address.specs.Rows.{caAt, ioaAt}
-use Rattle.brief.proofs.Puts.{Was}
-use Rattle.keyline.specs.Keylines.{below}
+use Rattle.plan_row.specs.Rows.{caAt, ioaAt}
+use Rattle.report_brief.proofs.Puts.{Was}
+use Rattle.text_keyline.specs.Keylines.{below}
 use Rattle.reader.specs.Reader.{readOf}
 use Rattle.reader.specs.declared.Answer.{Answer}
 use Rattle.report.specs.Program.{atAddress, heardOf, printedOf}

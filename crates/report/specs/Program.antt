@@ -1,7 +1,7 @@
 -- The program. Document 01, "The program": from standard input the lines `ca=` and `ioa=`, written as in a plan, and then the file.
 use Prim.Native.Nat.{ℕ}
-use Rattle.address.specs.Rows.{caAt, ioaAt}
-use Rattle.keyline.specs.Keylines.{below}
+use Rattle.plan_row.specs.Rows.{caAt, ioaAt}
+use Rattle.text_keyline.specs.Keylines.{below}
 use Rattle.reader.specs.Reader.{readOf}
 use Rattle.reader.specs.declared.Answer.{Answer}
 use Rattle.report.specs.Report.{reportOf}

@@ -3,7 +3,7 @@ use reader::Answer;
 use record::Record;
 use text::digits::Digits;
 ghost use Prim.Native.Nat.{_+_, _<_};
-ghost use Rattle.brief.specs.Brief.{sixLines};
+ghost use Rattle.report_brief.specs.Brief.{sixLines};
 ghost use Rattle.report.specs.Program.{heardOf, printedOf};
 ghost use Rattle.report.specs.Report.{twoLines, reportOf};
 ghost use Rattle.text.specs.Puts.{limit};
@@ -16,7 +16,7 @@ pub fn put_record(out: &mut [u8], at: usize, r: Record) -> usize
     requires { ⌜ at + 200 < limit ⌝ }
     ensures { λ n. ⌜ (n ≡ at + length (sixLines r)) × (now (out .exit) ≡ sets (now (out .entry)) at (sixLines r)) ⌝ }
 {
-    brief::put_lines(out, at, brief::of_record(r))
+    report_brief::put_lines(out, at, report_brief::of_record(r))
 }
 
 // The two lines of a refusal.
@@ -24,8 +24,8 @@ pub fn put_refusal(out: &mut [u8], at: usize, number: u8, detail: usize) -> usiz
     requires { ⌜ at + 200 < limit ⌝ }
     ensures { λ n. ⌜ (n ≡ at + length (twoLines number detail)) × (now (out .exit) ≡ sets (now (out .entry)) at (twoLines number detail)) ⌝ }
 {
-    let a = brief::put_number(out, at, b"result=", number as u64);
-    brief::put_number(out, a, b"detail=", detail as u64)
+    let a = report_brief::put_number(out, at, b"result=", number as u64);
+    report_brief::put_number(out, a, b"detail=", detail as u64)
 }
 
 // What is printed of an answer.
@@ -44,12 +44,12 @@ pub fn put_answer(out: &mut [u8], at: usize, a: Answer) -> usize
 pub fn hear(plan: &[u8], input: &[u8]) -> Answer
     ensures { λ r. ⌜ r ≡ heardOf (now (plan .entry)) (now (input .entry)) ⌝ }
 {
-    let second = keyline::below(input);
-    let file = keyline::below(second);
-    let Digits::Are(ca) = keyline::number(b"ca=", 65534, input) else {
+    let second = text_keyline::below(input);
+    let file = text_keyline::below(second);
+    let Digits::Are(ca) = text_keyline::number(b"ca=", 65534, input) else {
         return reader::read(0, 0, plan, file);
     };
-    let Digits::Are(ioa) = keyline::number(b"ioa=", 16777215, second) else {
+    let Digits::Are(ioa) = text_keyline::number(b"ioa=", 16777215, second) else {
         return reader::read(0, 0, plan, file);
     };
     reader::read(ca as u32, ioa as u32, plan, file)

@@ -1,16 +1,16 @@
 -- THE LAW: the part of a file that is found for a field of the market layout holds the value that the reader takes: the first line with the field's
 -- label outside the separators is the field's first entry. Assumes nothing.
 use Prim.Native.Nat.{ℕ, zero, suc, _+_, _≤_}
-use Rattle.entry.proofs.Labels.{in-layout, own-place}
+use Rattle.reader_line.proofs.Labels.{in-layout, own-place}
 use Rattle.layout.proofs.Labels.{label-at}
 use Rattle.layout.specs.Layouts.{labelsOf, labelAt}
 use Rattle.layout.specs.declared.Layout.the-variants.{Market}
-use Rattle.lines.proofs.Params.{equals-trim, no-param, param-of-line}
-use Rattle.lines.proofs.Standing.{place-at}
-use Rattle.lines.specs.Entries.{Entry, placeOf, entryOf, entries, valueAt}
-use Rattle.lines.specs.Lines.{param, paramOf, params, lines, textOf, texts, isSep, mark, marked, ifOutside, outside}
+use Rattle.text_lines.proofs.Params.{equals-trim, no-param, param-of-line}
+use Rattle.text_lines.proofs.Standing.{place-at}
+use Rattle.text_lines.specs.Entries.{Entry, placeOf, entryOf, entries, valueAt}
+use Rattle.text_lines.specs.Lines.{param, paramOf, params, lines, textOf, texts, isSep, mark, marked, ifOutside, outside}
 use Rattle.reader.specs.Messages.{given}
-use Rattle.sheet.specs.declared.Part.{Part}
+use Rattle.times_sheet.specs.declared.Part.{Part}
 use Rattle.text.proofs.Cuts.{same-true}
 use Rattle.text.proofs.Tests.{by-test}
 use Rattle.text.specs.Bytes.{any, is, past, same, trim, upto}

@@ -1,9 +1,9 @@
 -- The lines of a file at their places, and the place of a line's value. Assumes nothing.
 use Prim.Native.Nat.{ℕ, suc, _+_, _-_, _≤_}
-use Rattle.lines.proofs.Leaves.{trim-holds}
-use Rattle.lines.specs.Lines.{push, lines}
-use Rattle.sheet.proofs.Rests.{past-length, past-place}
-use Rattle.sheet.specs.declared.Part.{Part}
+use Rattle.text_lines.proofs.Leaves.{trim-holds}
+use Rattle.text_lines.specs.Lines.{push, lines}
+use Rattle.times_sheet.proofs.Rests.{past-length, past-place}
+use Rattle.times_sheet.specs.declared.Part.{Part}
 use Rattle.text.proofs.Cuts.{part-from, part-front, length-part, upto-take, upto-length}
 use Rattle.text.proofs.Tests.{by-test}
 use Rattle.text.specs.Bytes.{is, isBlank, part, past, skip, skipEnd, trim, upto}

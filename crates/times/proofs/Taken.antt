@@ -4,18 +4,18 @@ use Rattle.layout.proofs.Labels.{kinds-length, kind-at}
 use Rattle.layout.specs.Layouts.{kindsOf, kindAt, sizeOf}
 use Rattle.layout.specs.Rows.{textAt}
 use Rattle.layout.specs.declared.Layout.{Layout}
-use Rattle.lines.specs.Entries.{Entry, valueAt, column}
-use Rattle.name.specs.declared.MessageType.{MessageType}
+use Rattle.text_lines.specs.Entries.{Entry, valueAt, column}
+use Rattle.value_name.specs.declared.MessageType.{MessageType}
 use Rattle.plan.specs.Plans.{planOf, soughtOf}
 use Rattle.plan.specs.declared.Sought.{Sought}
 use Rattle.reader.proofs.Firsts.{accepted-none, numbers}
 use Rattle.reader.specs.Messages.{valuesOf, isBad, goodOf, bodyOf}
 use Rattle.reader.specs.Reader.{bodyIn, unitIn, planned, answerAt, readOf}
 use Rattle.reader.specs.declared.Answer.{Answer}
-use Rattle.reading.proofs.Agreed.{Accepted, accepted}
-use Rattle.reading.proofs.Held.ReadAll.{end, next}
-use Rattle.reading.proofs.Held.{ReadAll, read-all, read-at}
-use Rattle.reading.proofs.Validity.{good-of, message-at}
+use Rattle.reader_theorems.proofs.Agreed.{Accepted, accepted}
+use Rattle.reader_theorems.proofs.Held.ReadAll.{end, next}
+use Rattle.reader_theorems.proofs.Held.{ReadAll, read-all, read-at}
+use Rattle.reader_theorems.proofs.Validity.{good-of, message-at}
 use Rattle.record.proofs.Fields.{value-at}
 use Rattle.record.specs.Records.{fieldOf, recordOf}
 use Rattle.value.specs.Kinds.{valueOf}

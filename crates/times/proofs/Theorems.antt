@@ -1,24 +1,24 @@
 -- THE THEOREMS: where a time stands. In the file it is the record's value, in the sheet a number, where the record has none; the two calls refuse alike;
 -- and a part is empty exactly on refusal. Assumes nothing.
 use Prim.Native.Nat.{ℕ, suc, _+_, _≤_, _<_}
-use Rattle.asked.specs.Values.{isFilled}
-use Rattle.brief.specs.Brief.{unitOf}
+use Rattle.value_ask.specs.Values.{isFilled}
+use Rattle.report_brief.specs.Brief.{unitOf}
 use Rattle.layout.proofs.Labels.{labels-length}
 use Rattle.layout.specs.Fields.{command, technical, market}
 use Rattle.layout.specs.Layouts.{fieldsOf, labelsOf, kindsOf, labelAt, kindAt, sizeOf}
 use Rattle.layout.specs.declared.Layout.the-variants.{Market}
 use Rattle.layout.specs.declared.Layout.{Layout}
-use Rattle.lines.specs.Entries.{entries, valueAt, column}
+use Rattle.text_lines.specs.Entries.{entries, valueAt, column}
 use Rattle.reader.specs.Messages.{given, layoutIn, entriesIn, valuesOf, isBad, bodyOf}
 use Rattle.reader.specs.Reader.{bodyIn, readOf}
 use Rattle.reader.specs.declared.Answer.{Answer}
 use Rattle.record.specs.Records.{fieldOf, recordOf}
 use Rattle.record.specs.declared.Record.{Record}
-use Rattle.sheet.proofs.Sheets.{for-good, sheet-part}
-use Rattle.sheet.specs.Sheet.{isNumber, isFor, sheetPart}
-use Rattle.sheet.specs.declared.Part.{Part}
-use Rattle.sheet.specs.declared.Which.the-variants.{StartUp, Ramp}
-use Rattle.sheet.specs.declared.Which.{Which}
+use Rattle.times_sheet.proofs.Sheets.{for-good, sheet-part}
+use Rattle.times_sheet.specs.Sheet.{isNumber, isFor, sheetPart}
+use Rattle.times_sheet.specs.declared.Part.{Part}
+use Rattle.times_sheet.specs.declared.Which.the-variants.{StartUp, Ramp}
+use Rattle.times_sheet.specs.declared.Which.{Which}
 use Rattle.text.proofs.Cuts.{length-part}
 use Rattle.text.specs.Bytes.{part}
 use Rattle.times.proofs.Fields.{field-holds}

@@ -1,8 +1,8 @@
 -- Where a time stands, as the functions tell it: each way to an answer, and that the answer's part lies in its text. Assumes nothing.
 use Prim.Native.Nat.{ℕ, _≤_}
-use Rattle.asked.specs.Values.{isFilled}
-use Rattle.brief.specs.Brief.{unitOf}
-use Rattle.fill.specs.Filled.{recordWith}
+use Rattle.value_ask.specs.Values.{isFilled}
+use Rattle.report_brief.specs.Brief.{unitOf}
+use Rattle.reader_fill.specs.Filled.{recordWith}
 use Rattle.layout.proofs.Labels.{good-label}
 use Rattle.layout.specs.Fields.{command, technical, market}
 use Rattle.layout.specs.Layouts.{fieldsOf, labelAt}
@@ -17,11 +17,11 @@ use Rattle.reader.specs.declared.Answer.{Answer}
 use Rattle.reader.specs.declared.Reading.{Reading}
 use Rattle.record.specs.Records.{fieldOf}
 use Rattle.record.specs.declared.Record.{Record}
-use Rattle.sheet.proofs.Sheets.{for-good, sheet-part}
-use Rattle.sheet.specs.Sheet.{isFor, sheetPart}
-use Rattle.sheet.specs.declared.Part.{Part}
-use Rattle.sheet.specs.declared.Which.the-variants.{StartUp, Ramp}
-use Rattle.sheet.specs.declared.Which.{Which}
+use Rattle.times_sheet.proofs.Sheets.{for-good, sheet-part}
+use Rattle.times_sheet.specs.Sheet.{isFor, sheetPart}
+use Rattle.times_sheet.specs.declared.Part.{Part}
+use Rattle.times_sheet.specs.declared.Which.the-variants.{StartUp, Ramp}
+use Rattle.times_sheet.specs.declared.Which.{Which}
 use Rattle.text.specs.Bytes.{part}
 use Rattle.times.proofs.Fields.{field-holds}
 use Rattle.times.proofs.Markets.{market-is}

@@ -1,8 +1,8 @@
 -- The search for a field's line, one line after another: what is left of the file's lines has the whole's answer. Assumes nothing.
 use Prim.Native.Nat.{ℕ, _+_, _-_, _≤_, _<_}
-use Rattle.lines.proofs.Steps.{lines-step}
-use Rattle.lines.specs.Lines.{lines, isSep}
-use Rattle.sheet.specs.declared.Part.{Part}
+use Rattle.text_lines.proofs.Steps.{lines-step}
+use Rattle.text_lines.specs.Lines.{lines, isSep}
+use Rattle.times_sheet.specs.declared.Part.{Part}
 use Rattle.text.proofs.Cuts.{tail, past-drop, upto-length}
 use Rattle.text.specs.Bytes.{is, part, past, upto, firstOf, trim}
 use Rattle.times.proofs.Values.{front-is}

@@ -1,22 +1,22 @@
 -- The unit of a market record is the text that stands at its place in the file. Assumes nothing.
 use Prim.Native.Nat.{ℕ, zero, suc, _-_}
-use Rattle.asked.specs.Values.{sizeIn}
-use Rattle.brief.specs.Brief.{unitOf}
-use Rattle.fill.proofs.Stored.{kept-in-room}
-use Rattle.fill.specs.Filled.{recordWith}
+use Rattle.value_ask.specs.Values.{sizeIn}
+use Rattle.report_brief.specs.Brief.{unitOf}
+use Rattle.reader_fill.proofs.Stored.{kept-in-room}
+use Rattle.reader_fill.specs.Filled.{recordWith}
 use Rattle.layout.specs.Fields.{command, technical, market}
 use Rattle.layout.specs.Layouts.{fieldsOf, kindsOf, kindAt}
 use Rattle.layout.specs.Rows.{textAt}
 use Rattle.layout.specs.declared.Layout.the-variants.{Market}
 use Rattle.layout.specs.declared.Layout.{Layout}
-use Rattle.list.specs.declared.Triple.{Triple}
-use Rattle.name.proofs.RoundTrip.{unit-size}
-use Rattle.name.specs.Names.{isUnitByte, isUnit}
+use Rattle.value_list.specs.declared.Triple.{Triple}
+use Rattle.value_name.proofs.RoundTrip.{unit-size}
+use Rattle.value_name.specs.Names.{isUnitByte, isUnit}
 use Rattle.reader.specs.Messages.{valuesOf, isBad, bodyOf}
 use Rattle.record.specs.Records.{fieldOf, recordOf}
 use Rattle.record.specs.declared.Cell.{Cell}
 use Rattle.record.specs.declared.Record.{Record}
-use Rattle.room.specs.Rooms.{keptIn}
+use Rattle.text_room.specs.Rooms.{keptIn}
 use Rattle.text.proofs.Cuts.{upto-seam, upto-all, all-none}
 use Rattle.text.proofs.Tests.{by-test, and-parts}
 use Rattle.text.specs.Bytes.{all, any, is, upto, within}

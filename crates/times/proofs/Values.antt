@@ -1,7 +1,7 @@
 -- The value of a parameter line: whose it is, where it begins and ends, and that this is within the line. Assumes nothing.
 use Prim.Native.Nat.{ℕ, _+_, _-_, _≤_}
-use Rattle.entry.proofs.Meanings.{none-there, one-there}
-use Rattle.sheet.proofs.Rests.{past-length}
+use Rattle.reader_line.proofs.Meanings.{none-there, one-there}
+use Rattle.times_sheet.proofs.Rests.{past-length}
 use Rattle.text.proofs.Cuts.{past-drop, skip-length, upto-take}
 use Rattle.text.proofs.Trims.{end-length}
 use Rattle.text.specs.Bytes.{is, upto, past, firstOf, isBlank, same, skip, trim}

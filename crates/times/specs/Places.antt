@@ -1,8 +1,8 @@
 -- Where the value of a label stands in a file. Document 01, "Lines of a message" and "Times"; reading 82: the trimmed value, without the blanks about it.
 -- Bytes: 13 CR, 61 '='.
 use Prim.Native.Nat.{ℕ, _+_, _-_}
-use Rattle.lines.specs.Lines.{lines, isSep}
-use Rattle.sheet.specs.declared.Part.{Part}
+use Rattle.text_lines.specs.Lines.{lines, isSep}
+use Rattle.times_sheet.specs.declared.Part.{Part}
 use Rattle.text.specs.Bytes.{is, any, upto, past, skip, isBlank, same, trim}
 use lib.Dec.{eqb}
 use lib.ListN.{length}

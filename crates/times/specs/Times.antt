@@ -1,18 +1,18 @@
 -- Start-up and ramp times. Document 01, "Times": the answer is that part of the message file which holds the value, or, where it is blank, that part of
 -- the sheet. Order: the reader's, 16, 14. A refusal gives an empty part. Reading 79: the sheet is judged even where the message has the value.
 use Prim.Native.Nat.{ℕ, _≤_}
-use Rattle.asked.specs.Values.{isFilled}
-use Rattle.brief.specs.Brief.{unitOf}
+use Rattle.value_ask.specs.Values.{isFilled}
+use Rattle.report_brief.specs.Brief.{unitOf}
 use Rattle.layout.specs.Layouts.{labelAt}
 use Rattle.layout.specs.declared.Layout.the-variants.{Market, Mfrr, Revocation, Generic, Exclusion, Limitation, Secondary, VoltVar, Rejection, Reserve}
 use Rattle.layout.specs.declared.Layout.{Layout}
 use Rattle.reader.specs.Reader.{readOf}
 use Rattle.reader.specs.declared.Answer.{Answer}
 use Rattle.record.specs.Records.{fieldOf}
-use Rattle.sheet.specs.Sheet.{isFor, sheetPart}
-use Rattle.sheet.specs.declared.Part.{Part}
-use Rattle.sheet.specs.declared.Which.the-variants.{StartUp, Ramp}
-use Rattle.sheet.specs.declared.Which.{Which}
+use Rattle.times_sheet.specs.Sheet.{isFor, sheetPart}
+use Rattle.times_sheet.specs.declared.Part.{Part}
+use Rattle.times_sheet.specs.declared.Which.the-variants.{StartUp, Ramp}
+use Rattle.times_sheet.specs.declared.Which.{Which}
 use Rattle.text.specs.Bytes.{part}
 use Rattle.times.specs.Places.{fieldPart}
 use Rattle.times.specs.declared.Refusal.{Refusal}

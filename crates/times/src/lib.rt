@@ -2,7 +2,7 @@
 mod place;
 
 use layout::Layout;
-use sheet::Which;
+use times_sheet::Which;
 ghost use Rattle.times.specs.Times.{fieldNo, isMarket, timeOf, partIn, Within, refusalIn};
 ghost use mathlib.Core.Path.{_≡_};
 
@@ -51,16 +51,16 @@ pub fn locate(w: Which, ca: u32, ioa: u32, plan: &[u8], file: &[u8], sheet: &[u8
         return Time::Refused(16, 0);
     }
     let places = x.places;
-    if !sheet::is_for(fill::text_at(l, file, places, 2), sheet) {
+    if !times_sheet::is_for(reader_fill::text_at(l, file, places, 2), sheet) {
         return Time::Refused(14, 0);
     }
     let k = field_no(w);
     let cells = x.cells;
-    if asked::is_filled(record::field(cells, k)) {
+    if value_ask::is_filled(record::field(cells, k)) {
         let p = place::of_field(k, file);
         return Time::File(p.from, p.to);
     }
-    let p = sheet::time_part(w, sheet);
+    let p = times_sheet::time_part(w, sheet);
     Time::Sheet(p.from, p.to)
 }
 

@@ -1,7 +1,7 @@
 // Where the value of a field stands in a file: in the first line with its label that is not between the separators.
 use layout::Layout;
-use sheet::Part;
 use text::scan;
+use times_sheet::Part;
 ghost use Prim.Native.Nat.{_+_, _≤_, _<_};
 ghost use Rattle.layout.specs.Layouts.{labelAt};
 ghost use Rattle.layout.specs.declared.Layout.the-variants.{Market};
@@ -19,7 +19,7 @@ fn is_of(k: usize, text: &[u8]) -> bool
     if e == text.len() {
         return false;
     }
-    entry::is_label(Layout::Market, k, scan::trim(&text[..e]))
+    reader_line::is_label(Layout::Market, k, scan::trim(&text[..e]))
 }
 
 // The value of a parameter line that begins at a place: what follows the first '=', without the blanks at its ends.
@@ -53,7 +53,7 @@ pub fn of_field(k: usize, s: &[u8]) -> Part
     while at < s.len() {
         let end = at + scan::first(&s[at..], b'\n');
         let text = text_of(&s[at..end]);
-        if lines::is_separator(scan::trim(text)) {
+        if text_lines::is_separator(scan::trim(text)) {
             seps += 1;
         } else if (seps != 1) & is_of(k, text) {
             return value_part(at, text);

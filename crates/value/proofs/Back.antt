@@ -1,15 +1,15 @@
 -- THE LAW: the text of a valid value of any kind reads back as that value. One line for each shape, then once for all kinds.
 -- Assumes nothing.
 use Prim.Native.Nat.{ℕ, _≤_}
-use Rattle.date.proofs.Back.{date-back, date-length}
-use Rattle.list.proofs.RoundTrip.{numbers-back, gradients-back}
-use Rattle.list.proofs.Texts.{numbers-some, gradients-some}
-use Rattle.name.proofs.RoundTrip.{identifier-back, identifier-length, sequence-back, unit-size}
-use Rattle.name.specs.declared.MessageType.{MessageType}
-use Rattle.number.proofs.RoundTrip.{number-back, number-some, number-empty}
-use Rattle.number.specs.Number.{scaled, fractionOf, joined, unsignedOf, plus, minus, numberOf, numberText}
-use Rattle.number.specs.declared.Number.{Number}
-use Rattle.number.specs.declared.Number.the-variants.{Is as IsNumber, Bad as NoNumber}
+use Rattle.value_date.proofs.Back.{date-back, date-length}
+use Rattle.value_list.proofs.RoundTrip.{numbers-back, gradients-back}
+use Rattle.value_list.proofs.Texts.{numbers-some, gradients-some}
+use Rattle.value_name.proofs.RoundTrip.{identifier-back, identifier-length, sequence-back, unit-size}
+use Rattle.value_name.specs.declared.MessageType.{MessageType}
+use Rattle.value_number.proofs.RoundTrip.{number-back, number-some, number-empty}
+use Rattle.value_number.specs.Number.{scaled, fractionOf, joined, unsignedOf, plus, minus, numberOf, numberText}
+use Rattle.value_number.specs.declared.Number.{Number}
+use Rattle.value_number.specs.declared.Number.the-variants.{Is as IsNumber, Bad as NoNumber}
 use Rattle.text.proofs.Numerals.{whole-some}
 use Rattle.text.proofs.Tables.{all-at}
 use Rattle.text.specs.Bytes.{all, upto}
@@ -24,8 +24,8 @@ use Rattle.value.specs.declared.Kind.{Kind}
 use Rattle.value.specs.declared.Shape.{Shape}
 use Rattle.value.specs.declared.Value.{Value}
 use Rattle.value.specs.declared.Value.the-variants.{Unit}
-use Rattle.word.proofs.RoundTrip.{word-back, word-some}
-use Rattle.word.specs.Words.{commandWords, modeWords, settingWords, words, word, wordIn}
+use Rattle.value_word.proofs.RoundTrip.{word-back, word-some}
+use Rattle.value_word.specs.Words.{commandWords, modeWords, settingWords, words, word, wordIn}
 use borrow.Author.Tests.{le-leb, ne-eqb}
 use lib.IntN.{ℤ}
 use lib.ListN.{length, take}

@@ -1,23 +1,23 @@
 -- THE LAW: what is read of a trimmed text is valid where its kind stands. One line for each shape, then once for all kinds. Assumes nothing.
 use Prim.Native.Nat.{ℕ, _-_, _≤_}
-use Rattle.date.proofs.Back.{date-real}
-use Rattle.date.specs.Date.{dateOf}
-use Rattle.date.specs.declared.Date.{Date}
-use Rattle.date.specs.declared.Dated.{Dated}
-use Rattle.date.specs.declared.Dated.the-variants.{Is as IsDate, Bad as NoDate}
-use Rattle.list.proofs.RoundTrip.{numbers-valid, gradients-valid}
-use Rattle.list.specs.Forms.{ValidGradients, profileOf, bandsOf, gradientsIn}
-use Rattle.list.specs.declared.Listed.{Listed}
-use Rattle.list.specs.declared.Listed.the-variants.{Are as AreNumbers, Bad as NoNumbers}
-use Rattle.list.specs.declared.Numbers.{Numbers as Few}
-use Rattle.list.specs.declared.Triple.{Triple}
-use Rattle.name.proofs.RoundTrip.{identifier-range, sequence-range, unit-size}
-use Rattle.name.specs.Names.{identifierOf, sequenceOf, isUnit}
-use Rattle.name.specs.declared.MessageType.{MessageType}
-use Rattle.number.proofs.RoundTrip.{number-range}
-use Rattle.number.specs.Number.{numberOf}
-use Rattle.number.specs.declared.Number.{Number}
-use Rattle.number.specs.declared.Number.the-variants.{Is as IsNumber, Bad as NoNumber}
+use Rattle.value_date.proofs.Back.{date-real}
+use Rattle.value_date.specs.Date.{dateOf}
+use Rattle.value_date.specs.declared.Date.{Date}
+use Rattle.value_date.specs.declared.Dated.{Dated}
+use Rattle.value_date.specs.declared.Dated.the-variants.{Is as IsDate, Bad as NoDate}
+use Rattle.value_list.proofs.RoundTrip.{numbers-valid, gradients-valid}
+use Rattle.value_list.specs.Forms.{ValidGradients, profileOf, bandsOf, gradientsIn}
+use Rattle.value_list.specs.declared.Listed.{Listed}
+use Rattle.value_list.specs.declared.Listed.the-variants.{Are as AreNumbers, Bad as NoNumbers}
+use Rattle.value_list.specs.declared.Numbers.{Numbers as Few}
+use Rattle.value_list.specs.declared.Triple.{Triple}
+use Rattle.value_name.proofs.RoundTrip.{identifier-range, sequence-range, unit-size}
+use Rattle.value_name.specs.Names.{identifierOf, sequenceOf, isUnit}
+use Rattle.value_name.specs.declared.MessageType.{MessageType}
+use Rattle.value_number.proofs.RoundTrip.{number-range}
+use Rattle.value_number.specs.Number.{numberOf}
+use Rattle.value_number.specs.declared.Number.{Number}
+use Rattle.value_number.specs.declared.Number.the-variants.{Is as IsNumber, Bad as NoNumber}
 use Rattle.text.proofs.Tests.{by-test, by-le, and-parts}
 use Rattle.text.specs.Bytes.{tidy}
 use Rattle.text.specs.Puts.{roomOf}
@@ -35,10 +35,10 @@ use Rattle.value.specs.declared.Shape.{Shape}
 use Rattle.value.specs.declared.Shape.the-variants.{IsId, IsUnit, IsWhen, IsAmount, IsCount, IsReason, IsNote, IsWord, IsProfile, IsBands, IsTriples, IsVoltage, IsRegulator, IsChange, IsReactive}
 use Rattle.value.specs.declared.Value.{Value}
 use Rattle.value.specs.declared.Value.the-variants.{Id, When, Amount, Count, Reason, Note, Word, List as Numbers, Triples, Unit as UnitOf}
-use Rattle.word.proofs.RoundTrip.{word-range}
-use Rattle.word.specs.Words.{wordIn}
-use Rattle.word.specs.declared.Word.{Word as WordRead}
-use Rattle.word.specs.declared.Word.the-variants.{Is as IsText, Not as NoText}
+use Rattle.value_word.proofs.RoundTrip.{word-range}
+use Rattle.value_word.specs.Words.{wordIn}
+use Rattle.value_word.specs.declared.Word.{Word as WordRead}
+use Rattle.value_word.specs.declared.Word.the-variants.{Is as IsText, Not as NoText}
 use borrow.Author.Tests.{leb-true, le-leb, lt-leb, eq-eqb}
 use lib.Dec.{eqb, leb}
 use lib.IntN.{ℤ}

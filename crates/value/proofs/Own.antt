@@ -1,22 +1,22 @@
 -- THE LAW: a value is read from its own text, where what is a number stands in its shortest form. One line for each shape, then once for all
 -- kinds. Assumes nothing.
 use Prim.Native.Nat.{ℕ, _≤_}
-use Rattle.date.proofs.Own.{date-own}
-use Rattle.date.specs.Date.{dateOf}
-use Rattle.date.specs.declared.Dated.{Dated}
-use Rattle.date.specs.declared.Dated.the-variants.{Is as IsDate, Bad as NoDate}
-use Rattle.list.proofs.Own.{numbers-own, gradients-own}
-use Rattle.list.specs.Forms.{numbersIn, gradientsIn, gradientsText}
-use Rattle.list.specs.declared.Listed.{Listed}
-use Rattle.list.specs.declared.Listed.the-variants.{Are as AreNumbers, Bad as NoNumbers}
-use Rattle.list.specs.declared.Triple.{Triple}
-use Rattle.name.proofs.Own.{identifier-own, sequence-own}
-use Rattle.name.specs.Names.{identifierOf, identifierText, isUnit, sequenceOf}
-use Rattle.name.specs.declared.MessageType.{MessageType}
-use Rattle.number.proofs.Own.{number-own}
-use Rattle.number.specs.Number.{numberOf, areShort, numberText}
-use Rattle.number.specs.declared.Number.{Number}
-use Rattle.number.specs.declared.Number.the-variants.{Is as IsNumber, Bad as NoNumber}
+use Rattle.value_date.proofs.Own.{date-own}
+use Rattle.value_date.specs.Date.{dateOf}
+use Rattle.value_date.specs.declared.Dated.{Dated}
+use Rattle.value_date.specs.declared.Dated.the-variants.{Is as IsDate, Bad as NoDate}
+use Rattle.value_list.proofs.Own.{numbers-own, gradients-own}
+use Rattle.value_list.specs.Forms.{numbersIn, gradientsIn, gradientsText}
+use Rattle.value_list.specs.declared.Listed.{Listed}
+use Rattle.value_list.specs.declared.Listed.the-variants.{Are as AreNumbers, Bad as NoNumbers}
+use Rattle.value_list.specs.declared.Triple.{Triple}
+use Rattle.value_name.proofs.Own.{identifier-own, sequence-own}
+use Rattle.value_name.specs.Names.{identifierOf, identifierText, isUnit, sequenceOf}
+use Rattle.value_name.specs.declared.MessageType.{MessageType}
+use Rattle.value_number.proofs.Own.{number-own}
+use Rattle.value_number.specs.Number.{numberOf, areShort, numberText}
+use Rattle.value_number.specs.declared.Number.{Number}
+use Rattle.value_number.specs.declared.Number.the-variants.{Is as IsNumber, Bad as NoNumber}
 use Rattle.text.proofs.Tests.{by-test, and-parts}
 use Rattle.text.specs.declared.digits.Digits.{Digits}
 use Rattle.text.specs.declared.digits.Digits.the-variants.{Are, Not}
@@ -31,10 +31,10 @@ use Rattle.value.specs.declared.Shape.the-variants.{IsId, IsUnit, IsWhen
 use Rattle.value.specs.declared.Shape.the-variants.{IsProfile, IsBands, IsTriples, IsVoltage, IsRegulator, IsChange, IsReactive}
 use Rattle.value.specs.declared.Value.{Value}
 use Rattle.value.specs.declared.Value.the-variants.{Blank, Id, When, Amount, Count, Reason, Note, List as Numbers, Triples}
-use Rattle.word.proofs.RoundTrip.{word-is}
-use Rattle.word.specs.Words.{wordIn}
-use Rattle.word.specs.declared.Word.{Word as WordRead}
-use Rattle.word.specs.declared.Word.the-variants.{Is as IsText, Not as NoText}
+use Rattle.value_word.proofs.RoundTrip.{word-is}
+use Rattle.value_word.specs.Words.{wordIn}
+use Rattle.value_word.specs.declared.Word.{Word as WordRead}
+use Rattle.value_word.specs.declared.Word.the-variants.{Is as IsText, Not as NoText}
 use borrow.Author.Tests.{eqb-true}
 use lib.Dec.{eqb, leb, lit≤}
 use lib.IntN.{ℤ}

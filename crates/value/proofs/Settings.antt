@@ -1,7 +1,7 @@
 -- What a setting and the gradients are read as, from what their leaves answer. Assumes nothing.
-use Rattle.list.specs.declared.GradientsRead.{GradientsRead}
-use Rattle.number.specs.declared.Number.{Number}
-use Rattle.number.specs.declared.Number.the-variants.{Is as IsNumber, Bad as NoNumber}
+use Rattle.value_list.specs.declared.GradientsRead.{GradientsRead}
+use Rattle.value_number.specs.declared.Number.{Number}
+use Rattle.value_number.specs.declared.Number.the-variants.{Is as IsNumber, Bad as NoNumber}
 use Rattle.value.specs.Kinds.{triplesFrom, settingFrom}
 use Rattle.value.specs.declared.Got.{Got}
 use Rattle.value.specs.declared.Got.the-variants.{Read, Bad}

@@ -1,11 +1,11 @@
 -- The text of a valid value can stand in a file: its bytes can be printed, it is trimmed, and it is short. One line for each shape.
 -- Assumes nothing.
-use Rattle.date.proofs.Back.{date-tidy}
-use Rattle.list.proofs.Texts.{numbers-tidy, gradients-tidy}
-use Rattle.name.proofs.RoundTrip.{identifier-tidy, sequence-tidy, unit-tidy}
-use Rattle.name.specs.declared.MessageType.{MessageType}
-use Rattle.number.proofs.RoundTrip.{number-bytes}
-use Rattle.number.specs.Number.{numberText}
+use Rattle.value_date.proofs.Back.{date-tidy}
+use Rattle.value_list.proofs.Texts.{numbers-tidy, gradients-tidy}
+use Rattle.value_name.proofs.RoundTrip.{identifier-tidy, sequence-tidy, unit-tidy}
+use Rattle.value_name.specs.declared.MessageType.{MessageType}
+use Rattle.value_number.proofs.RoundTrip.{number-bytes}
+use Rattle.value_number.specs.Number.{numberText}
 use Rattle.text.proofs.Cuts.{all-weaker, all-none}
 use Rattle.text.proofs.Tests.{within-tells, untold, eqb-tells}
 use Rattle.text.proofs.Trims.{tidy-none, tidy-empty}
@@ -17,7 +17,7 @@ use Rattle.value.specs.Valid.Holds.{blank, filled}
 use Rattle.value.specs.declared.Kind.{Kind}
 use Rattle.value.specs.declared.Shape.{Shape}
 use Rattle.value.specs.declared.Value.{Value}
-use Rattle.word.proofs.RoundTrip.{word-tidy}
+use Rattle.value_word.proofs.RoundTrip.{word-tidy}
 use lib.IntN.{ℤ}
 use lib.ListN.{take}
 use mathlib.Core.Bool.{true}

@@ -1,16 +1,16 @@
 -- What a field may hold, and what its trimmed text is read as. Document 01, "Values". One definition for each shape, one for all kinds.
 use Prim.Native.Nat.{ℕ}
-use Rattle.date.specs.Date.{dateOf}
-use Rattle.date.specs.declared.Dated.{Dated}
-use Rattle.date.specs.declared.Dated.the-variants.{Is as IsDate, Bad as NoDate}
-use Rattle.list.specs.Forms.{profileOf, bandsOf, gradientsIn}
-use Rattle.list.specs.declared.GradientsRead.{GradientsRead}
-use Rattle.list.specs.declared.Listed.{Listed}
-use Rattle.list.specs.declared.Listed.the-variants.{Are as AreNumbers, Bad as NoNumbers}
-use Rattle.name.specs.Names.{identifierOf, isUnit, sequenceOf}
-use Rattle.number.specs.Number.{numberOf}
-use Rattle.number.specs.declared.Number.{Number}
-use Rattle.number.specs.declared.Number.the-variants.{Is as IsNumber, Bad as NoNumber}
+use Rattle.value_date.specs.Date.{dateOf}
+use Rattle.value_date.specs.declared.Dated.{Dated}
+use Rattle.value_date.specs.declared.Dated.the-variants.{Is as IsDate, Bad as NoDate}
+use Rattle.value_list.specs.Forms.{profileOf, bandsOf, gradientsIn}
+use Rattle.value_list.specs.declared.GradientsRead.{GradientsRead}
+use Rattle.value_list.specs.declared.Listed.{Listed}
+use Rattle.value_list.specs.declared.Listed.the-variants.{Are as AreNumbers, Bad as NoNumbers}
+use Rattle.value_name.specs.Names.{identifierOf, isUnit, sequenceOf}
+use Rattle.value_number.specs.Number.{numberOf}
+use Rattle.value_number.specs.declared.Number.{Number}
+use Rattle.value_number.specs.declared.Number.the-variants.{Is as IsNumber, Bad as NoNumber}
 use Rattle.text.specs.declared.digits.Digits.{Digits}
 use Rattle.text.specs.declared.digits.Digits.the-variants.{Are, Not}
 use Rattle.value.specs.declared.Got.{Got}
@@ -20,9 +20,9 @@ use Rattle.value.specs.declared.Shape.{Shape}
 use Rattle.value.specs.declared.Shape.the-variants.{IsId, IsUnit, IsWhen, IsAmount, IsCount, IsReason, IsNote, IsWord, IsProfile, IsBands, IsTriples, IsVoltage, IsRegulator, IsChange, IsReactive}
 use Rattle.value.specs.declared.Value.{Value}
 use Rattle.value.specs.declared.Value.the-variants.{Blank, Id, Unit, When, Amount, Count, Reason, Note, Word, List as Numbers, Triples, Voltage, Regulator, Change, Reactive}
-use Rattle.word.specs.Words.{wordIn}
-use Rattle.word.specs.declared.Word.{Word as WordRead}
-use Rattle.word.specs.declared.Word.the-variants.{Is as IsText, Not as NoText}
+use Rattle.value_word.specs.Words.{wordIn}
+use Rattle.value_word.specs.declared.Word.{Word as WordRead}
+use Rattle.value_word.specs.declared.Word.the-variants.{Is as IsText, Not as NoText}
 use lib.Dec.{eqb, leb}
 use lib.IntN.{ℤ}
 use lib.ListN.{length}

@@ -1,14 +1,14 @@
 -- The text of a value. Document 01, "Written form": numbers in shortest form, lists without blanks.
 use Prim.Native.Nat.{ℕ}
-use Rattle.date.specs.Date.{dateText}
-use Rattle.list.specs.Forms.{numbersText, gradientsText}
-use Rattle.list.specs.declared.Triple.{Triple}
-use Rattle.name.specs.Names.{identifierText, sequenceText}
-use Rattle.name.specs.declared.MessageType.{MessageType}
-use Rattle.number.specs.Number.{areShort, numberText}
+use Rattle.value_date.specs.Date.{dateText}
+use Rattle.value_list.specs.Forms.{numbersText, gradientsText}
+use Rattle.value_list.specs.declared.Triple.{Triple}
+use Rattle.value_name.specs.Names.{identifierText, sequenceText}
+use Rattle.value_name.specs.declared.MessageType.{MessageType}
+use Rattle.value_number.specs.Number.{areShort, numberText}
 use Rattle.value.specs.declared.Value.{Value}
 use Rattle.value.specs.declared.Value.the-variants.{Blank, Id, Unit, When, Amount, Count, Reason, Note, Word, List as Numbers, Triples, Voltage, Regulator, Change, Reactive}
-use Rattle.word.specs.Words.{word}
+use Rattle.value_word.specs.Words.{word}
 use lib.ListN.{take}
 use mathlib.Core.Bool.{Bool, true, false, not, _||_}
 use mathlib.Core.List.{List, []}

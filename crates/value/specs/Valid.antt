@@ -1,12 +1,12 @@
 -- What a valid value is where a kind stands: one line for each shape. Document 01, "Values" and "Written form": a record is valid when its
 -- fields obey the above and its texts are trimmed. No rule across fields stands here.
 use Prim.Native.Nat.{ℕ, _^_, _≤_, _<_}
-use Rattle.date.specs.Date.{isReal}
-use Rattle.date.specs.declared.Date.{Date}
-use Rattle.list.specs.Forms.{InRange, ValidNumbers, ValidGradients}
-use Rattle.list.specs.declared.Numbers.{Numbers as Few}
-use Rattle.name.specs.Names.{isUnit}
-use Rattle.name.specs.declared.MessageType.{MessageType}
+use Rattle.value_date.specs.Date.{isReal}
+use Rattle.value_date.specs.declared.Date.{Date}
+use Rattle.value_list.specs.Forms.{InRange, ValidNumbers, ValidGradients}
+use Rattle.value_list.specs.declared.Numbers.{Numbers as Few}
+use Rattle.value_name.specs.Names.{isUnit}
+use Rattle.value_name.specs.declared.MessageType.{MessageType}
 use Rattle.text.specs.Bytes.{tidy}
 use Rattle.value.specs.Kinds.{voltage, regulator, change, reactive}
 use Rattle.value.specs.Texts.{Rooms}

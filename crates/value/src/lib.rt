@@ -1,9 +1,9 @@
 // Every kind of value that a message can hold, and how it is read from its trimmed text. (The crate render puts it as text.)
 pub mod read;
 
-use date::Date;
-use list::Numbers;
-use name::MessageType;
+use value_date::Date;
+use value_list::Numbers;
+use value_name::MessageType;
 
 // The four quantities of VQ, each in thousandths. None may be put for another.
 pub struct Kv(pub i32);

@@ -7,23 +7,23 @@ use crate::MVar;
 use crate::RatPercent;
 use crate::Shape;
 use crate::Value;
-use date::Dated;
-use list::Listed;
-use list::few;
-use list::triples;
-use name::MessageType;
-use name::identifier;
-use name::sequence;
-use name::unit;
-use number::Number;
 use text::digits::Digits;
-use word::Word;
-ghost use Rattle.date.specs.Date.{dateOf};
-ghost use Rattle.list.specs.Forms.{gradientsIn};
-ghost use Rattle.name.specs.Names.{identifierOf, sequenceOf};
-ghost use Rattle.number.specs.Number.{numberOf};
+use value_date::Dated;
+use value_list::Listed;
+use value_list::few;
+use value_list::triples;
+use value_name::MessageType;
+use value_name::identifier;
+use value_name::sequence;
+use value_name::unit;
+use value_number::Number;
+use value_word::Word;
+ghost use Rattle.value_date.specs.Date.{dateOf};
+ghost use Rattle.value_list.specs.Forms.{gradientsIn};
+ghost use Rattle.value_name.specs.Names.{identifierOf, sequenceOf};
+ghost use Rattle.value_number.specs.Number.{numberOf};
 ghost use Rattle.value.specs.Kinds.{idFrom, countFrom, dateFrom, amountFrom, wordFrom, listFrom, triplesFrom, settingFrom, voltage, regulator, change, reactive, shapeOf, valueOf};
-ghost use Rattle.word.specs.Words.{wordIn};
+ghost use Rattle.value_word.specs.Words.{wordIn};
 ghost use mathlib.Core.Path.{_≡_};
 
 fn read_id(t: MessageType, s: &[u8]) -> Got
@@ -47,7 +47,7 @@ fn read_count(s: &[u8]) -> Got
 fn read_date(s: &[u8]) -> Got
     ensures { λ r. ⌜ r ≡ dateFrom (dateOf (now (s .entry))) ⌝ }
 {
-    match date::read(s) {
+    match value_date::read(s) {
         Dated::Is(d) => Got::Read(Value::When(d)),
         Dated::Bad => Got::Bad,
     }
@@ -56,7 +56,7 @@ fn read_date(s: &[u8]) -> Got
 fn read_amount(s: &[u8]) -> Got
     ensures { λ r. ⌜ r ≡ amountFrom (numberOf (now (s .entry))) ⌝ }
 {
-    match number::read(s) {
+    match value_number::read(s) {
         Number::Is(n) => Got::Read(Value::Amount(n)),
         Number::Bad => Got::Bad,
     }
@@ -65,7 +65,7 @@ fn read_amount(s: &[u8]) -> Got
 fn read_word(first: u8, last: u8, s: &[u8]) -> Got
     ensures { λ r. ⌜ r ≡ wordFrom (wordIn first last (now (s .entry))) ⌝ }
 {
-    match word::read(first, last, s) {
+    match value_word::read(first, last, s) {
         Word::Is(w) => Got::Read(Value::Word(w)),
         Word::Not => Got::Bad,
     }
@@ -97,7 +97,7 @@ fn read_triples(s: &[u8]) -> Got
 fn read_voltage(s: &[u8]) -> Got
     ensures { λ r. ⌜ r ≡ settingFrom voltage (numberOf (now (s .entry))) (wordFrom (wordIn 23 24 (now (s .entry)))) ⌝ }
 {
-    match number::read(s) {
+    match value_number::read(s) {
         Number::Is(n) => Got::Read(Value::Voltage(Kv(n))),
         Number::Bad => read_word(23, 24, s),
     }
@@ -107,7 +107,7 @@ fn read_voltage(s: &[u8]) -> Got
 fn read_regulator(s: &[u8]) -> Got
     ensures { λ r. ⌜ r ≡ settingFrom regulator (numberOf (now (s .entry))) (wordFrom (wordIn 23 24 (now (s .entry)))) ⌝ }
 {
-    match number::read(s) {
+    match value_number::read(s) {
         Number::Is(n) => Got::Read(Value::Regulator(RatPercent(n))),
         Number::Bad => read_word(23, 24, s),
     }
@@ -117,7 +117,7 @@ fn read_regulator(s: &[u8]) -> Got
 fn read_change(s: &[u8]) -> Got
     ensures { λ r. ⌜ r ≡ settingFrom change (numberOf (now (s .entry))) Got.Bad ⌝ }
 {
-    match number::read(s) {
+    match value_number::read(s) {
         Number::Is(n) => Got::Read(Value::Change(ChangePercent(n))),
         Number::Bad => Got::Bad,
     }
@@ -127,7 +127,7 @@ fn read_change(s: &[u8]) -> Got
 fn read_reactive(s: &[u8]) -> Got
     ensures { λ r. ⌜ r ≡ settingFrom reactive (numberOf (now (s .entry))) (wordFrom (wordIn 25 27 (now (s .entry)))) ⌝ }
 {
-    match number::read(s) {
+    match value_number::read(s) {
         Number::Is(n) => Got::Read(Value::Reactive(MVar(n))),
         Number::Bad => read_word(25, 27, s),
     }

@@ -1,24 +1,24 @@
 -- Where each value stands as it is written, the written form of the record is that of the file's own texts. Assumes nothing.
 use Prim.Native.Nat.{ℕ, suc, _+_, _-_, _≤_, _<_}
-use Rattle.fill.proofs.Stored.{SuitsAs, suits}
-use Rattle.fill.specs.Filled.{recordWith}
+use Rattle.reader_fill.proofs.Stored.{SuitsAs, suits}
+use Rattle.reader_fill.specs.Filled.{recordWith}
 use Rattle.layout.proofs.Labels.{kinds-length, kind-at, few}
 use Rattle.layout.specs.Layouts.{kindsOf, kindAt, noKind, sizeOf, typeOf}
 use Rattle.layout.specs.Rows.{textAt}
 use Rattle.layout.specs.declared.Layout.{Layout}
-use Rattle.lines.proofs.Columns.{column-length}
-use Rattle.list.specs.Forms.{gradientsIn}
-use Rattle.list.specs.declared.Triple.{Triple}
-use Rattle.name.specs.declared.MessageType.{MessageType}
+use Rattle.text_lines.proofs.Columns.{column-length}
+use Rattle.value_list.specs.Forms.{gradientsIn}
+use Rattle.value_list.specs.declared.Triple.{Triple}
+use Rattle.value_name.specs.declared.MessageType.{MessageType}
 use Rattle.reader.proofs.Concluding.{concluded-yes}
 use Rattle.reader.specs.Messages.{valuesOf, goodOf, bodyOf}
 use Rattle.reader.specs.Reader.{readOf}
 use Rattle.reader.specs.State.{columnAt, Reads}
 use Rattle.reader.specs.declared.Answer.{Answer}
 use Rattle.reader.specs.declared.Reading.{Reading}
-use Rattle.reading.proofs.Held.{ReadAll, read-all}
-use Rattle.reading.proofs.Held.ReadAll.{end, next}
-use Rattle.reading.proofs.Validity.{good-of, read-short}
+use Rattle.reader_theorems.proofs.Held.{ReadAll, read-all}
+use Rattle.reader_theorems.proofs.Held.ReadAll.{end, next}
+use Rattle.reader_theorems.proofs.Validity.{good-of, read-short}
 use Rattle.record.specs.Records.{cell, cellsOf, recordOf, reasonField, noteField, gradientsField, typed}
 use Rattle.record.specs.Records.Typed.{good}
 use Rattle.record.specs.declared.Cell.{Cell}
@@ -36,9 +36,9 @@ use Rattle.writer.proofs.Ends.{Put}
 use Rattle.writer.proofs.Normal.{Normal, taken-held, taken-end}
 use Rattle.writer.specs.Copied.{allWritten, Copies}
 use Rattle.writer.specs.declared.Written.{Written}
-use Rattle.written.proofs.Sizes.{message-small}
-use Rattle.written.proofs.Values.{cells-front}
-use Rattle.written.specs.Written.{writtenOf, valuesIn, messageText}
+use Rattle.writer_form.proofs.Sizes.{message-small}
+use Rattle.writer_form.proofs.Values.{cells-front}
+use Rattle.writer_form.specs.Written.{writtenOf, valuesIn, messageText}
 use lib.ListN.{length, getD, take, replicate, length-append, length-map, length-replicate}
 use mathlib.Core.Bool.{Bool, true}
 use mathlib.Core.List.{List, [], _∷_, map}

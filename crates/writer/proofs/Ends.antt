@@ -3,11 +3,11 @@ use Prim.Native.Nat.{ℕ, _+_, _-_, _≤_, _<_}
 use Rattle.record.specs.declared.Record.{Record}
 use Rattle.text.proofs.Runs.{none-put}
 use Rattle.text.specs.Puts.{bufferOf}
-use Rattle.validity.specs.Validity.{isValid}
+use Rattle.record_check.specs.Validity.{isValid}
 use Rattle.writer.specs.Writer.{fitted, writeOf, leftBy}
 use Rattle.writer.specs.declared.Written.{Written}
 use Rattle.writer.specs.declared.Written.the-variants.{Length, Refused}
-use Rattle.written.specs.Written.{fileOf}
+use Rattle.writer_form.specs.Written.{fileOf}
 use borrow.Author.Tests.{le-leb, lt-leb}
 use lib.ListN.{length, drop, take, drop-of-length-le}
 use lib.Seq.{sets, sets-eq, length-take-le}

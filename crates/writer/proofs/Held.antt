@@ -3,18 +3,18 @@
 use Prim.Native.Nat.{ℕ, _≤_}
 use Rattle.reader.specs.Reader.{readOf}
 use Rattle.reader.specs.declared.Answer.{Answer}
-use Rattle.reading.proofs.Validity.{read-valid}
+use Rattle.reader_theorems.proofs.Validity.{read-valid}
 use Rattle.record.specs.Records.{roomsOf}
 use Rattle.record.specs.declared.Record.{Record}
-use Rattle.render.specs.Rooms.{Narrow}
+use Rattle.value_put.specs.Rooms.{Narrow}
 use Rattle.text.proofs.Tests.{eqb-tells, _and_, and-parts}
-use Rattle.valid.specs.Valid.{Valid}
-use Rattle.validity.proofs.Decides.{valid-tells}
-use Rattle.validity.specs.Validity.{isSized, isValid}
-use Rattle.written.proofs.Sizes.{message-small}
-use Rattle.written.proofs.Values.{values-are}
-use Rattle.written.specs.Held.{Held}
-use Rattle.written.specs.Written.{fileOf}
+use Rattle.record_valid.specs.Valid.{Valid}
+use Rattle.record_check.proofs.Decides.{valid-tells}
+use Rattle.record_check.specs.Validity.{isSized, isValid}
+use Rattle.writer_form.proofs.Sizes.{message-small}
+use Rattle.writer_form.proofs.Values.{values-are}
+use Rattle.writer_form.specs.Held.{Held}
+use Rattle.writer_form.specs.Written.{fileOf}
 use lib.ListN.{length}
 use mathlib.Core.Bool.{true}
 use mathlib.Core.List.{List}

@@ -2,16 +2,16 @@
 use Prim.Native.Nat.{ℕ, suc, _+_, _≤_, _<_}
 use Rattle.layout.specs.Layouts.{sizeOf}
 use Rattle.layout.specs.declared.Layout.{Layout}
-use Rattle.lines.proofs.Columns.{column-at, column-length}
-use Rattle.lines.specs.Places.{partOf, spanAt, Placed, columnIn}
-use Rattle.lines.specs.declared.Span.{Span}
+use Rattle.text_lines.proofs.Columns.{column-at, column-length}
+use Rattle.text_lines.specs.Places.{partOf, spanAt, Placed, columnIn}
+use Rattle.text_lines.specs.declared.Span.{Span}
 use Rattle.record.specs.Records.{cell}
 use Rattle.record.specs.declared.Cell.{Cell}
 use Rattle.value.specs.Texts.{isWritten}
 use Rattle.value.specs.declared.Value.{Value}
 use Rattle.value.specs.declared.Value.the-variants.{Blank}
 use Rattle.writer.specs.Copied.{allWritten}
-use Rattle.written.specs.Written.{valuesIn}
+use Rattle.writer_form.specs.Written.{valuesIn}
 use Rattle.text.proofs.Tests.{and-parts}
 use borrow.Author.Tests.{ltb-true, ltb-false}
 use lib.Dec.{ltb}

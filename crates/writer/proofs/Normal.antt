@@ -1,7 +1,7 @@
 -- The ends of the normaliser, on what was read: its refusal, or the message of the file's own texts, which is the file of the record.
 -- Assumes nothing.
 use Prim.Native.Nat.{ℕ}
-use Rattle.fill.specs.Filled.{recordWith}
+use Rattle.reader_fill.specs.Filled.{recordWith}
 use Rattle.layout.specs.Layouts.{kindsOf}
 use Rattle.layout.specs.Rows.{textAt}
 use Rattle.reader.proofs.Concluding.{concluded-no, concluded-yes}
@@ -11,13 +11,13 @@ use Rattle.reader.specs.Refusals.{refused, accepted}
 use Rattle.reader.specs.State.{columnAt, Reads}
 use Rattle.reader.specs.declared.Answer.{Answer}
 use Rattle.reader.specs.declared.Reading.{Reading}
-use Rattle.reading.proofs.Held.{unit-short, reason-short, note-short}
-use Rattle.reading.proofs.Validity.{good-of}
+use Rattle.reader_theorems.proofs.Held.{unit-short, reason-short, note-short}
+use Rattle.reader_theorems.proofs.Validity.{good-of}
 use Rattle.record.specs.Records.{typed, reasonField, noteField, roomsOf}
 use Rattle.record.specs.Records.Typed.{good}
 use Rattle.record.specs.declared.Record.{Record}
-use Rattle.render.specs.Rooms.{Narrow}
-use Rattle.room.specs.Rooms.{keptIn}
+use Rattle.value_put.specs.Rooms.{Narrow}
+use Rattle.text_room.specs.Rooms.{keptIn}
 use Rattle.value.specs.Texts.{Rooms, rooms}
 use Rattle.writer.proofs.Ends.{Put}
 use Rattle.writer.proofs.Held.{read-held}
@@ -25,8 +25,8 @@ use Rattle.writer.proofs.Own.{own-held, own-text}
 use Rattle.writer.specs.Writer.{normaliseOf, normalLeft}
 use Rattle.writer.specs.declared.Written.{Written}
 use Rattle.writer.specs.declared.Written.the-variants.{Refused}
-use Rattle.written.specs.Held.{Held}
-use Rattle.written.specs.Written.{messageText, fileOf}
+use Rattle.writer_form.specs.Held.{Held}
+use Rattle.writer_form.specs.Written.{messageText, fileOf}
 use borrow.Author.Tests.{ne-eqb}
 use lib.ListN.{length}
 use mathlib.Core.List.{List}

@@ -3,18 +3,18 @@
 use Prim.Native.Nat.{ℕ, zero, suc, _+_, _-_, _≤_}
 use Rattle.layout.specs.Layouts.{typeOf}
 use Rattle.layout.specs.declared.Layout.{Layout}
-use Rattle.list.specs.declared.Triple.{Triple}
-use Rattle.name.specs.Names.{isUnitByte, isUnit}
-use Rattle.name.specs.declared.MessageType.{MessageType}
+use Rattle.value_list.specs.declared.Triple.{Triple}
+use Rattle.value_name.specs.Names.{isUnitByte, isUnit}
+use Rattle.value_name.specs.declared.MessageType.{MessageType}
 use Rattle.record.specs.declared.Cell.{Cell}
-use Rattle.render.specs.Rooms.{Narrow}
-use Rattle.room.specs.Rooms.{keptIn}
+use Rattle.value_put.specs.Rooms.{Narrow}
+use Rattle.text_room.specs.Rooms.{keptIn}
 use Rattle.text.proofs.Tests.{and-parts}
 use Rattle.text.proofs.Trims.{tidy-parts}
 use Rattle.text.specs.Bytes.{within, isPlain, all, tidy}
 use Rattle.text.specs.Puts.{roomOf}
-use Rattle.valid.specs.Valid.{HoldAll}
-use Rattle.valid.specs.Valid.HoldAll.{end as ends, next as nexts}
+use Rattle.record_valid.specs.Valid.{HoldAll}
+use Rattle.record_valid.specs.Valid.HoldAll.{end as ends, next as nexts}
 use Rattle.value.specs.Texts.{Rooms, rooms, valueText}
 use Rattle.value.specs.Valid.{Kept, Fits, Holds}
 use Rattle.value.specs.Valid.Fits.{id, unit, when, amount, count, reason, note, chosen, profile, bands, triples, in-kv, kv-word, in-rat, rat-word, in-change, in-mvar, mvar-word}
@@ -22,8 +22,8 @@ use Rattle.value.specs.Valid.Holds.{blank, filled}
 use Rattle.value.specs.declared.Kind.{Kind}
 use Rattle.value.specs.declared.Shape.{Shape}
 use Rattle.value.specs.declared.Value.{Value}
-use Rattle.written.specs.Held.{Held}
-use Rattle.written.specs.Written.{writtenOf, messageText}
+use Rattle.writer_form.specs.Held.{Held}
+use Rattle.writer_form.specs.Written.{writtenOf, messageText}
 use borrow.Author.Tests.{le-leb}
 use lib.ListN.{length, take, replicate, length-append, length-replicate}
 use mathlib.Core.Bool.{Bool, true, false, false≢true}

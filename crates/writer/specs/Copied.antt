@@ -3,11 +3,11 @@ use Prim.Native.Nat.{ℕ, _≤_}
 use Rattle.layout.specs.Layouts.{sizeOf}
 use Rattle.layout.specs.Rows.{rowOf}
 use Rattle.layout.specs.declared.Layout.{Layout}
-use Rattle.lines.specs.Places.{Holds, Placed, columnIn}
-use Rattle.lines.specs.declared.Span.{Span}
+use Rattle.text_lines.specs.Places.{Holds, Placed, columnIn}
+use Rattle.text_lines.specs.declared.Span.{Span}
 use Rattle.value.specs.Texts.{isWritten}
 use Rattle.value.specs.declared.Value.{Value}
-use Rattle.written.specs.Written.{writtenOf}
+use Rattle.writer_form.specs.Written.{writtenOf}
 use lib.ListN.{length}
 use mathlib.Core.Bool.{Bool, true, _&&_}
 use mathlib.Core.List.{List, [], _∷_}

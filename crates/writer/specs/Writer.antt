@@ -4,10 +4,10 @@ use Prim.Native.Nat.{ℕ}
 use Rattle.reader.specs.declared.Answer.{Answer}
 use Rattle.record.specs.declared.Record.{Record}
 use Rattle.text.specs.Puts.{bufferOf}
-use Rattle.validity.specs.Validity.{isValid}
+use Rattle.record_check.specs.Validity.{isValid}
 use Rattle.writer.specs.declared.Written.{Written}
 use Rattle.writer.specs.declared.Written.the-variants.{Length, Refused}
-use Rattle.written.specs.Written.{fileOf}
+use Rattle.writer_form.specs.Written.{fileOf}
 use lib.Dec.{eqb, leb}
 use lib.ListN.{length}
 use mathlib.Core.Bool.{cond}

@@ -1,18 +1,18 @@
 // The writer, record to file, and the normaliser, accepted file to the written form of its record. A refusal changes no byte of the output.
 use layout::Layout;
-use lines::Span;
-use list::Triple;
 use record::Cell;
 use record::Record;
+use text_lines::Span;
+use value_list::Triple;
 ghost use Rattle.layout.specs.Layouts.{sizeOf};
-ghost use Rattle.lines.specs.Places.{Placed, columnIn};
+ghost use Rattle.text_lines.specs.Places.{Placed, columnIn};
 ghost use Rattle.reader.specs.Reader.{readOf};
 ghost use Rattle.text.specs.Puts.{bufferOf};
 ghost use Rattle.value.specs.Texts.{rooms};
 ghost use Rattle.writer.specs.Copied.{allWritten, Copies};
 ghost use Rattle.writer.specs.Writer.{fitted, writeOf, leftBy, normaliseOf, normalLeft};
-ghost use Rattle.written.specs.Held.{Held};
-ghost use Rattle.written.specs.Written.{writtenOf, valuesIn, messageText};
+ghost use Rattle.writer_form.specs.Held.{Held};
+ghost use Rattle.writer_form.specs.Written.{writtenOf, valuesIn, messageText};
 ghost use lib.ListN.{length};
 ghost use mathlib.Core.Path.{_≡_};
 
@@ -39,7 +39,7 @@ fn put_file(
 {
     let room = out.len();
     if 8192 <= room {
-        return Written::Length(compose::put_message(
+        return Written::Length(writer_message::put_message(
             out,
             0,
             l,
@@ -50,11 +50,20 @@ fn put_file(
             gradients,
         ));
     }
-    let size = compose::put_message(&mut out[0..0], 0, l, cells, unit, reason, note, gradients);
+    let size = writer_message::put_message(
+        &mut out[0..0],
+        0,
+        l,
+        cells,
+        unit,
+        reason,
+        note,
+        gradients,
+    );
     if room < size {
         return Written::Refused(11, size);
     }
-    Written::Length(compose::put_message(
+    Written::Length(writer_message::put_message(
         &mut out[0..size],
         0,
         l,
@@ -74,20 +83,20 @@ fn put_copied(l: Layout, file: &[u8], row: Span, places: [Span; 27], out: &mut [
 {
     let room = out.len();
     if 8192 <= room {
-        return Written::Length(compose::put_copied(out, 0, l, file, row, places));
+        return Written::Length(writer_message::put_copied(out, 0, l, file, row, places));
     }
-    let length = compose::put_copied(&mut out[0..0], 0, l, file, row, places);
+    let length = writer_message::put_copied(&mut out[0..0], 0, l, file, row, places);
     if room < length {
         return Written::Refused(11, length);
     }
-    Written::Length(compose::put_copied(&mut out[0..length], 0, l, file, row, places))
+    Written::Length(writer_message::put_copied(&mut out[0..length], 0, l, file, row, places))
 }
 
 // Writes a record: refused 12 where it is invalid, then 11.
 pub fn write(r: Record, out: &mut [u8]) -> Written
     ensures { λ w. ⌜ (w ≡ writeOf r (length (now (out .entry)))) × (now (out .exit) ≡ leftBy r (now (out .entry))) ⌝ }
 {
-    if !validity::is_valid(r) {
+    if !record_check::is_valid(r) {
         return Written::Refused(12, 0);
     }
     let l = r.layout;
@@ -119,7 +128,7 @@ pub fn normalise(ca: u32, ioa: u32, plan: &[u8], file: &[u8], out: &mut [u8]) ->
         let w = x.places[k + 1];
         let from = w.from as usize;
         let to = w.to as usize;
-        written = render::is_written(v, &file[from..to]);
+        written = value_put::is_written(v, &file[from..to]);
         k += 1;
     }
     let places = x.places;
@@ -132,9 +141,9 @@ pub fn normalise(ca: u32, ioa: u32, plan: &[u8], file: &[u8], out: &mut [u8]) ->
     put_file(
         l,
         cells,
-        fill::text_at(l, file, places, 2),
-        fill::text_at(l, file, places, record::reason_field(l)),
-        fill::text_at(l, file, places, record::note_field(l)),
+        reader_fill::text_at(l, file, places, 2),
+        reader_fill::text_at(l, file, places, record::reason_field(l)),
+        reader_fill::text_at(l, file, places, record::note_field(l)),
         gradients,
         out,
     )

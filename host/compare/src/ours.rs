@@ -1,4 +1,4 @@
-//! The two C entries of host/include/halimpung.h, as calls on slices, and that of crates/pace. The only `unsafe` code
+//! The two C entries of host/include/halimpung.h, as calls on slices, and that of crates/bench_book. The only `unsafe` code
 //! here: a slice of Rust is what the header asks for (never null, of its length; `out` is lent alone, so it overlaps no
 //! input).
 #![allow(unsafe_code)]

@@ -1,4 +1,4 @@
-//! The reference's side of `crates/pace/src/lib.rt`: the book's calls in a loop, on the same book and with the same
+//! The reference's side of `crates/bench_book/src/lib.rt`: the book's calls in a loop, on the same book and with the same
 //! numbers and instants, so that the sums are the same. Like a host it keeps the book that a call hands back; only a
 //! command that is taken and a revocation meet the same book again.
 

@@ -1,7 +1,7 @@
 -- Each end of the entry cites its law; every detail and every length fits.
 use Prim.Native.Nat.{_≤_}
-use Rattle.brief.proofs.Fields.{end-within}
-use Rattle.brief.specs.Brief.{briefOf}
+use Rattle.report_brief.proofs.Fields.{end-within}
+use Rattle.report_brief.specs.Brief.{briefOf}
 use Rattle.gateway.proofs.Told.{small-refusal, refused-told, body, told-as, short, no-room-told, written-told}
 use Rattle.gateway.proofs.halimpung_read.Statement.{statement}
 use Rattle.gateway.proofs.halimpung_read.Tie as tie

@@ -1,6 +1,6 @@
 -- One loop over the rows: what is read so far, and what the rest gives below it, is the plan. (r is the place where a row was read.)
 use Prim.Native.Nat.{_-_, _≤_, _<_}
-use Rattle.address.proofs.Addresses.{none-more}
+use Rattle.plan_row.proofs.Addresses.{none-more}
 use Rattle.plan.proofs.Walks.{Sofar, empty, begin, finish, too-many, none-there, bad-line, unit-inside, row-inside, next-row}
 use Rattle.plan.proofs.seek.Statement.{statement}
 use Rattle.plan.proofs.seek.Tie as tie

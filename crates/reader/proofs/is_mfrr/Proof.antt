@@ -1,5 +1,5 @@
 -- The bit of `Tipo Comando` counts in a CB file alone.
-use Rattle.name.specs.declared.MessageType.{MessageType}
+use Rattle.value_name.specs.declared.MessageType.{MessageType}
 use Rattle.reader.proofs.is_mfrr.Statement.{statement}
 use Rattle.reader.proofs.is_mfrr.Tie as tie
 use Rattle.reader.specs.State.{isMfrr}

@@ -1,14 +1,14 @@
 -- A refusal as it is; or every field in turn, and then the verdict.
 use Prim.Native.Nat.{_-_, _<_}
-use Rattle.fill.proofs.Steps.{start}
+use Rattle.reader_fill.proofs.Steps.{start}
 use Rattle.layout.proofs.Labels.{few}
 use Rattle.layout.specs.Layouts.{sizeOf}
 use Rattle.reader.proofs.Concluding.{refused-reads}
 use Rattle.reader.proofs.Going.{Going, stopped, goes-on, all-read}
 use Rattle.reader.proofs.judged.Statement.{statement}
 use Rattle.reader.proofs.judged.Tie as tie
-use Rattle.rules.proofs.Steps.{in-market, in-ramps, in-exclusion, in-limitation, in-secondary, in-volt-var, in-reserve, in-others}
-use Rattle.rules.specs.Rules.{rulesOf, lowest}
+use Rattle.record_rules.proofs.Steps.{in-market, in-ramps, in-exclusion, in-limitation, in-secondary, in-volt-var, in-reserve, in-others}
+use Rattle.record_rules.specs.Rules.{rulesOf, lowest}
 use borrow.Author.Needs.{needs}
 use lib.ListN.{length}
 use mathlib.Core.Logic.{⊎-elim}

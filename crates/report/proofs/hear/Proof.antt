@@ -1,5 +1,5 @@
 -- By the two lines: neither address without both of them.
-use Rattle.keyline.proofs.Values.{number-within}
+use Rattle.text_keyline.proofs.Values.{number-within}
 use Rattle.report.proofs.Hearing.{no-ca, no-ioa, both-read}
 use Rattle.report.proofs.hear.Statement.{statement}
 use Rattle.report.proofs.hear.Tie as tie

@@ -1,9 +1,9 @@
 -- By the number: a record, or a refusal.
 use Rattle.report.proofs.Fields.{record-is, refusal-is}
-use Rattle.brief.proofs.Puts.{same-text}
+use Rattle.report_brief.proofs.Puts.{same-text}
 use Rattle.report.proofs.put_answer.Statement.{statement}
 use Rattle.report.proofs.put_answer.Tie as tie
-use Rattle.brief.specs.Brief.{sixLines}
+use Rattle.report_brief.specs.Brief.{sixLines}
 use Rattle.report.specs.Report.{twoLines, reportOf}
 use borrow.Author.Needs.{needs}
 

@@ -1,6 +1,6 @@
 -- The lines of what is told of the record.
-use Rattle.brief.proofs.Puts.{same-text}
-use Rattle.brief.specs.Brief.{briefOf, sixOf}
+use Rattle.report_brief.proofs.Puts.{same-text}
+use Rattle.report_brief.specs.Brief.{briefOf, sixOf}
 use Rattle.report.proofs.put_record.Statement.{statement}
 use Rattle.report.proofs.put_record.Tie as tie
 use borrow.Author.Needs.{needs}

@@ -1,6 +1,6 @@
 -- The two lines, one after the other.
 use Rattle.report.proofs.Puts.{refusal-put}
-use Rattle.brief.proofs.Sizes.{number-length}
+use Rattle.report_brief.proofs.Sizes.{number-length}
 use Rattle.report.proofs.put_refusal.Statement.{statement}
 use Rattle.report.proofs.put_refusal.Tie as tie
 use Rattle.text.specs.Bytes.{bytes}

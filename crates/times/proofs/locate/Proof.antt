@@ -1,7 +1,7 @@
 -- Each test leads to its answer.
-use Rattle.asked.specs.Values.{isFilled}
+use Rattle.value_ask.specs.Values.{isFilled}
 use Rattle.record.proofs.Rooms.{unit-in}
-use Rattle.sheet.proofs.Sheets.{for-good}
+use Rattle.times_sheet.proofs.Sheets.{for-good}
 use Rattle.times.proofs.Told.{field-within, refused-told, file-short, not-market, bad-sheet, in-file-told, in-sheet-told}
 use Rattle.times.proofs.locate.Statement.{statement}
 use Rattle.times.proofs.locate.Tie as tie

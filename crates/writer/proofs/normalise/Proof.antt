@@ -1,7 +1,7 @@
 -- What was read is refused, or put with the file's own texts where each value stands as it is written, or put as the message of its record.
 use Prim.Native.Nat.{_+_, _-_, _≤_, _<_}
 use Rattle.layout.proofs.Labels.{few}
-use Rattle.lines.specs.Places.{spanAt, Placed, columnIn}
+use Rattle.text_lines.specs.Places.{spanAt, Placed, columnIn}
 use Rattle.layout.specs.Layouts.{sizeOf}
 use Rattle.record.proofs.Rooms.{unit-in, reason-in, note-in}
 use Rattle.writer.proofs.Copied.{cells-room, copies, copied-end}
@@ -10,7 +10,7 @@ use Rattle.writer.proofs.Normal.{refused-end, taken-held, taken-end}
 use Rattle.writer.proofs.normalise.Statement.{statement}
 use Rattle.writer.proofs.normalise.Tie as tie
 use Rattle.writer.specs.Copied.{allWritten}
-use Rattle.written.specs.Written.{valuesIn}
+use Rattle.writer_form.specs.Written.{valuesIn}
 use borrow.Author.Needs.{needs}
 use lib.ListN.{length}
 use mathlib.Core.Bool.{true}

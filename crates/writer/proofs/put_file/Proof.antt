@@ -2,7 +2,7 @@
 use Rattle.writer.proofs.Ends.{put-end, full-end, roomy-end}
 use Rattle.writer.proofs.put_file.Statement.{statement}
 use Rattle.writer.proofs.put_file.Tie as tie
-use Rattle.written.proofs.Sizes.{message-small}
+use Rattle.writer_form.proofs.Sizes.{message-small}
 use borrow.Author.Needs.{needs}
 use native.Mathlib.Omega.{arith}
 

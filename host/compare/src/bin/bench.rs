@@ -12,7 +12,7 @@ use std::time::Instant;
 const ENTRIES: [(&str, Entry, Entry); 2] =
     [("read", ours::read, read_entry), ("normalise", ours::normalise, normalise_entry)];
 
-/// The book's calls by their numbers in crates/pace, each with how many orders the book holds.
+/// The book's calls by their numbers in crates/bench_book, each with how many orders the book holds.
 const CALLS: [(&str, u32); 5] =
     [("in force", 96), ("close", 96), ("command", 95), ("command held", 96), ("revoke", 96)];
 

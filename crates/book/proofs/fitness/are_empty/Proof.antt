@@ -3,7 +3,7 @@ use Prim.Native.Nat.{_-_, _<_}
 use Rattle.book.proofs.Sizes.{sized}
 use Rattle.book.proofs.fitness.are_empty.Statement.{statement}
 use Rattle.book.proofs.fitness.are_empty.Tie as tie
-use Rattle.order.specs.Orders.{emptyOrder, isEmpty}
+use Rattle.book_order.specs.Orders.{emptyOrder, isEmpty}
 use Rattle.text.proofs.Cuts.{all-here, all-on, all-end}
 use Rattle.text.specs.Bytes.{all}
 use borrow.Author.Needs.{needs}

@@ -2,7 +2,7 @@
 use Rattle.book.proofs.Fitting.{unit-long, unit-is}
 use Rattle.book.proofs.fitness.is_formed_unit.Statement.{statement}
 use Rattle.book.proofs.fitness.is_formed_unit.Tie as tie
-use Rattle.name.specs.Names.{isUnit}
+use Rattle.value_name.specs.Names.{isUnit}
 use Rattle.text.specs.Bytes.{all, is}
 use borrow.Author.Needs.{needs}
 use mathlib.Core.Path.{ap, _∙_}

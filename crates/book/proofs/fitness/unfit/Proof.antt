@@ -3,9 +3,9 @@ use Prim.Native.Nat.{ℕ}
 use Rattle.book.proofs.Fitting.{unfit-invalid, unfit-layout, unfit-unit, unfit-none, unit-told}
 use Rattle.book.proofs.fitness.unfit.Statement.{statement}
 use Rattle.book.proofs.fitness.unfit.Tie as tie
-use Rattle.brief.specs.Brief.{unitOf}
+use Rattle.report_brief.specs.Brief.{unitOf}
 use Rattle.text.specs.Bytes.{same}
-use Rattle.validity.specs.Validity.{isValid}
+use Rattle.record_check.specs.Validity.{isValid}
 use borrow.Author.Needs.{needs}
 use borrow.Author.Tests.{not-true, not-false}
 use lib.ListN.{take}

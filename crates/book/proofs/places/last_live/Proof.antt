@@ -4,8 +4,8 @@ use Rattle.book.proofs.Sizes.{sized}
 use Rattle.book.proofs.Placing.{live-not, live-here, live-none}
 use Rattle.book.proofs.places.last_live.Statement.{statement}
 use Rattle.book.proofs.places.last_live.Tie as tie
-use Rattle.keyed.specs.Keyed.{greatest}
-use Rattle.order.specs.Orders.{number, live}
+use Rattle.book_lists.specs.Keyed.{greatest}
+use Rattle.book_order.specs.Orders.{number, live}
 use borrow.Author.Needs.{needs}
 use lib.ListN.{length, take}
 use mathlib.Core.Path.{_≡_, refl, sym, _∙_}

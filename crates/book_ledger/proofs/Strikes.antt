@@ -1,0 +1,152 @@
+-- What is left as it was: of an order by a strike, and of a book by a call. Assumes nothing.
+use Prim.Native.Nat.{ℕ, _≤_}
+use Rattle.report_brief.specs.Brief.{unitOf}
+use Rattle.book_lists.proofs.Sorting.{ascending-keep, ascending-insert, ascending-map}
+use Rattle.book_lists.specs.Keyed.{Ascending}
+use Rattle.layout.specs.declared.Layout.{Layout}
+use Rattle.book_ledger.specs.Calls.{Call, command, revoke, close, ask, isFor}
+use Rattle.book_ledger.specs.Ledger.{Ledger, fresh, answer, effect, step, run, answers}
+use Rattle.book_order.specs.Messages.{isCommand, orderOf, strikeOf}
+use Rattle.book_order.specs.Orders.{Name, nameOf, sameName, named, number, live, pastEnd, Strike, strikeAt, already}
+use Rattle.book_order.specs.declared.Order.{Order}
+use Rattle.record.specs.declared.Record.{Record}
+use Rattle.text.proofs.Tests.{by-test, and-parts}
+use Rattle.text.specs.Bytes.{any, same}
+use Rattle.record_check.specs.Validity.{isValid}
+use borrow.Author.Tests.{lt-ltb, ltb-true, leb-false, eqb-false, eqb-true, eq-eqb}
+use lib.Dec.{eqb, leb}
+use lib.ListN.{length}
+use mathlib.Core.Bool.{Bool, true, false, not, _&&_, cond}
+use mathlib.Core.List.{List, [], _∷_, _++_}
+use mathlib.Core.Path.{_≡_, refl, ap, _∙_}
+use native.Mathlib.Omega.{arith}
+
+-- ---- names: two that pass the test are one, and a name passes it with itself
+
+pub same-eq : (m n : Name) → sameName m n ≡ true → m ≡ n
+same-eq m n e = λ i. record { number = eqb-true (m .number) (n .number) e i }
+
+pub same-refl : (n : Name) → sameName n n ≡ true
+same-refl n = eq-eqb (n .number) (n .number) refl
+
+-- an order has one name only
+pub apart : (m n : Name) → sameName m n ≡ false → (o : Order) → named m o ≡ true → named n o ≡ false
+apart m n h o e = ap (λ (k : Name). sameName k n) (same-eq (nameOf o) m e) ∙ h
+
+-- ---- strikes
+
+pub strike-name : (s : Strike) (o : Order) → nameOf (strikeAt s o) ≡ nameOf o
+strike-name s o = by-test (named (s .name) o) (λ e. rw e) (λ e. rw e)
+
+pub strike-named : (n : Name) (s : Strike) (o : Order) → named n (strikeAt s o) ≡ named n o
+strike-named n s o = ap (λ (k : Name). sameName k n) (strike-name s o)
+
+pub strike-key : (s : Strike) (o : Order) → number (strikeAt s o) ≡ number o
+strike-key s o = by-test (named (s .name) o) (λ e. rw e) (λ e. rw e)
+
+pub strike-end : (s : Strike) (o : Order) → (strikeAt s o) .end ≡ o .end
+strike-end s o = by-test (named (s .name) o) (λ e. rw e) (λ e. rw e)
+
+-- an order of another name stays whole, and one of that name is never in force again
+pub strike-other : (s : Strike) (o : Order) → named (s .name) o ≡ false → strikeAt s o ≡ o
+strike-other s o e = rw e
+
+pub strike-dead : (s : Strike) (o : Order) → named (s .name) o ≡ true → (t : ℕ) → live t (strikeAt s o) ≡ false
+strike-dead s o e t = rw e
+
+pub already-named : (s : Strike) (o : Order) → already s o ≡ true → named (s .name) o ≡ true
+already-named s o e = and-parts (named (s .name) o) (o .struck) e .0
+
+-- ---- ends
+
+pub ends-past : (f : ℕ) (o : Order) → leb (o .end) f ≡ false → pastEnd f o ≡ true
+ends-past f o e = lt-ltb f (o .end) (leb-false (o .end) f e)
+
+pub past-earlier : (f t : ℕ) (o : Order) → f ≤ t → pastEnd t o ≡ true → pastEnd f o ≡ true
+past-earlier f t o h e = lt-ltb f (o .end) (omega (arith, ltb-true t (o .end) e))
+
+-- ---- what an accepted call passed
+
+pub no-rung : (a : Bool) (z x : ℕ) → eqb z 0 ≡ false → cond a z x ≡ 0 → (a ≡ false) × (x ≡ 0)
+no-rung true z x h e = absurd (eqb-false z 0 h e)
+no-rung false z x h e = (refl, e)
+
+-- the refusals for the message itself, and then x
+abbrev pub ladder : Bool → Bool → Bool → ℕ → ℕ
+ladder a b c x = cond (not a) 12 (cond (not b) 29 (cond (not c) 21 x))
+
+no-rungs : (a b c : Bool) (x : ℕ) → ladder a b c x ≡ 0 → (a && (b && c) ≡ true) × (x ≡ 0)
+no-rungs true true true x e = (refl, e)
+no-rungs true true false x e = absurd (eqb-false 21 0 refl e)
+no-rungs true false c x e = absurd (eqb-false 29 0 refl e)
+no-rungs false b c x e = absurd (eqb-false 12 0 refl e)
+
+-- a message that is not refused for itself
+pub fit : (right : Layout → Bool) (unit : List ℕ) (r : Record) (x : ℕ) → ladder (isValid r) (right (r .layout)) (same (unitOf r) unit) x ≡ 0
+    → (isFor right unit r ≡ true) × (x ≡ 0)
+fit right unit r x e = no-rungs (isValid r) (right (r .layout)) (same (unitOf r) unit) x e
+
+-- a command that is taken
+pub record Takes (r : Record) (b : Ledger) : Type 0 where
+  pub fits : isFor isCommand (b .unit) r ≡ true
+  pub ends : leb (orderOf r .end) (b .floor) ≡ false
+  pub free : any (named (nameOf (orderOf r))) (b .orders) ≡ false
+  pub room : leb 96 (length (b .orders)) ≡ false
+
+pub takes : (r : Record) (b : Ledger) → answer (command r) b ≡ 0 → Takes r b
+takes r b a =
+    let f = fit isCommand (b .unit) r _ a in
+    let x = no-rung (leb (orderOf r .end) (b .floor)) 23 _ refl (f .1) in
+    let y = no-rung (any (named (nameOf (orderOf r))) (b .orders)) 22 _ refl (x .1) in
+    let z = no-rung (leb 96 (length (b .orders))) 24 0 refl (y .1) in
+    record { fits = f .0; ends = x .0; free = y .0; room = z .0 }
+
+-- ---- calls
+
+pub accepted-step : (k : Call) (b : Ledger) → answer k b ≡ 0 → step k b ≡ effect k b
+accepted-step k b a = rw a
+
+-- what an accepted call keeps, every call keeps
+pub step-keeps : (P : Ledger → Type 0) (k : Call) (b : Ledger) → (answer k b ≡ 0 → P b → P (effect k b)) → P b → P (step k b)
+step-keeps P k b h p = by-test (eqb (answer k b) 0) (λ e. rw e (h (eqb-true (answer k b) 0 e) p)) (λ e. rw e p)
+
+-- the unit stays
+effect-unit : (k : Call) (b : Ledger) → (effect k b) .unit ≡ b .unit
+effect-unit (command r) b = refl
+effect-unit (revoke r) b = refl
+effect-unit (close t) b = refl
+effect-unit (ask t) b = refl
+
+pub step-unit : (k : Call) (b : Ledger) → (step k b) .unit ≡ b .unit
+step-unit k b = step-keeps (λ c. c .unit ≡ b .unit) k b (λ a p. effect-unit k b) refl
+
+pub run-unit : (ks : List Call) (b : Ledger) → (run ks b) .unit ≡ b .unit
+run-unit [] b = refl
+run-unit (k ∷ ks) b = run-unit ks (step k b) ∙ step-unit k b
+
+-- the orders stay in order
+ascending-effect : (k : Call) (b : Ledger) → Ascending number (b .orders) → Ascending number ((effect k b) .orders)
+ascending-effect (command r) b s = ascending-insert number (orderOf r) (b .orders) s
+ascending-effect (revoke r) b s = ascending-map number (strikeAt (strikeOf r)) (strike-key (strikeOf r)) (b .orders) s
+ascending-effect (close t) b s = ascending-keep number (pastEnd t) (b .orders) s
+ascending-effect (ask t) b s = s
+
+pub ascending-step : (k : Call) (b : Ledger) → Ascending number (b .orders) → Ascending number ((step k b) .orders)
+ascending-step k b s = step-keeps (λ c. Ascending number (c .orders)) k b (λ a. ascending-effect k b) s
+
+pub ascending-from : (ks : List Call) (b : Ledger) → Ascending number (b .orders) → Ascending number ((run ks b) .orders)
+ascending-from [] b s = s
+ascending-from (k ∷ ks) b s = ascending-from ks (step k b) (ascending-step k b s)
+
+pub ascending-run : (unit : List ℕ) (ks : List Call) → Ascending number ((run ks (fresh unit)) .orders)
+ascending-run unit ks = ascending-from ks (fresh unit) tt
+
+-- ---- runs one after another
+
+pub run-append : (ks js : List Call) (b : Ledger) → run (ks ++ js) b ≡ run js (run ks b)
+run-append [] js b = refl
+run-append (k ∷ ks) js b = run-append ks js (step k b)
+
+pub answers-append : (ks js : List Call) (b : Ledger) → answers (ks ++ js) b ≡ answers ks b ++ answers js (run ks b)
+answers-append [] js b = refl
+answers-append (k ∷ ks) js b = ap (λ (l : List ℕ). answer k b ∷ l) (answers-append ks js (step k b))

@@ -1,0 +1,39 @@
+-- The calls on a book, and what is refused for the message alone. Document 01, "The book of commands": a refusal is given exactly when its condition is
+-- the first in its list to hold.
+use Prim.Native.Nat.{ℕ}
+use Rattle.report_brief.specs.Brief.{unitOf}
+use Rattle.layout.specs.declared.Layout.{Layout}
+use Rattle.book_order.specs.Messages.{isCommand, isRevocation, orderOf, strikeOf}
+use Rattle.book_order.specs.Orders.{Name, sameName, nameOf}
+use Rattle.record.specs.declared.Record.{Record}
+use Rattle.text.specs.Bytes.{same}
+use Rattle.record_check.specs.Validity.{isValid}
+use mathlib.Core.Bool.{Bool, false, not, _&&_, cond}
+use mathlib.Core.List.{List, [], _∷_}
+
+-- a command and a revocation bring a record; close and the question which order is in force name an instant
+pub data Call : Type 0 where
+  command : Record → Call
+  revoke : Record → Call
+  close : ℕ → Call
+  ask : ℕ → Call
+
+-- the number of the first condition that holds: 0 where none does
+abbrev pub firstOf : List (Bool × ℕ) → ℕ
+firstOf [] = 0
+firstOf (r ∷ rs) = cond (r .0) (r .1) (firstOf rs)
+
+-- 12 the record is invalid, 29 its layout is not one of the call's, 21 it is for another unit; then what follows in the call's list
+abbrev pub unfit : (Layout → Bool) → List ℕ → Record → List (Bool × ℕ) → List (Bool × ℕ)
+unfit right unit r rest = (not (isValid r), 12) ∷ (not (right (r .layout)), 29) ∷ (not (same (unitOf r) unit), 21) ∷ rest
+
+-- a message that a book for the unit does not refuse for itself
+abbrev pub isFor : (Layout → Bool) → List ℕ → Record → Bool
+isFor right unit r = isValid r && (right (r .layout) && same (unitOf r) unit)
+
+-- whether a call on a book for the unit names an order by this name. (A message refused for itself names none)
+abbrev pub names : Name → List ℕ → Call → Bool
+names n unit (command r) = isFor isCommand unit r && sameName (nameOf (orderOf r)) n
+names n unit (revoke r) = isFor isRevocation unit r && sameName (strikeOf r .name) n
+names n unit (close t) = false
+names n unit (ask t) = false

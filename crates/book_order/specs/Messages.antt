@@ -1,0 +1,83 @@
+-- What the book takes of a message. Document 01, "The book of commands": a held order has number, layout, start, end (mFRR: TINI1, TFIN2), variations
+-- (mFRR: its one, then 0) and whether it is struck; a revocation names a number.
+use Rattle.value_ask.specs.Values.{instantIn, amountIn, countIn}
+use Rattle.report_brief.specs.Brief.{numberOf, startOf, endOf}
+use Rattle.layout.specs.declared.Layout.{Layout}
+use Rattle.layout.specs.declared.Layout.the-variants.{Market, Mfrr, Revocation, Generic, Exclusion, Limitation, Secondary, VoltVar, Rejection, Reserve}
+use Rattle.book_order.specs.Orders.{Strike}
+use Rattle.book_order.specs.declared.Order.{Order}
+use Rattle.record.specs.Records.{fieldOf}
+use Rattle.record.specs.declared.Cell.{Cell}
+use Rattle.record.specs.declared.Record.{Record}
+use lib.IntN.{ℤ, pos}
+use mathlib.Core.Bool.{Bool, true, false}
+use mathlib.Core.List.{List}
+
+-- ---- which messages: a CB of either layout, an RC
+
+abbrev pub isCommand : Layout → Bool
+isCommand Market = true
+isCommand Mfrr = true
+isCommand Revocation = false
+isCommand Generic = false
+isCommand Exclusion = false
+isCommand Limitation = false
+isCommand Secondary = false
+isCommand VoltVar = false
+isCommand Rejection = false
+isCommand Reserve = false
+
+abbrev pub isRevocation : Layout → Bool
+isRevocation Market = false
+isRevocation Mfrr = false
+isRevocation Revocation = true
+isRevocation Generic = false
+isRevocation Exclusion = false
+isRevocation Limitation = false
+isRevocation Secondary = false
+isRevocation VoltVar = false
+isRevocation Rejection = false
+isRevocation Reserve = false
+
+-- ---- the variations: fields 5 and 6; mFRR has one, its field 7, and 0 stands for the other
+
+abbrev pub firstVariation : Layout → List Cell → ℤ
+firstVariation Market cells = amountIn (fieldOf cells 5)
+firstVariation Mfrr cells = amountIn (fieldOf cells 7)
+firstVariation Revocation cells = pos 0
+firstVariation Generic cells = pos 0
+firstVariation Exclusion cells = pos 0
+firstVariation Limitation cells = pos 0
+firstVariation Secondary cells = pos 0
+firstVariation VoltVar cells = pos 0
+firstVariation Rejection cells = pos 0
+firstVariation Reserve cells = pos 0
+
+abbrev pub secondVariation : Layout → List Cell → ℤ
+secondVariation Market cells = amountIn (fieldOf cells 6)
+secondVariation Mfrr cells = pos 0
+secondVariation Revocation cells = pos 0
+secondVariation Generic cells = pos 0
+secondVariation Exclusion cells = pos 0
+secondVariation Limitation cells = pos 0
+secondVariation Secondary cells = pos 0
+secondVariation VoltVar cells = pos 0
+secondVariation Rejection cells = pos 0
+secondVariation Reserve cells = pos 0
+
+-- THE DEFINITION: the order that a command brings
+unfoldable pub orderOf : Record → Order
+orderOf r =
+    record {
+      number = numberOf r;
+      layout = r .layout;
+      start = instantIn (startOf r);
+      end = instantIn (endOf r);
+      first = firstVariation (r .layout) (r .cells);
+      second = secondVariation (r .layout) (r .cells);
+      struck = false;
+    }
+
+-- what a revocation says: `Sequenza Comando`, its field 5
+unfoldable pub strikeOf : Record → Strike
+strikeOf r = record { name = record { number = countIn (fieldOf (r .cells) 5) } }

@@ -1,0 +1,80 @@
+-- The test of an order as bounds, for each of the two layouts that a command has. Assumes nothing.
+use Prim.Native.Nat.{ℕ, _-_, _≤_, _<_}
+use Rattle.layout.specs.declared.Layout.{Layout}
+use Rattle.layout.specs.declared.Layout.the-variants.{Market, Mfrr, Revocation, Generic, Exclusion, Limitation, Secondary, VoltVar, Rejection, Reserve}
+use Rattle.book_order.specs.Messages.{isCommand}
+use Rattle.book_order.specs.Orders.{isZero, isAmount, fitsLayout, couldCome}
+use Rattle.book_order.specs.declared.Order.{Order}
+use Rattle.text.proofs.Tests.{told, Tells, leb-tells, ltb-tells, eqb-tells, itself, _and_, within-tells}
+use lib.IntN.{ℤ, pos, negsuc, natAbs}
+use mathlib.Core.Bool.{true, false≢true}
+use mathlib.Core.Path.{_≡_, refl, ap}
+
+-- ---- the two layouts
+
+-- what holds of both holds of every command's
+pub by-command : (P : Layout → Type 0) → P Market → P Mfrr → (l : Layout) → isCommand l ≡ true → P l
+by-command P p q Market e = p
+by-command P p q Mfrr e = q
+by-command P p q Revocation e = absurd (false≢true e)
+by-command P p q Generic e = absurd (false≢true e)
+by-command P p q Exclusion e = absurd (false≢true e)
+by-command P p q Limitation e = absurd (false≢true e)
+by-command P p q Secondary e = absurd (false≢true e)
+by-command P p q VoltVar e = absurd (false≢true e)
+by-command P p q Rejection e = absurd (false≢true e)
+by-command P p q Reserve e = absurd (false≢true e)
+
+-- nothing fits another
+pub fits-command : (l : Layout) (apart : ℕ) (w : ℤ) → fitsLayout l apart w ≡ true → isCommand l ≡ true
+fits-command Market apart w e = refl
+fits-command Mfrr apart w e = refl
+fits-command Revocation apart w e = e
+fits-command Generic apart w e = e
+fits-command Exclusion apart w e = e
+fits-command Limitation apart w e = e
+fits-command Secondary apart w e = e
+fits-command VoltVar apart w e = e
+fits-command Rejection apart w e = e
+fits-command Reserve apart w e = e
+
+-- ---- what fits them
+
+zero-tells : (v : ℤ) → Tells (isZero v) (v ≡ pos 0)
+zero-tells (pos n) = told (eqb-tells n 0) (λ e. ap pos e) (λ e. ap natAbs e)
+zero-tells (negsuc n) = (λ e. absurd (false≢true e), λ e. ap isZero e)
+
+pub market-tells : (apart : ℕ) (w : ℤ) → Tells (fitsLayout Market apart w) ((0 < apart) × (isAmount w ≡ true))
+market-tells apart w = ltb-tells 0 apart and itself (isAmount w)
+
+pub mfrr-tells : (apart : ℕ) (w : ℤ) → Tells (fitsLayout Mfrr apart w) ((1 < apart) × (w ≡ pos 0))
+mfrr-tells apart w = ltb-tells 1 apart and zero-tells w
+
+-- ---- the order
+
+pub record Bounds (o : Order) : Type 0 where
+  pub number-to : o .number ≤ 9999999999
+  pub start-from : 31615200 ≤ o .start
+  pub start-to : o .start ≤ 3155756399
+  pub end-from : 31615200 ≤ o .end
+  pub end-to : o .end ≤ 3155756399
+  pub first-amount : isAmount (o .first) ≡ true
+  pub fits : fitsLayout (o .layout) (o .end - o .start) (o .second) ≡ true
+
+pub come-tells : (o : Order) → Tells (couldCome o) (Bounds o)
+unfolding couldCome
+come-tells o =
+    let instant = within-tells 31615200 3155756399 in
+    told
+    (leb-tells (o .number) 9999999999 and (instant (o .start) and (instant (o .end) and (itself (isAmount (o .first)) and itself (fitsLayout (o .layout) (o .end - o .start) (o .second))))))
+    (λ p.
+    record {
+      number-to = p .0;
+      start-from = p .1 .0 .0;
+      start-to = p .1 .0 .1;
+      end-from = p .1 .1 .0 .0;
+      end-to = p .1 .1 .0 .1;
+      first-amount = p .1 .1 .1 .0;
+      fits = p .1 .1 .1 .1;
+    })
+    (λ b. (b .number-to, ((b .start-from, b .start-to), ((b .end-from, b .end-to), (b .first-amount, b .fits)))))

@@ -1,0 +1,128 @@
+-- The ledgers that a book with its 96 places can hold, and that every call keeps a ledger so. Assumes nothing.
+use Prim.Native.Nat.{ℕ, suc, _≤_, _<_}
+use Rattle.book.proofs.Leading.{fits-facts}
+use Rattle.book.specs.Places.{fitsAfter}
+use Rattle.book_source.proofs.Comes.{comes}
+use Rattle.book_lists.proofs.Keeping.{length-keep}
+use Rattle.book_lists.proofs.Sorting.{length-insert}
+use Rattle.book_lists.specs.Keyed.{keep, insert}
+use Rattle.book_ledger.proofs.Strikes.{strike-key, strike-end, takes, step-keeps}
+use Rattle.book_ledger.specs.Calls.{Call, command, revoke, close, ask, isFor}
+use Rattle.book_ledger.specs.Ledger.{Ledger, fresh, answer, effect, step}
+use Rattle.value_name.specs.Names.{isUnit}
+use Rattle.book_order.specs.Messages.{isCommand, orderOf, strikeOf}
+use Rattle.book_order.specs.Orders.{nameOf, named, number, pastEnd, Strike, strikeAt, couldCome}
+use Rattle.book_order.specs.declared.Order.{Order}
+use Rattle.record.specs.declared.Record.{Record}
+use Rattle.text.proofs.Tests.{by-test, and-parts, or-parts}
+use Rattle.text.specs.Bytes.{any}
+use Rattle.record_check.specs.Validity.{isValid}
+use borrow.Author.Tests.{le-leb, lt-ltb, ltb-true, ltb-false, leb-false, eqb-false}
+use lib.Dec.{ltb}
+use lib.ListN.{length, length-map}
+use mathlib.Core.Bool.{true, false}
+use mathlib.Core.List.{List, [], _∷_, map}
+use mathlib.Core.Path.{_≡_, _∙_}
+use native.Mathlib.Omega.{arith}
+
+-- ---- one order
+
+fits-of : (f lo : ℕ) (o : Order) → lo ≤ o .number → f < o .end → couldCome o ≡ true → fitsAfter f lo o ≡ true
+unfolding fitsAfter
+fits-of f lo o h k e = rw (le-leb lo (o .number) h, lt-ltb f (o .end) k, e)
+
+-- whether it is struck does not tell
+strike-comes : (s : Strike) (o : Order) → couldCome (strikeAt s o) ≡ couldCome o
+unfolding couldCome
+strike-comes s o = by-test (named (s .name) o) (λ e. rw e) (λ e. rw e)
+
+-- a command that is not refused for itself brings one that could come
+brought : (r : Record) (unit : List ℕ) → isFor isCommand unit r ≡ true → couldCome (orderOf r) ≡ true
+brought r unit e =
+    let p = and-parts (isValid r) _ e in
+    comes r (p .0) (and-parts (isCommand (r .layout)) _ (p .1) .0)
+
+-- ---- orders by ascending number from lo on, each as a book with the floor f may hold it
+
+abbrev pub Fitted : ℕ → ℕ → List Order → Type 0
+Fitted f lo [] = Unit {0}
+Fitted f lo (o ∷ l) = (fitsAfter f lo o ≡ true) × Fitted f (suc (o .number)) l
+
+fitted-lower : (f lo to : ℕ) (l : List Order) → to ≤ lo → Fitted f lo l → Fitted f to l
+fitted-lower f lo to [] h g = tt
+fitted-lower f lo to (o ∷ l) h g = let p = fits-facts f lo o (g .0) in (fits-of f to o (omega (arith, p .0)) (p .1) (p .2), g .1)
+
+-- one more, whose number none of them has
+fitted-insert : (f lo : ℕ) (o : Order) (l : List Order) → fitsAfter f lo o ≡ true → any (named (nameOf o)) l ≡ false → Fitted f lo l
+    → Fitted f lo (insert number o l)
+unfolding any
+fitted-insert f lo o [] k e g = (k, tt)
+fitted-insert f lo o (x ∷ l) k e g =
+    let s = or-parts (named (nameOf o) x) (any (named (nameOf o)) l) e in
+    let p = fits-facts f lo o k in
+    let q = fits-facts f lo x (g .0) in
+    by-test (ltb (o .number) (x .number))
+    (λ z. rw z (k, (fits-of f (suc (o .number)) x (ltb-true (o .number) (x .number) z) (q .1) (q .2), g .1)))
+    (λ z. rw z (
+      g .0,
+      fitted-insert f (suc (x .number)) o l
+          (fits-of f (suc (x .number)) o (omega (arith, ltb-false (o .number) (x .number) z, eqb-false (x .number) (o .number) (s .0))) (p .1) (p .2))
+          (s .1) (g .1),
+    ))
+
+-- some of them struck
+fitted-strike : (f lo : ℕ) (s : Strike) (l : List Order) → Fitted f lo l → Fitted f lo (map (strikeAt s) l)
+fitted-strike f lo s [] g = tt
+fitted-strike f lo s (x ∷ l) g =
+    let p = fits-facts f lo x (g .0) in (
+      fits-of f lo (strikeAt s x) (rw (strike-key s x) (p .0)) (rw (strike-end s x) (p .1)) (strike-comes s x ∙ p .2),
+      rw (strike-key s x) (fitted-strike f (suc (x .number)) s l (g .1)),
+    )
+
+-- those that end past another floor
+fitted-close : (f lo t : ℕ) (l : List Order) → Fitted f lo l → Fitted t lo (keep (pastEnd t) l)
+fitted-close f lo t [] g = tt
+fitted-close f lo t (x ∷ l) g =
+    let p = fits-facts f lo x (g .0) in
+    let rest = fitted-close f (suc (x .number)) t l (g .1) in
+    by-test (pastEnd t x)
+    (λ z. rw z (fits-of t lo x (p .0) (ltb-true t (x .end) z) (p .2), rest))
+    (λ z. rw z (fitted-lower t (suc (x .number)) lo (keep (pastEnd t) l) (omega (arith, p .0)) rest))
+
+-- ---- THE INVARIANT
+
+pub record Fits (b : Ledger) : Type 0 where
+  pub unit-good : isUnit (b .unit) ≡ true
+  pub orders-fit : Fitted (b .floor) 0 (b .orders)
+  pub room : length (b .orders) ≤ 96
+
+pub fits-fresh : (unit : List ℕ) → isUnit unit ≡ true → Fits (fresh unit)
+fits-fresh unit e = record { unit-good = e; orders-fit = tt; room = omega arith }
+
+fits-effect : (k : Call) (b : Ledger) → answer k b ≡ 0 → Fits b → Fits (effect k b)
+fits-effect (command r) b a g =
+    let p = takes r b a in
+    let o : Order = orderOf r in
+    record {
+      unit-good = g .unit-good;
+      orders-fit =
+          fitted-insert (b .floor) 0 o (b .orders)
+          (fits-of (b .floor) 0 o (omega arith) (leb-false (o .end) (b .floor) (p .ends)) (brought r (b .unit) (p .fits))) (p .free) (g .orders-fit);
+      room = rw (length-insert number o (b .orders)) (leb-false 96 (length (b .orders)) (p .room));
+    }
+fits-effect (revoke r) b a g =
+    record {
+      unit-good = g .unit-good;
+      orders-fit = fitted-strike (b .floor) 0 (strikeOf r) (b .orders) (g .orders-fit);
+      room = rw (length-map (b .orders) (strikeAt (strikeOf r))) (g .room);
+    }
+fits-effect (close t) b a g =
+    record {
+      unit-good = g .unit-good;
+      orders-fit = fitted-close (b .floor) 0 t (b .orders) (g .orders-fit);
+      room = omega (arith, length-keep (pastEnd t) (b .orders), g .room);
+    }
+fits-effect (ask t) b a g = g
+
+pub fits-step : (k : Call) (b : Ledger) → Fits b → Fits (step k b)
+fits-step k b g = step-keeps Fits k b (fits-effect k b) g

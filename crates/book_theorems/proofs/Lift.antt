@@ -1,0 +1,95 @@
+-- The book that holds a fitting ledger is not malformed, and its calls are the ledger's. Assumes nothing.
+use Prim.Native.Nat.{ℕ, zero, suc, _-_, _≤_}
+use Rattle.book.proofs.Leading.{fits-past, fits-filled, empty-dropped}
+use Rattle.book.specs.Answers.{codeOf, nextOf, found, askedOf}
+use Rattle.book.specs.Places.{bookOf, shelf, formedFrom, formedUnit, formedBook}
+use Rattle.book_lists.specs.Keyed.{keep}
+use Rattle.book_ledger.specs.Calls.{Call, ask}
+use Rattle.book_ledger.specs.Ledger.{Ledger, answer, step, inForce}
+use Rattle.value_name.specs.Names.{isUnit}
+use Rattle.book_order.specs.Orders.{pastEnd, emptyOrder, isEmpty}
+use Rattle.book_order.specs.declared.Order.{Order}
+use Rattle.book_theorems.proofs.Fitting.{Fitted, Fits}
+use Rattle.text.proofs.Tests.{and-parts}
+use Rattle.text.specs.Bytes.{all, is, within}
+use Rattle.text.specs.Puts.{roomOf}
+use borrow.Author.Tests.{le-ltb, leb-true}
+use lib.Dec.{leb}
+use lib.ListN.{length, replicate, length-append, length-replicate}
+use lib.Seq.{take-append-seam, drop-append-seam}
+use mathlib.Core.Bool.{Bool, true}
+use mathlib.Core.List.{List, [], _∷_, _++_}
+use mathlib.Core.Path.{_≡_, refl, ap}
+use native.Mathlib.Omega.{arith}
+
+-- ---- places that are filled with copies
+
+all-copies : {A : Type 0} (p : A → Bool) (x : A) → p x ≡ true → (n : ℕ) → all p (replicate n x) ≡ true
+unfolding all
+all-copies p x e zero = refl
+all-copies p x e (suc n) = rw e (all-copies p x e n)
+
+filled-up : {A : Type 0} (n : ℕ) (x : A) (l : List A) → length l ≤ n → length (l ++ replicate (n - length l) x) ≡ n
+filled-up n x l h = omega (arith, length-append l (replicate (n - length l) x), length-replicate (n - length l) x)
+
+empties : (n : ℕ) → all isEmpty (replicate n emptyOrder) ≡ true
+unfolding isEmpty
+empties n = all-copies isEmpty emptyOrder refl n
+
+-- ---- the orders and the unit of such a book
+
+orders-formed : (f lo n : ℕ) (l : List Order) → Fitted f lo l → formedFrom f lo (l ++ replicate n emptyOrder) ≡ true
+unfolding isEmpty
+orders-formed f lo zero [] g = refl
+orders-formed f lo (suc n) [] g = empties n
+orders-formed f lo n (o ∷ l) g = rw (fits-filled f lo o (g .0), g .0) (orders-formed f (suc (o .number)) n l (g .1))
+
+orders-kept : (f lo n : ℕ) (l : List Order) → Fitted f lo l → keep (pastEnd 0) (l ++ replicate n emptyOrder) ≡ l
+orders-kept f lo n [] g = empty-dropped (replicate n emptyOrder) (empties n)
+orders-kept f lo n (o ∷ l) g = rw (fits-past f lo o (g .0)) (ap (λ (m : List Order). o ∷ m) (orders-kept f (suc (o .number)) n l (g .1)))
+
+unit-short : (unit : List ℕ) → isUnit unit ≡ true → leb (length unit) 16 ≡ true
+unfolding isUnit
+unit-short unit e = and-parts (leb 1 (length unit)) (leb (length unit) 16) (and-parts (within 1 16 (length unit)) _ e .0) .1
+
+unit-formed : (unit : List ℕ) → isUnit unit ≡ true → formedUnit (length unit) (roomOf 16 unit) ≡ true
+unfolding formedUnit roomOf
+unit-formed unit e =
+    let z : List ℕ = replicate (16 - length unit) 0 in
+    rw (unit-short unit e, take-append-seam unit z, e, drop-append-seam unit z) (all-copies (is 0) 0 refl (16 - length unit))
+
+-- ---- such a book
+
+module _ (b : Ledger) (g : Fits b) where
+  pub formed : formedBook (bookOf b) ≡ true
+  unfolding formedBook bookOf
+  formed = rw (unit-formed (b .unit) (g .unit-good)) (orders-formed (b .floor) 0 (96 - length (b .orders)) (b .orders) (g .orders-fit))
+
+  pub shelved : shelf (bookOf b) ≡ b
+  unfolding shelf bookOf roomOf
+  shelved = λ i. record {
+    unit = take-append-seam (b .unit) (replicate (16 - length (b .unit)) 0) i;
+    floor = b .floor;
+    orders = orders-kept (b .floor) 0 (96 - length (b .orders)) (b .orders) (g .orders-fit) i;
+  }
+
+  -- it has 96 places, and its unit a room of 16 bytes
+  pub sized : (length (bookOf b .orders) ≡ 96) × (length (bookOf b .unit) ≡ 16)
+  unfolding bookOf roomOf
+  sized = (
+    filled-up 96 emptyOrder (b .orders) (g .room),
+    filled-up 16 0 (b .unit) (leb-true (length (b .unit)) 16 (unit-short (b .unit) (g .unit-good))),
+  )
+
+  pub lift-code : (k : Call) → codeOf k (bookOf b) ≡ answer k b
+  unfolding codeOf
+  lift-code k = rw formed (ap (answer k) shelved)
+
+  pub lift-next : (k : Call) → nextOf k (bookOf b) ≡ bookOf (step k b)
+  unfolding nextOf
+  lift-next k = rw formed (ap (λ (l : Ledger). bookOf (step k l)) shelved)
+
+  -- no instant below the floor is asked for
+  pub lift-asked : (t : ℕ) → b .floor ≤ t → askedOf t (bookOf b) .answer ≡ found (inForce t b)
+  unfolding askedOf
+  lift-asked t h = rw (lift-code (ask t), le-ltb t (b .floor) h) (ap (λ (l : Ledger). found (inForce t l)) shelved)

@@ -1,0 +1,153 @@
+-- Demand 3 of the book with its 96 places: the ledger's theorems, carried over. Assumes nothing.
+use Prim.Native.Nat.{ℕ, zero, suc}
+use Rattle.book.proofs.Formed.{shelf-book}
+use Rattle.book.specs.Answers.{codeOf, nextOf, freshOf, found, askedAs, refusalIn, askedOf}
+use Rattle.book.specs.Places.{shelf, zeroBook, formedUnit, formedBook}
+use Rattle.book.specs.declared.Book.{Book}
+use Rattle.book_ledger.proofs.Agreement.{same-answer, same-in-force}
+use Rattle.book_ledger.proofs.Removal.{removal as ledger-removal, whole-answers as ledger-answers}
+use Rattle.book_ledger.specs.Calls.{Call, command, revoke, ask}
+use Rattle.book_ledger.specs.Demand.{wantsPlace, whole, leftOut, found as foundAt, taken, met, struck, otherAnswers, Revoked, LeftOut}
+use Rattle.book_ledger.specs.History.{ledgerOf}
+use Rattle.book_ledger.specs.Keepers.{run, answers}
+use Rattle.book_ledger.specs.Ledger.{fresh, answer, inForce, ledgers}
+use Rattle.value_name.specs.Names.{isUnit}
+use Rattle.record.specs.declared.Record.{Record}
+use Rattle.book_theorems.proofs.Carried.{Carries, carries-formed, same-floor, same-code, carries-step, same-asked, carries-run, same-answers, same-accepted}
+use Rattle.book_theorems.proofs.Fitting.{fits-fresh}
+use Rattle.book_theorems.specs.Books.{books, bookFor, Kept}
+use Rattle.text.proofs.Tests.{by-test}
+use Rattle.text.specs.Bytes.{any}
+use borrow.Author.Tests.{eqb-false, ne-eqb}
+use lib.ListN.{length}
+use mathlib.Core.Bool.{true, false}
+use mathlib.Core.List.{List, [], _∷_, _++_}
+use mathlib.Core.Path.{_≡_, refl, sym, ap, _∙_}
+use native.Mathlib.Omega.{arith}
+
+-- ---- the first half: the book is the one that the calls that it accepted define
+
+fresh-carries : (unit : List ℕ) → isUnit unit ≡ true → Carries (bookFor unit) (fresh unit)
+unfolding freshOf
+fresh-carries unit e = record { is-book = rw (e, bookFor); fits = fits-fresh unit e }
+
+pub kept : (unit : List ℕ) (ks : List Call) → isUnit unit ≡ true → Kept unit ks
+kept unit ks e =
+    let start = fresh-carries unit e in
+    let now = carries-run ks start in
+    let calls = sym (same-accepted ks start) in
+    record {
+      formed = carries-formed now;
+      answers-so = λ k. same-code now k ∙ same-answer unit ks k ∙ ap (λ (h : List Call). answer k (ledgerOf unit h)) calls;
+      in-force-so = λ t h.
+          same-asked now t (omega (arith, same-floor now))
+          ∙ ap found (same-in-force unit ks t ∙ ap (λ (l : List Call). inForce t (ledgerOf unit l)) calls);
+    }
+
+-- ---- for a bad unit the book is all zero, and every call refuses it
+
+zero-malformed : formedBook zeroBook ≡ false
+unfolding formedBook zeroBook formedUnit isUnit
+zero-malformed = refl
+
+module _ (unit : List ℕ) (bad : isUnit unit ≡ false) where
+  bad-malformed : formedBook (bookFor unit) ≡ false
+  unfolding freshOf
+  bad-malformed = rw (bad, bookFor) zero-malformed
+
+  bad-step : (k : Call) → nextOf k (bookFor unit) ≡ bookFor unit
+  unfolding nextOf
+  bad-step k = rw bad-malformed
+
+  bad-run : (ks : List Call) → run books ks (bookFor unit) ≡ bookFor unit
+  bad-run [] = refl
+  bad-run (k ∷ ks) = ap (run books ks) (bad-step k) ∙ bad-run ks
+
+  bad-code : (k : Call) → codeOf k (bookFor unit) ≡ 20
+  unfolding codeOf
+  bad-code k = rw bad-malformed
+
+  pub unkept : (ks : List Call) (k : Call) → (codeOf k (run books ks (bookFor unit)) ≡ 20) × (run books ks (bookFor unit) ≡ bookFor unit)
+  unkept ks k = (ap (codeOf k) (bad-run ks) ∙ bad-code k, bad-run ks)
+
+-- ---- the question is refused as its list says, with the detail 0, whatever the book
+
+found-none : (n : ℕ) → refusalIn (found n) ≡ (0, 0)
+found-none zero = refl
+found-none (suc n) = refl
+
+asked-none : (c n : ℕ) → refusalIn (askedAs c n) ≡ (c, 0)
+asked-none zero n = found-none n
+asked-none (suc c) n = refl
+
+pub asked-refusal : (t : ℕ) (b : Book) → refusalIn (askedOf t b .answer) ≡ (codeOf (ask t) b, 0)
+unfolding askedOf
+asked-refusal t b = asked-none (codeOf (ask t) b) (inForce t (shelf b))
+
+-- ---- the second half: a command that was taken and later revoked may be left out, with its revocation
+
+module _ (unit : List ℕ) (before between after : List Call) (c v : Record) where
+  module _ (q : Revoked books (bookFor unit) unit before between after c v) where
+    -- no command is taken for a bad unit, so the ledger's run starts with the book's
+    start : Carries (bookFor unit) (fresh unit)
+    start =
+        fresh-carries unit (by-test (isUnit unit) (λ e. e)
+        (λ e. absurd (eqb-false 20 0 refl (sym (unkept unit e before (command c) .0) ∙ q .was-taken))))
+
+    -- where the ledger's run is at each book that the demand names
+    at-command : Carries (foundAt books (bookFor unit) unit before between after c v) (foundAt ledgers (fresh unit) unit before between after c v)
+    at-command = carries-run before start
+
+    past-command : Carries (taken books (bookFor unit) unit before between after c v) (taken ledgers (fresh unit) unit before between after c v)
+    past-command = carries-step at-command (command c)
+
+    at-revocation : Carries (met books (bookFor unit) unit before between after c v) (met ledgers (fresh unit) unit before between after c v)
+    at-revocation = carries-run between past-command
+
+    past-revocation : Carries (struck books (bookFor unit) unit before between after c v) (struck ledgers (fresh unit) unit before between after c v)
+    past-revocation = carries-step at-revocation (revoke v)
+
+    revoked : Revoked ledgers (fresh unit) unit before between after c v
+    revoked =
+        record {
+          was-taken = sym (same-code at-command (command c)) ∙ q .was-taken;
+          was-revoked = sym (same-code at-revocation (revoke v)) ∙ q .was-revoked;
+          by-name = q .by-name;
+          unnamed-between = q .unnamed-between;
+          unnamed-after = q .unnamed-after;
+          room-between = ap (any wantsPlace) (sym (same-answers between past-command)) ∙ q .room-between;
+          room-after = ap (any wantsPlace) (sym (same-answers after past-revocation)) ∙ q .room-after;
+        }
+
+  pub removal : Revoked books (bookFor unit) unit before between after c v → LeftOut books (bookFor unit) unit before between after c v
+  removal q =
+      let d = ledger-removal unit before between after c v (revoked q) in
+      let short = carries-run (leftOut books (bookFor unit) unit before between after c v) (start q) in
+      let long = carries-run (whole books (bookFor unit) unit before between after c v) (start q) in
+      let others : otherAnswers books (bookFor unit) unit before between after c v ≡ otherAnswers ledgers (fresh unit) unit before between after c v =
+      λ i. same-answers before (start q) i ++ (same-answers between (past-command q) i ++ same-answers after (past-revocation q) i) in
+      record {
+        same-answers = same-answers (leftOut books (bookFor unit) unit before between after c v) (start q) ∙ d .same-answers ∙ sym others;
+        same-floor = same-floor short ∙ d .same-floor ∙ sym (same-floor long);
+        same-in-force = λ t h.
+            let open' = rw (same-floor long) at h in
+            same-asked short t (rw (d .same-floor) open') ∙ ap found (d .same-in-force t open') ∙ sym (same-asked long t open');
+      }
+
+  -- the whole run's answers: those, and 0 to the command and 0 to the revocation
+  pub whole-answers : Revoked books (bookFor unit) unit before between after c v
+      → answers books (whole books (bookFor unit) unit before between after c v) (bookFor unit)
+      ≡ answers books before (bookFor unit)
+      ++ (0 ∷ (answers books between (taken books (bookFor unit) unit before between after c v) ++ (0 ∷ answers books after (struck books (bookFor unit) unit before between after c v))))
+  whole-answers q =
+      rw (same-answers before (start q), same-answers between (past-command q), same-answers after (past-revocation q))
+      (same-answers (whole books (bookFor unit) unit before between after c v) (start q) ∙ ledger-answers unit before between after c v (revoked q))
+
+-- ---- a refused call hands the same book back
+
+pub refused-same : (k : Call) (b : Book) → (codeOf k b ≡ 0 → ⊥) → length (b .orders) ≡ 96 → length (b .unit) ≡ 16 → nextOf k b ≡ b
+unfolding codeOf nextOf
+refused-same k b refused h u =
+    by-test (formedBook b)
+    (λ e. rw (e, ne-eqb (answer k (shelf b)) 0 (rw e at refused)) (sym (shelf-book b h u e)))
+    (λ e. rw e)

@@ -1,0 +1,137 @@
+-- The rules across fields, by number. Document 01, "Values": rules 1 to 9, on the record, so that validity of a record uses the same ones.
+use Prim.Native.Nat.{ℕ}
+use Rattle.layout.specs.declared.Layout.{Layout}
+use Rattle.layout.specs.declared.Layout.the-variants.{Market, Mfrr, Revocation, Generic, Exclusion, Limitation, Secondary, VoltVar, Rejection, Reserve}
+use Rattle.value_list.specs.declared.Triple.{Triple}
+use Rattle.record.specs.Records.{fieldOf}
+use Rattle.record.specs.declared.Cell.{Cell}
+use Rattle.record.specs.declared.Record.{Record}
+use Rattle.record_voltvar.specs.Table.{inTable}
+use Rattle.value_ask.specs.Values.{isFilled, instantIn, amountIn, isWord, triplesIn, notNegative}
+use Rattle.text.specs.Bytes.{all}
+use Rattle.value.specs.declared.Value.{Value}
+use lib.Dec.{leb, ltb}
+use lib.IntN.{pos}
+use lib.ListN.{take}
+use lib.Signed.{leZ, ltZ}
+use mathlib.Core.Bool.{Bool, true, false, not, _&&_, _||_, cond}
+use mathlib.Core.List.{List, [], _∷_}
+
+-- one holds exactly when the other does
+abbrev pub iff : Bool → Bool → Bool
+iff true b = b
+iff false b = not b
+
+-- one holds only where the other does
+abbrev pub onlyIf : Bool → Bool → Bool
+onlyIf a b = not a || b
+
+-- ---- each rule on the values that it asks for
+
+-- 1. Start before end, by instant, where an end is filled.
+abbrev pub ordered : Value → Value → Bool
+ordered start end = onlyIf (isFilled end) (ltb (instantIn start) (instantIn end))
+
+-- 1. mFRR: TINI1 < TFIN1 ≤ TINI2 < TFIN2.
+abbrev pub ramped : Value → Value → Value → Value → Bool
+ramped tini1 tfin1 tini2 tfin2 =
+    ltb (instantIn tini1) (instantIn tfin1) && leb (instantIn tfin1) (instantIn tini2) && ltb (instantIn tini2) (instantIn tfin2)
+
+-- 2. Update date filled exactly with SCWEB (word 7).
+abbrev pub updates : Value → Value → Bool
+updates origin update = iff (isFilled update) (isWord 7 origin)
+
+-- 3. Below a filled h line all are filled.
+abbrev pub fills : Value → Value → Value → Value → Value → Value → Bool
+fills h1 h2 h3 h4 h5 h6 =
+    onlyIf (isFilled h1) (isFilled h2)
+    && onlyIf (isFilled h2) (isFilled h3)
+    && onlyIf (isFilled h3) (isFilled h4)
+    && onlyIf (isFilled h4) (isFilled h5)
+    && onlyIf (isFilled h5) (isFilled h6)
+
+-- 4. Pmin ≤ Pmax; gradient above 0.
+unfoldable pub rises : Triple → Bool
+rises t = leZ (t .low) (t .high) && ltZ (pos 0) (t .gradient)
+
+abbrev pub slopes : Value → List Triple → Bool
+slopes bands gradients = all rises (take (triplesIn bands) gradients)
+
+-- 5. EB reason filled exactly when `Riammissione` is NO (word 5).
+abbrev pub excludes : Value → Value → Bool
+excludes reason again = iff (isFilled reason) (isWord 5 again)
+
+-- 6. LB: SI (word 4) leaves both limits and the reason blank; NO has a reason and at least one limit; minimum ≤ maximum if both.
+abbrev pub limits : Value → Value → Value → Value → Bool
+limits high low reason again =
+    cond (isWord 4 again) (not (isFilled high) && not (isFilled low) && not (isFilled reason))
+    (isFilled reason && (isFilled high || isFilled low) && onlyIf (isFilled high && isFilled low) (leZ (amountIn low) (amountIn high)))
+
+-- 7. SR: two numbers, neither negative, or blank with SOSPENSIONE (word 10) only.
+abbrev pub bands : Value → Value → Bool
+bands action band = cond (isFilled band) (notNegative band) (isWord 10 action)
+
+-- 9. QR: exactly one quantity filled.
+abbrev pub quantifies : Value → Value → Bool
+quantifies power energy = iff (isFilled power) (not (isFilled energy))
+
+-- ---- and on the fields of a message
+
+module _ (cells : List Cell) where
+  unfoldable pub inOrder : Bool
+  inOrder = ordered (fieldOf cells 3) (fieldOf cells 4)
+
+  unfoldable pub ramps : Bool
+  ramps = ramped (fieldOf cells 3) (fieldOf cells 4) (fieldOf cells 5) (fieldOf cells 6)
+
+  unfoldable pub updated : Bool
+  updated = updates (fieldOf cells 18) (fieldOf cells 19)
+
+  unfoldable pub profiled : Bool
+  profiled = fills (fieldOf cells 20) (fieldOf cells 21) (fieldOf cells 22) (fieldOf cells 23) (fieldOf cells 24) (fieldOf cells 25)
+
+  unfoldable pub sloped : List Triple → Bool
+  sloped gradients = slopes (fieldOf cells 26) gradients
+
+  unfoldable pub excluded : Bool
+  excluded = excludes (fieldOf cells 5) (fieldOf cells 7)
+
+  unfoldable pub limited : Bool
+  limited = limits (fieldOf cells 5) (fieldOf cells 6) (fieldOf cells 7) (fieldOf cells 9)
+
+  unfoldable pub banded : Bool
+  banded = bands (fieldOf cells 5) (fieldOf cells 6)
+
+  unfoldable pub quantified : Bool
+  quantified = quantifies (fieldOf cells 6) (fieldOf cells 7)
+
+-- ---- a rule's number and whether it holds
+
+pub record Rule : Type 0 where
+  pub number : ℕ
+  pub holds : Bool
+
+abbrev pub rule : ℕ → Bool → Rule
+rule n b = record { number = n; holds = b }
+
+-- the rules of a layout, ascending
+unfoldable pub rulesOf : Layout → List Cell → List Triple → List Rule
+rulesOf Market cs gs = rule 1 (inOrder cs) ∷ rule 2 (updated cs) ∷ rule 3 (profiled cs) ∷ rule 4 (sloped cs gs) ∷ []
+rulesOf Mfrr cs gs = rule 1 (ramps cs) ∷ []
+rulesOf Revocation cs gs = rule 1 (inOrder cs) ∷ []
+rulesOf Generic cs gs = rule 1 (inOrder cs) ∷ []
+rulesOf Exclusion cs gs = rule 1 (inOrder cs) ∷ rule 5 (excluded cs) ∷ []
+rulesOf Limitation cs gs = rule 1 (inOrder cs) ∷ rule 6 (limited cs) ∷ []
+rulesOf Secondary cs gs = rule 1 (inOrder cs) ∷ rule 7 (banded cs) ∷ []
+rulesOf VoltVar cs gs = rule 1 (inOrder cs) ∷ rule 8 (inTable cs) ∷ []
+rulesOf Rejection cs gs = rule 1 (inOrder cs) ∷ []
+rulesOf Reserve cs gs = rule 1 (inOrder cs) ∷ rule 9 (quantified cs) ∷ []
+
+-- the lowest broken rule; 0 where all hold
+unfoldable pub lowest : List Rule → ℕ
+lowest [] = 0
+lowest (r ∷ rs) = cond (r .holds) (lowest rs) (r .number)
+
+-- THE DEFINITION: the lowest broken rule of a record
+unfoldable pub brokenIn : Record → ℕ
+brokenIn r = lowest (rulesOf (r .layout) (r .cells) (r .gradients))

@@ -1,0 +1,345 @@
+// The rules across fields, 1 to 9 by number, on a record's values.
+use layout::Layout;
+use record::Cell;
+use record::Record;
+use value_ask::amount_in;
+use value_ask::instant_in;
+use value_ask::is_filled;
+use value_ask::not_negative;
+use value_ask::triples_in;
+use value_ask::word_number;
+use value_list::Triple;
+ghost use Rattle.record_rules.specs.Rules.{ordered, ramped, updates, fills, rises, slopes, excludes, limits, bands, quantifies, rule, lowest, rulesOf, brokenIn};
+ghost use Rattle.value_ask.specs.Values.{isFilled, isWord, instantIn, amountIn};
+ghost use Rattle.text.specs.Bytes.{all};
+ghost use Rattle.record_voltvar.specs.Table.{lineIn, isRow};
+ghost use lib.ListN.{take};
+ghost use lib.Signed.{leZ};
+ghost use mathlib.Core.List.{[], _∷_};
+ghost use mathlib.Core.Path.{_≡_};
+
+// Whether a field is filled.
+fn filled(c: Cell) -> bool
+    ensures { λ r. ⌜ r ≡ isFilled (c .value) ⌝ }
+{
+    let v = c.value;
+    is_filled(v)
+}
+
+// The field is the word w.
+fn says(c: Cell, w: u8) -> bool
+    ensures { λ r. ⌜ r ≡ isWord w (c .value) ⌝ }
+{
+    let v = c.value;
+    word_number(v) == w
+}
+
+fn instant_at(c: Cell) -> u64
+    ensures { λ r. ⌜ r ≡ instantIn (c .value) ⌝ }
+{
+    let v = c.value;
+    instant_in(v)
+}
+
+// 1. Start before end, by instant, where an end is filled.
+fn in_order(start: Cell, end: Cell) -> bool
+    ensures { λ r. ⌜ r ≡ ordered (start .value) (end .value) ⌝ }
+{
+    !filled(end) | (instant_at(start) < instant_at(end))
+}
+
+// 1. mFRR: TINI1 < TFIN1 <= TINI2 < TFIN2.
+fn ramps(start1: Cell, end1: Cell, start2: Cell, end2: Cell) -> bool
+    ensures { λ r. ⌜ r ≡ ramped (start1 .value) (end1 .value) (start2 .value) (end2 .value) ⌝ }
+{
+    let tini1 = instant_at(start1);
+    let tfin1 = instant_at(end1);
+    let tini2 = instant_at(start2);
+    let tfin2 = instant_at(end2);
+    (tini1 < tfin1) & (tfin1 <= tini2) & (tini2 < tfin2)
+}
+
+// 2. Update date filled exactly with SCWEB.
+fn updated(origin: Cell, update: Cell) -> bool
+    ensures { λ r. ⌜ r ≡ updates (origin .value) (update .value) ⌝ }
+{
+    filled(update) == says(origin, 7)
+}
+
+// 3. Below a filled h line all are filled.
+fn profiled(line1: Cell, line2: Cell, line3: Cell, line4: Cell, line5: Cell, line6: Cell) -> bool
+    ensures { λ r. ⌜ r ≡ fills (line1 .value) (line2 .value) (line3 .value) (line4 .value) (line5 .value) (line6 .value) ⌝ }
+{
+    let h1 = filled(line1);
+    let h2 = filled(line2);
+    let h3 = filled(line3);
+    let h4 = filled(line4);
+    let h5 = filled(line5);
+    let h6 = filled(line6);
+    (!h1 | h2) & (!h2 | h3) & (!h3 | h4) & (!h4 | h5) & (!h5 | h6)
+}
+
+// 4. Pmin <= Pmax; gradient above 0.
+fn rises(t: Triple) -> bool
+    ensures { λ r. ⌜ r ≡ rises t ⌝ }
+{
+    (t.low <= t.high) & (0 < t.gradient)
+}
+
+fn all_rise(gradients: [Triple; 16], n: usize) -> bool
+    ensures { λ r. ⌜ r ≡ all rises (take n gradients) ⌝ }
+{
+    let mut i = 0;
+    while i < 16 {
+        if i == n {
+            return true;
+        }
+        if !rises(gradients[i]) {
+            return false;
+        }
+        i += 1;
+    }
+    true
+}
+
+fn sloped(listed: Cell, gradients: [Triple; 16]) -> bool
+    ensures { λ r. ⌜ r ≡ slopes (listed .value) gradients ⌝ }
+{
+    let v = listed.value;
+    all_rise(gradients, triples_in(v))
+}
+
+// 5. EB reason filled exactly when `Riammissione` is NO.
+fn excluded(reason: Cell, again: Cell) -> bool
+    ensures { λ r. ⌜ r ≡ excludes (reason .value) (again .value) ⌝ }
+{
+    filled(reason) == says(again, 5)
+}
+
+// The minimum of LB is at most its maximum.
+fn at_most(maximum: Cell, minimum: Cell) -> bool
+    ensures { λ r. ⌜ r ≡ leZ (amountIn (minimum .value)) (amountIn (maximum .value)) ⌝ }
+{
+    let high = maximum.value;
+    let low = minimum.value;
+    amount_in(low) <= amount_in(high)
+}
+
+// 6. LB: SI leaves both limits and the reason blank; NO has a reason and at least one limit; minimum <= maximum if both.
+fn limited(maximum: Cell, minimum: Cell, cause: Cell, ended: Cell) -> bool
+    ensures { λ r. ⌜ r ≡ limits (maximum .value) (minimum .value) (cause .value) (ended .value) ⌝ }
+{
+    let high = filled(maximum);
+    let low = filled(minimum);
+    let reason = filled(cause);
+    if says(ended, 4) {
+        return !high & !low & !reason;
+    }
+    reason & (high | low) & (!(high & low) | at_most(maximum, minimum))
+}
+
+// 7. SR: two numbers, neither negative, or blank with SOSPENSIONE only.
+fn banded(operation: Cell, halves: Cell) -> bool
+    ensures { λ r. ⌜ r ≡ bands (operation .value) (halves .value) ⌝ }
+{
+    if filled(halves) {
+        let v = halves.value;
+        return not_negative(v);
+    }
+    says(operation, 10)
+}
+
+// 9. QR: exactly one quantity filled.
+fn quantified(power: Cell, extent: Cell) -> bool
+    ensures { λ r. ⌜ r ≡ quantifies (power .value) (extent .value) ⌝ }
+{
+    filled(power) == !filled(extent)
+}
+
+// Rule 1, then one more.
+fn order_and(start: Cell, end: Cell, number: u8, holds: bool) -> u8
+    ensures { λ r. ⌜ r ≡ lowest (rule 1 (ordered (start .value) (end .value)) ∷ rule number holds ∷ []) ⌝ }
+{
+    if !in_order(start, end) {
+        return 1;
+    }
+    if !holds {
+        return number;
+    }
+    0
+}
+
+// The lowest broken rule of each layout's values; 0 where all hold.
+
+pub fn of_market(
+    start: Cell,
+    end: Cell,
+    origin: Cell,
+    update: Cell,
+    line1: Cell,
+    line2: Cell,
+    line3: Cell,
+    line4: Cell,
+    line5: Cell,
+    line6: Cell,
+    listed: Cell,
+    gradients: [Triple; 16],
+) -> u8
+    ensures { λ r. ⌜ r ≡ lowest (
+        rule 1 (ordered (start .value) (end .value))
+        ∷ rule 2 (updates (origin .value) (update .value))
+        ∷ rule 3 (fills (line1 .value) (line2 .value) (line3 .value) (line4 .value) (line5 .value) (line6 .value))
+        ∷ rule 4 (slopes (listed .value) gradients)
+        ∷ []) ⌝ }
+{
+    if !in_order(start, end) {
+        return 1;
+    }
+    if !updated(origin, update) {
+        return 2;
+    }
+    if !profiled(line1, line2, line3, line4, line5, line6) {
+        return 3;
+    }
+    if !sloped(listed, gradients) {
+        return 4;
+    }
+    0
+}
+
+pub fn of_ramps(start1: Cell, end1: Cell, start2: Cell, end2: Cell) -> u8
+    ensures { λ r. ⌜ r ≡ lowest (rule 1 (ramped (start1 .value) (end1 .value) (start2 .value) (end2 .value)) ∷ []) ⌝ }
+{
+    if !ramps(start1, end1, start2, end2) {
+        return 1;
+    }
+    0
+}
+
+pub fn of_order(start: Cell, end: Cell) -> u8
+    ensures { λ r. ⌜ r ≡ lowest (rule 1 (ordered (start .value) (end .value)) ∷ []) ⌝ }
+{
+    if !in_order(start, end) {
+        return 1;
+    }
+    0
+}
+
+pub fn of_exclusion(start: Cell, end: Cell, reason: Cell, again: Cell) -> u8
+    ensures { λ r. ⌜ r ≡ lowest (rule 1 (ordered (start .value) (end .value)) ∷ rule 5 (excludes (reason .value) (again .value)) ∷ []) ⌝ }
+{
+    order_and(start, end, 5, excluded(reason, again))
+}
+
+pub fn of_limitation(
+    start: Cell,
+    end: Cell,
+    maximum: Cell,
+    minimum: Cell,
+    reason: Cell,
+    ended: Cell,
+) -> u8
+    ensures { λ r. ⌜ r ≡ lowest (rule 1 (ordered (start .value) (end .value)) ∷ rule 6 (limits (maximum .value) (minimum .value) (reason .value) (ended .value)) ∷ []) ⌝ }
+{
+    order_and(start, end, 6, limited(maximum, minimum, reason, ended))
+}
+
+pub fn of_secondary(start: Cell, end: Cell, operation: Cell, halves: Cell) -> u8
+    ensures { λ r. ⌜ r ≡ lowest (rule 1 (ordered (start .value) (end .value)) ∷ rule 7 (bands (operation .value) (halves .value)) ∷ []) ⌝ }
+{
+    order_and(start, end, 7, banded(operation, halves))
+}
+
+pub fn of_volt_var(
+    start: Cell,
+    end: Cell,
+    state: Cell,
+    mode: Cell,
+    regulation: Cell,
+    voltage: Cell,
+    regulator: Cell,
+    change: Cell,
+    reactive: Cell,
+) -> u8
+    ensures { λ r. ⌜ r ≡ lowest (
+        rule 1 (ordered (start .value) (end .value))
+        ∷ rule 8 (isRow (lineIn (state .value) (mode .value) (regulation .value) (voltage .value) (regulator .value) (change .value) (reactive .value)))
+        ∷ []) ⌝ }
+{
+    order_and(
+        start,
+        end,
+        8,
+        record_voltvar::in_table(
+            state,
+            mode,
+            regulation,
+            voltage,
+            regulator,
+            change,
+            reactive,
+        ),
+    )
+}
+
+pub fn of_reserve(start: Cell, end: Cell, power: Cell, extent: Cell) -> u8
+    ensures { λ r. ⌜ r ≡ lowest (rule 1 (ordered (start .value) (end .value)) ∷ rule 9 (quantifies (power .value) (extent .value)) ∷ []) ⌝ }
+{
+    order_and(start, end, 9, quantified(power, extent))
+}
+
+// The lowest broken rule of a layout's values; 0 where all hold.
+pub fn lowest_of(l: Layout, cells: [Cell; 26], gradients: [Triple; 16]) -> u8
+    ensures { λ r. ⌜ r ≡ lowest (rulesOf l cells gradients) ⌝ }
+{
+    match l {
+        Layout::Market => of_market(
+            cells[2],
+            cells[3],
+            cells[17],
+            cells[18],
+            cells[19],
+            cells[20],
+            cells[21],
+            cells[22],
+            cells[23],
+            cells[24],
+            cells[25],
+            gradients,
+        ),
+        Layout::Mfrr => of_ramps(cells[2], cells[3], cells[4], cells[5]),
+        Layout::Exclusion => of_exclusion(cells[2], cells[3], cells[4], cells[6]),
+        Layout::Limitation => of_limitation(
+            cells[2],
+            cells[3],
+            cells[4],
+            cells[5],
+            cells[6],
+            cells[8],
+        ),
+        Layout::Secondary => of_secondary(cells[2], cells[3], cells[4], cells[5]),
+        Layout::VoltVar => of_volt_var(
+            cells[2],
+            cells[3],
+            cells[4],
+            cells[5],
+            cells[6],
+            cells[7],
+            cells[8],
+            cells[9],
+            cells[10],
+        ),
+        Layout::Reserve => of_reserve(cells[2], cells[3], cells[5], cells[6]),
+        _ => of_order(cells[2], cells[3]),
+    }
+}
+
+// The lowest broken rule of a record; 0 where all hold.
+pub fn lowest_broken(r: Record) -> u8
+    ensures { λ b. ⌜ b ≡ brokenIn r ⌝ }
+{
+    let l = r.layout;
+    let cells = r.cells;
+    let gradients = r.gradients;
+    lowest_of(l, cells, gradients)
+}

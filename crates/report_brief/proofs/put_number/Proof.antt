@@ -1,0 +1,30 @@
+-- The key, the digits and the end, one after the other, are the line.
+use Rattle.report_brief.proofs.Puts.{line-put}
+use Rattle.report_brief.proofs.put_number.Statement.{statement}
+use Rattle.report_brief.proofs.put_number.Tie as tie
+use Rattle.text.proofs.Numerals.{whole-length}
+use Rattle.text.specs.Digits.{wholeText}
+use borrow.Author.Needs.{needs}
+
+put-text-requires : tie.Need-put-text-requires
+put-text-requires c κs = search needs
+
+put-whole-requires : tie.Need-put-whole-requires
+put-whole-requires c κs = search needs
+
+put-byte-requires : tie.Need-put-byte-requires
+put-byte-requires c κs =
+    let h = whole-length 9 (c .before .before .before .before .before .before .before .before .before .before .before .args .n) in
+    search needs
+
+same-length : tie.Need-same-length
+same-length c = search needs
+
+returns : tie.Need-returns
+returns c =
+    let s = c .before .before .before .before .before .before .before .before .before .before .before .before .before .before in
+    line-put (s .args .key .now) (wholeText 9 (s .args .n)) (s .args .out .now) _ _ (c .before .before .before .before .before .before .before .before .before .before .put-text .last .0) _ (c .before .before .before .before .before .before .put-whole .last .0) _ _ (c .before .before .before .before .before .before .before .before .before .before .put-text .ensures) (c .before .before .before .before .before .before .put-whole .ensures) (c .before .before .put-byte .ensures)
+
+pub put-number-spec : {M : Type 1} → statement M
+put-number-spec =
+    tie.close (tie.spec put-text-requires put-whole-requires put-byte-requires same-length returns)

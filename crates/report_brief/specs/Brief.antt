@@ -1,0 +1,75 @@
+-- What is told of a record in brief. Document 01, "The program": six lines `key=value`, each ended by LF (10).
+use Prim.Native.Nat.{ℕ}
+use Rattle.value_ask.specs.Values.{isFilled, numberIn, sizeIn, instantIn}
+use Rattle.report_brief.specs.declared.Brief.{Brief}
+use Rattle.layout.specs.Layouts.{typeOf}
+use Rattle.layout.specs.declared.Layout.{Layout}
+use Rattle.layout.specs.declared.Layout.the-variants.{Market, Mfrr, Revocation, Generic, Exclusion, Limitation, Secondary, VoltVar, Rejection, Reserve}
+use Rattle.value_name.specs.Types.{codeOf}
+use Rattle.record.specs.Records.{fieldOf}
+use Rattle.record.specs.declared.Record.{Record}
+use Rattle.text.specs.Bytes.{bytes}
+use Rattle.text.specs.Digits.{wholeText}
+use Rattle.value.specs.declared.Value.{Value}
+use lib.ListN.{take}
+use mathlib.Core.Bool.{cond}
+use mathlib.Core.List.{List, [], _∷_, _++_}
+
+-- ---- what is told of a record
+
+unfoldable pub numberOf : Record → ℕ
+numberOf r = numberIn (fieldOf (r .cells) 1)
+
+-- the code of its unit
+unfoldable pub unitOf : Record → List ℕ
+unitOf r = take (sizeIn (fieldOf (r .cells) 2)) (r .unit)
+
+-- start and end: fields 3 and 4, mFRR's TINI1 and TFIN2
+abbrev pub startOf : Record → Value
+startOf r = fieldOf (r .cells) 3
+
+abbrev pub endField : Layout → ℕ
+endField Market = 4
+endField Mfrr = 6
+endField Revocation = 4
+endField Generic = 4
+endField Exclusion = 4
+endField Limitation = 4
+endField Secondary = 4
+endField VoltVar = 4
+endField Rejection = 4
+endField Reserve = 4
+
+unfoldable pub endOf : Record → Value
+endOf r = fieldOf (r .cells) (endField (r .layout))
+
+-- a date as its instant, a blank as nothing
+unfoldable pub instantText : Value → List ℕ
+instantText v = cond (isFilled v) (wholeText 9 (instantIn v)) []
+
+-- ---- lines `key=value`
+
+abbrev pub lineText : List ℕ → List ℕ → List ℕ
+lineText key v = (key ++ v) ++ (10 ∷ [])
+
+-- what is told of a message with these values of its fields 1, 2 and 3 and of its end, and its unit's room
+unfoldable pub toldOf : Layout → Value → Value → List ℕ → Value → Value → Brief
+toldOf l first second unit start end =
+    record { layout = l; number = numberIn first; size = sizeIn second; unit = unit; start = start; end = end }
+
+-- what is told of a record
+unfoldable pub briefOf : Record → Brief
+briefOf r = toldOf (r .layout) (fieldOf (r .cells) 1) (fieldOf (r .cells) 2) (r .unit) (startOf r) (endOf r)
+
+unfoldable pub sixOf : Brief → List ℕ
+sixOf b =
+    lineText (bytes "result=") (bytes "0")
+    ++ lineText (bytes "type=") (codeOf (typeOf (b .layout)))
+    ++ lineText (bytes "number=") (wholeText 9 (b .number))
+    ++ lineText (bytes "unit=") (take (b .size) (b .unit))
+    ++ lineText (bytes "start=") (instantText (b .start))
+    ++ lineText (bytes "end=") (instantText (b .end))
+
+-- THE DEFINITION: the six lines of a record
+abbrev pub sixLines : Record → List ℕ
+sixLines r = sixOf (briefOf r)

@@ -1,0 +1,143 @@
+// What is told of a record in brief, and its six lines.
+use layout::Layout;
+use record::Record;
+use text::put;
+use text::scan;
+use value::Value;
+use value_name::MessageType;
+ghost use Prim.Native.Nat.{_+_, _<_};
+ghost use Rattle.report_brief.specs.Brief.{endField, instantText, lineText, toldOf, briefOf, sixOf};
+ghost use Rattle.value_name.specs.Types.{codeOf};
+ghost use Rattle.text.specs.Bytes.{bytes};
+ghost use Rattle.text.specs.Digits.{wholeText};
+ghost use Rattle.text.specs.Puts.{limit};
+ghost use lib.ListN.{length};
+ghost use lib.Seq.{sets};
+ghost use mathlib.Core.List.{_++_};
+ghost use mathlib.Core.Path.{_≡_};
+
+// The layout, the message's number, the unit's code in its room, and start and end as they stand in the record.
+pub struct Brief {
+    pub layout: Layout,
+    pub number: u64,
+    pub size: usize,
+    pub unit: [u8; 16],
+    pub start: Value,
+    pub end: Value,
+}
+
+// The field with the end: TFIN2 for mFRR.
+pub fn end_field(l: Layout) -> usize
+    ensures { λ r. ⌜ r ≡ endField l ⌝ }
+{
+    match l {
+        Layout::Mfrr => 6,
+        Layout::Market => 4,
+        Layout::Revocation => 4,
+        Layout::Generic => 4,
+        Layout::Exclusion => 4,
+        Layout::Limitation => 4,
+        Layout::Secondary => 4,
+        Layout::VoltVar => 4,
+        Layout::Rejection => 4,
+        Layout::Reserve => 4,
+    }
+}
+
+// What is told of a message with these values of its fields 1, 2 and 3 and of its end, and its unit's code in its room.
+pub fn of_values(
+    layout: Layout,
+    first: Value,
+    second: Value,
+    unit: [u8; 16],
+    start: Value,
+    end: Value,
+) -> Brief
+    ensures { λ b. ⌜ b ≡ toldOf layout first second unit start end ⌝ }
+{
+    Brief {
+        layout,
+        number: value_ask::number_in(first),
+        size: value_ask::size_in(second),
+        unit,
+        start,
+        end,
+    }
+}
+
+// What is told of a record.
+pub fn of_record(r: Record) -> Brief
+    ensures { λ b. ⌜ b ≡ briefOf r ⌝ }
+{
+    let layout = r.layout;
+    let cells = r.cells;
+    let unit = r.unit;
+    of_values(
+        layout,
+        record::field(cells, 1),
+        record::field(cells, 2),
+        unit,
+        record::field(cells, 3),
+        record::field(cells, end_field(layout)),
+    )
+}
+
+fn put_line(out: &mut [u8], at: usize, key: &[u8], v: &[u8]) -> usize
+    requires { ⌜ at + length (now key) + length (now v) + 1 < limit ⌝ }
+    ensures { λ r. ⌜ (r ≡ at + length (lineText (now (key .entry)) (now (v .entry)))) × (now (out .exit) ≡ sets (now (out .entry)) at (lineText (now (key .entry)) (now (v .entry)))) ⌝ }
+{
+    let a = put::put_text(out, at, key);
+    let b = put::put_text(out, a, v);
+    put::put_byte(out, b, b'\n')
+}
+
+pub fn put_number(out: &mut [u8], at: usize, key: &[u8], n: u64) -> usize
+    requires { ⌜ at + length (now key) + 11 < limit ⌝ }
+    ensures { λ r. ⌜ (r ≡ at + length (lineText (now (key .entry)) (wholeText 9 n))) × (now (out .exit) ≡ sets (now (out .entry)) at (lineText (now (key .entry)) (wholeText 9 n))) ⌝ }
+{
+    let a = put::put_text(out, at, key);
+    let b = put::put_whole(out, a, 9, n);
+    put::put_byte(out, b, b'\n')
+}
+
+// A date as its instant, a blank as nothing.
+fn put_instant(out: &mut [u8], at: usize, v: Value) -> usize
+    requires { ⌜ at + 10 < limit ⌝ }
+    ensures { λ r. ⌜ (r ≡ at + length (instantText v)) × (now (out .exit) ≡ sets (now (out .entry)) at (instantText v)) ⌝ }
+{
+    if value_ask::is_filled(v) {
+        return put::put_whole(out, at, 9, value_ask::instant_in(v));
+    }
+    at
+}
+
+// The first three lines: the result, the type and the number. What stands between two values is one text.
+fn put_head(out: &mut [u8], at: usize, t: MessageType, n: u64) -> usize
+    requires { ⌜ at + 200 < limit ⌝ }
+    ensures { λ r. ⌜ (r ≡ at + length (lineText (bytes "result=") (bytes "0") ++ lineText (bytes "type=") (codeOf t) ++ lineText (bytes "number=") (wholeText 9 n))) × (now (out .exit) ≡ sets (now (out .entry)) at (lineText (bytes "result=") (bytes "0") ++ lineText (bytes "type=") (codeOf t) ++ lineText (bytes "number=") (wholeText 9 n))) ⌝ }
+{
+    let code = value_name::code(t);
+    let a = put::put_text(out, at, b"result=0\ntype=");
+    let b = put::put_text(out, a, &code);
+    let c = put::put_text(out, b, b"\nnumber=");
+    let d = put::put_whole(out, c, 9, n);
+    put::put_byte(out, d, b'\n')
+}
+
+// The six lines.
+pub fn put_lines(out: &mut [u8], at: usize, b: Brief) -> usize
+    requires { ⌜ at + 200 < limit ⌝ }
+    ensures { λ n. ⌜ (n ≡ at + length (sixOf b)) × (now (out .exit) ≡ sets (now (out .entry)) at (sixOf b)) ⌝ }
+{
+    let l = b.layout;
+    let unit = b.unit;
+    let start = b.start;
+    let end = b.end;
+    let head = put_head(out, at, layout::type_of(l), b.number);
+    let third = put_line(out, head, b"unit=", scan::front(&unit, b.size));
+    let fourth = put::put_text(out, third, b"start=");
+    let fifth = put_instant(out, fourth, start);
+    let sixth = put::put_text(out, fifth, b"\nend=");
+    let last = put_instant(out, sixth, end);
+    put::put_byte(out, last, b'\n')
+}

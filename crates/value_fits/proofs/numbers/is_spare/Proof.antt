@@ -1,0 +1,18 @@
+-- Test by test as the definition says, the last of bits in place of a number.
+use Rattle.value_fits.proofs.Ranges.{zero-bits}
+use Rattle.value_fits.proofs.numbers.is_spare.Statement.{statement}
+use Rattle.value_fits.proofs.numbers.is_spare.Tie as tie
+use Rattle.value_fits.specs.Fits.{isSpare}
+use borrow.Author.Needs.{needs}
+use mir.Syntax.{w32}
+use mir.ValLaws.{toZ-ofZ}
+
+in-range-requires : tie.Need-in-range-requires
+in-range-requires c κs = search needs
+
+returns : tie.Need-returns
+unfolding isSpare
+returns c = let v = c .before .args .v in rw (c .in-range .ensures, toZ-ofZ w32 v (search needs), zero-bits v (search needs))
+
+pub is-spare-spec : {M : Type 1} → statement M
+is-spare-spec = tie.close (tie.spec in-range-requires returns)

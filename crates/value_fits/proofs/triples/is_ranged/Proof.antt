@@ -1,0 +1,24 @@
+-- Test by test as the definition says.
+use Rattle.value_fits.proofs.triples.is_ranged.Statement.{statement}
+use Rattle.value_fits.proofs.triples.is_ranged.Tie as tie
+use Rattle.value_fits.specs.Fits.{isRanged}
+use borrow.Author.Needs.{needs}
+use mir.Syntax.{w32}
+use mir.ValLaws.{toZ-ofZ}
+
+in-range-requires : tie.Need-in-range-requires
+in-range-requires c κs = search needs
+
+in-range-requires-2 : tie.Need-in-range-requires-2
+in-range-requires-2 c κs = search needs
+
+in-range-requires-3 : tie.Need-in-range-requires-3
+in-range-requires-3 c κs = search needs
+
+returns : tie.Need-returns
+unfolding isRanged
+returns c = let x = c .before .before .before .before .before .before .args .x in rw (c .before .before .before .before .in-range .ensures, c .before .before .in-range2 .ensures, c .in-range3 .ensures, toZ-ofZ w32 (x .low) (search needs), toZ-ofZ w32 (x .high) (search needs), toZ-ofZ w32 (x .gradient) (search needs))
+
+pub is-ranged-spec : {M : Type 1} → statement M
+is-ranged-spec =
+    tie.close (tie.spec in-range-requires in-range-requires-2 in-range-requires-3 returns)

@@ -1,0 +1,107 @@
+-- THE THEOREMS: the written form of what was read is read as the same record at the same address, and writing that again changes nothing.
+-- Assumes nothing.
+use Prim.Native.Nat.{ℕ}
+use Rattle.layout.specs.Layouts.{typeOf}
+use Rattle.layout.specs.Rows.{textAt}
+use Rattle.layout.specs.declared.Layout.{Layout}
+use Rattle.layout.specs.declared.Layout.the-variants.{Market, Mfrr}
+use Rattle.text_lines.specs.Lines.{Param}
+use Rattle.value_name.specs.declared.MessageType.{MessageType}
+use Rattle.value_name.specs.declared.MessageType.the-variants.{Cb, Rc, Mg, Eb, Lb, Sr, Vq, Ri, Qr}
+use Rattle.plan.specs.Plans.{planOf, soughtOf}
+use Rattle.plan.specs.declared.Sought.{Sought}
+use Rattle.reader.proofs.Firsts.{NoneHolds, next, accepted-none, numbers}
+use Rattle.reader.specs.Messages.{given, isKindOfCommand, layoutIn, valuesOf, bodyOf, goodOf}
+use Rattle.reader.specs.Reader.{bodyColumn, bodyIn, messageOf, unitIn, planned, answerAt, readOf}
+use Rattle.reader.specs.Refusals.{accepted as taken}
+use Rattle.reader.specs.declared.Answer.{Answer}
+use Rattle.reader_theorems.proofs.Agreed.{Accepted, accepted}
+use Rattle.reader_theorems.proofs.Held.{unit-text, record-valid}
+use Rattle.reader_theorems.proofs.Validity.{good-of, tidy-body}
+use Rattle.record.specs.Records.{recordOf}
+use Rattle.record.specs.declared.Record.{Record}
+use Rattle.writer_theorems.proofs.RoundTrip.{message-back, planned-back}
+use Rattle.text.specs.Bytes.{any}
+use Rattle.record_valid.specs.Valid.{textsOf, ValidAs}
+use Rattle.value.specs.declared.Value.{Value}
+use Rattle.writer_form.specs.Written.{fileOf}
+use mathlib.Core.Bool.{Bool, true, false, cond}
+use mathlib.Core.List.{List}
+use mathlib.Core.Path.{_≡_, refl, sym, ap, _∙_, subst}
+
+-- ---- a message
+
+two-layouts : (b : Bool) → typeOf (cond b Mfrr Market) ≡ Cb
+two-layouts true = refl
+two-layouts false = refl
+
+layout-type : (t : MessageType) (ps : List Param) → typeOf (layoutIn t ps) ≡ t
+unfolding layoutIn
+layout-type Cb ps = two-layouts (any isKindOfCommand ps)
+layout-type Rc ps = refl
+layout-type Mg ps = refl
+layout-type Eb ps = refl
+layout-type Lb ps = refl
+layout-type Sr ps = refl
+layout-type Vq ps = refl
+layout-type Ri ps = refl
+layout-type Qr ps = refl
+
+module _ {t : MessageType} {unit file : List ℕ} (a : Accepted t unit file) where
+  abbrev lay : Layout
+  lay = layoutIn t (given file)
+
+  abbrev col : List (List ℕ)
+  col = bodyColumn t file
+
+  abbrev values : List Value
+  values = goodOf (valuesOf lay col)
+
+  abbrev body : Record
+  body = recordOf lay col values
+
+  body-as : ValidAs body values
+  unfolding valuesOf bodyIn bodyOf
+  body-as = record-valid lay col values (good-of (valuesOf lay col) (a .values)) (tidy-body t file (a .clean)) (a .rules)
+
+  unit-is : unit ≡ textAt (textsOf body values) 2
+  unfolding valuesOf
+  unit-is = a .unit-is ∙ sym (unit-text lay col values (good-of (valuesOf lay col) (a .values)))
+
+  written-message : messageOf t unit (fileOf body) ≡ taken body
+  unfolding recordOf
+  written-message =
+      subst (λ (x : MessageType). messageOf x unit (fileOf body) ≡ taken body) (layout-type t (given file)) (message-back body-as unit unit-is)
+
+  body-read : bodyIn t file ≡ body
+  unfolding bodyIn bodyOf
+  body-read = refl
+
+pub message-normal : (t : MessageType) (unit file : List ℕ) → messageOf t unit file .number ≡ 0
+    → messageOf t unit (fileOf (messageOf t unit file .body)) ≡ messageOf t unit file
+message-normal t unit file h =
+    let a = accepted t unit file h in
+    let e : messageOf t unit file ≡ taken (body a) = a .answered ∙ ap taken (body-read a) in
+    ap (λ (x : Answer). messageOf t unit (fileOf (x .body))) e ∙ written-message a ∙ sym e
+
+-- ---- at an address of a plan
+
+at-normal : (s : Sought) (file : List ℕ) → answerAt s file .number ≡ 0 → NoneHolds (planned s file) → answerAt s (fileOf (answerAt s file .body)) ≡ answerAt s file
+unfolding planned
+at-normal s file h (next e (next d n)) =
+    let here = planned-back s file e d in
+    planned-back s (fileOf (answerAt s file .body)) e d
+    ∙ ap (λ (x : Answer). messageOf (s .kind) (unitIn s) (fileOf (x .body))) here
+    ∙ message-normal (s .kind) (unitIn s) file (sym (ap (λ (x : Answer). x .number) here) ∙ h)
+    ∙ sym here
+
+pub normal-same : (ca ioa : ℕ) (plan file : List ℕ) → readOf ca ioa plan file .number ≡ 0
+    → readOf ca ioa plan (fileOf (readOf ca ioa plan file .body)) ≡ readOf ca ioa plan file
+unfolding readOf answerAt
+normal-same ca ioa plan file h =
+    let s = soughtOf ca ioa (planOf plan) in
+    at-normal s file h (accepted-none (planned s file) (bodyIn (s .kind) file) (numbers s file) h)
+
+pub normal-twice : (ca ioa : ℕ) (plan file : List ℕ) → readOf ca ioa plan file .number ≡ 0
+    → fileOf (readOf ca ioa plan (fileOf (readOf ca ioa plan file .body)) .body) ≡ fileOf (readOf ca ioa plan file .body)
+normal-twice ca ioa plan file h = ap (λ (x : Answer). fileOf (x .body)) (normal-same ca ioa plan file h)
