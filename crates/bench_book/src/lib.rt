@@ -152,8 +152,8 @@ pub extern "C" fn halimpung_pace(
 {
     let ordered = reader::read(7, 300, plan, command);
     let revoked = reader::read(7, 301, plan, revocation);
-    let order = ordered.body;
-    let strike = revoked.body;
+    let order = ordered.content;
+    let strike = revoked.content;
     let b = filled(order, held);
     let sum = match call {
         0 => ask(b, rounds),

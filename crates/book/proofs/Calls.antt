@@ -19,7 +19,7 @@ use Rattle.report_brief.specs.Brief.{unitOf, startOf, endOf}
 use Rattle.book_source.proofs.Comes.{instants-fit}
 use Rattle.book_lists.specs.Keyed.{keep, insert, greatest, Ascending}
 use Rattle.layout.specs.declared.Layout.{Layout}
-use Rattle.book_ledger.specs.Calls.{Call, command, revoke, close, firstOf, unfit}
+use Rattle.book_ledger.specs.Calls.{Call, command, revoke, close, firstHolding, unfit}
 use Rattle.book_ledger.specs.Ledger.{answer, effect}
 use Rattle.book_order.specs.Messages.{isCommand, isRevocation, orderOf, strikeOf}
 use Rattle.book_order.specs.Orders.{number, nameOf, named, live, pastEnd, strikeAt, already}
@@ -44,24 +44,24 @@ use types.Run.{OneOf}
 abbrev three : Bool → Bool → Bool → List (Bool × ℕ) → List (Bool × ℕ)
 three a b c rest = (a, 12) ∷ (b, 29) ∷ (c, 21) ∷ rest
 
-three-some : (a b c : Bool) (rest : List (Bool × ℕ)) → (firstOf (three a b c []) ≡ 0 → ⊥) → firstOf (three a b c rest) ≡ firstOf (three a b c [])
+three-some : (a b c : Bool) (rest : List (Bool × ℕ)) → (firstHolding (three a b c []) ≡ 0 → ⊥) → firstHolding (three a b c rest) ≡ firstHolding (three a b c [])
 three-some true b c rest n = refl
 three-some false true c rest n = refl
 three-some false false true rest n = refl
 three-some false false false rest n = absurd (n refl)
 
-three-none : (a b c : Bool) (rest : List (Bool × ℕ)) → firstOf (three a b c []) ≡ 0 → firstOf (three a b c rest) ≡ firstOf rest
+three-none : (a b c : Bool) (rest : List (Bool × ℕ)) → firstHolding (three a b c []) ≡ 0 → firstHolding (three a b c rest) ≡ firstHolding rest
 three-none true b c rest e = absurd (eqb-false 12 0 refl e)
 three-none false true c rest e = absurd (eqb-false 29 0 refl e)
 three-none false false true rest e = absurd (eqb-false 21 0 refl e)
 three-none false false false rest e = refl
 
 module _ (calls : Layout → Bool) (unit : List ℕ) (r : Record) (rest : List (Bool × ℕ)) (right : Bool) (which : right ≡ calls (r .layout)) (n : ℕ) (u : n ≡ unfitOf right unit r) where
-  unfit-some : (n ≡ 0 → ⊥) → firstOf (unfit calls unit r rest) ≡ n
+  unfit-some : (n ≡ 0 → ⊥) → firstHolding (unfit calls unit r rest) ≡ n
   unfolding unfitOf
   unfit-some z = rw (← which) (three-some (not (isValid r)) (not right) (not (same (unitOf r) unit)) rest (λ e. z (u ∙ e)) ∙ sym u)
 
-  unfit-none : n ≡ 0 → firstOf (unfit calls unit r rest) ≡ firstOf rest
+  unfit-none : n ≡ 0 → firstHolding (unfit calls unit r rest) ≡ firstHolding rest
   unfolding unfitOf
   unfit-none z = rw (← which) (three-none (not (isValid r)) (not right) (not (same (unitOf r) unit)) rest (sym u ∙ z))
 
@@ -70,7 +70,7 @@ fit-both : (right : Bool) (unit : List ℕ) (r : Record) (n : ℕ) → n ≡ unf
 unfolding unfitOf
 fit-both right unit r n u z = both (isValid r) right (sym u ∙ z)
   where
-    both : (v w : Bool) → firstOf (three (not v) (not w) (not (same (unitOf r) unit)) []) ≡ 0 → (v ≡ true) × (w ≡ true)
+    both : (v w : Bool) → firstHolding (three (not v) (not w) (not (same (unitOf r) unit)) []) ≡ 0 → (v ≡ true) × (w ≡ true)
     both true true e = (refl, refl)
     both true false e = absurd (eqb-false 29 0 refl e)
     both false w e = absurd (eqb-false 12 0 refl e)
@@ -127,7 +127,7 @@ module _ (b : Book) (count : ℕ) (h : Holding b count) where
     command-unfit z = refusal (command r) n (unfit-some isCommand (take (b .size) (b .unit)) r (others (orderOf r) (b .floor) (shelf b .orders)) right which n u z) (ne-eqb n 0 z)
 
     module _ (z : n ≡ 0) (o : Order) (brought : o ≡ orderOf r) where
-      command-rest : answer (command r) (shelf b) ≡ firstOf (others o (b .floor) (take count (b .orders)))
+      command-rest : answer (command r) (shelf b) ≡ firstHolding (others o (b .floor) (take count (b .orders)))
       unfolding shelf
       command-rest =
           unfit-none isCommand (take (b .size) (b .unit)) r (others (orderOf r) (b .floor) (shelf b .orders)) right which n u z
@@ -144,7 +144,7 @@ module _ (b : Book) (count : ℕ) (h : Holding b count) where
         command-held t = refusal (command r) 22 (command-rest ∙ rw (lt-leb (o .end) (b .floor) timely, command-test ∙ t)) refl
 
         module _ (t : seat .held ≡ false) where
-          command-last : answer (command r) (shelf b) ≡ firstOf ((leb 96 count, 24) ∷ [])
+          command-last : answer (command r) (shelf b) ≡ firstHolding ((leb 96 count, 24) ∷ [])
           command-last = command-rest ∙ rw (lt-leb (o .end) (b .floor) timely, command-test ∙ t, length-take-le count (b .orders) fits)
 
           pub command-full : count ≡ 96 → outcome 24 b ≡ outcomeOf (command r) b
@@ -169,7 +169,7 @@ module _ (b : Book) (count : ℕ) (h : Holding b count) where
     revoke-unfit z = refusal (revoke r) n (unfit-some isRevocation (take (b .size) (b .unit)) r (unheld r (shelf b .orders)) right which n u z) (ne-eqb n 0 z)
 
     module _ (z : n ≡ 0) (m : ℕ) (names : m ≡ strikeOf r .name .number) (seat : Seat) (seated : seat ≡ seatOf m (take count (b .orders))) where
-      revoke-rest : answer (revoke r) (shelf b) ≡ firstOf (unheld r (take count (b .orders)))
+      revoke-rest : answer (revoke r) (shelf b) ≡ firstHolding (unheld r (take count (b .orders)))
       unfolding shelf
       revoke-rest =
           unfit-none isRevocation (take (b .size) (b .unit)) r (unheld r (shelf b .orders)) right which n u z
@@ -188,7 +188,7 @@ module _ (b : Book) (count : ℕ) (h : Holding b count) where
       revoke-unheld t = refusal (revoke r) 25 (revoke-rest ∙ rw (revoke-test ∙ t)) refl
 
       module _ (t : seat .held ≡ true) where
-        revoke-last : answer (revoke r) (shelf b) ≡ firstOf ((seat .struck, 26) ∷ [])
+        revoke-last : answer (revoke r) (shelf b) ≡ firstHolding ((seat .struck, 26) ∷ [])
         revoke-last = revoke-rest ∙ rw (revoke-test ∙ t, revoke-already)
 
         pub revoke-struck : seat .struck ≡ true → outcome 26 b ≡ outcomeOf (revoke r) b

@@ -1,7 +1,7 @@
 -- A book that is not malformed is the one that holds its ledger; and what a call answers by that. Assumes nothing.
 use Prim.Native.Nat.{ℕ, zero, suc, _-_}
 use Rattle.book.proofs.Leading.{leading-long, formed-leading, kept-leading}
-use Rattle.book.specs.Answers.{outcome, codeOf, nextOf, outcomeOf, found, askedOf}
+use Rattle.book.specs.Answers.{outcome, callNumber, nextOf, outcomeOf, found, askedOf}
 use Rattle.book.specs.Places.{packed, bookOf, shelf, formedFrom, formedUnit, formedBook}
 use Rattle.book.specs.Steps.{leading, withOrders}
 use Rattle.book.specs.declared.Book.{Book}
@@ -115,28 +115,28 @@ with-book b f l m k e q =
 -- ---- what a call answers
 
 pub malformed : (k : Call) (b : Book) → formedBook b ≡ false → outcome 20 b ≡ outcomeOf k b
-unfolding codeOf nextOf
+unfolding callNumber nextOf
 malformed k b e = rw e
 
 pub refused : (k : Call) (b : Book) (n : ℕ) → length (b .orders) ≡ 96 → length (b .unit) ≡ 16 → formedBook b ≡ true → answer k (shelf b) ≡ n → eqb n 0 ≡ false → outcome n b ≡ outcomeOf k b
-unfolding codeOf nextOf
+unfolding callNumber nextOf
 refused k b n h u e a z = rw (e, a, z) (ap (outcome n) (shelf-book b h u e))
 
 pub done : (k : Call) (b : Book) (l : List Order) (f : ℕ) → formedBook b ≡ true → answer k (shelf b) ≡ 0 → withOrders b f l ≡ bookOf (effect k (shelf b)) → outcome 0 (withOrders b f l) ≡ outcomeOf k b
-unfolding codeOf nextOf
+unfolding callNumber nextOf
 done k b l f e a q = rw (e, a) (ap (outcome 0) q)
 
 -- ---- what the question answers
 
 pub asked-malformed : (t : ℕ) (b : Book) → formedBook b ≡ false → record { answer = Refused 20 0; book = b } ≡ askedOf t b
-unfolding askedOf codeOf
+unfolding askedOf callNumber
 asked-malformed t b e = rw e
 
 pub asked-refused : (t : ℕ) (b : Book) (n : ℕ) → formedBook b ≡ true → answer (ask t) (shelf b) ≡ n → eqb n 0 ≡ false → record { answer = Refused n 0; book = b } ≡ askedOf t b
-unfolding askedOf codeOf
+unfolding askedOf callNumber
 asked-refused t b zero e a z = absurd (true≢false z)
 asked-refused t b (suc n) e a z = rw (e, a)
 
 pub asked-done : (t : ℕ) (b : Book) → formedBook b ≡ true → answer (ask t) (shelf b) ≡ 0 → record { answer = found (inForce t (shelf b)); book = b } ≡ askedOf t b
-unfolding askedOf codeOf
+unfolding askedOf callNumber
 asked-done t b e a = rw (e, a)

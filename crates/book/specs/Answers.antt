@@ -17,8 +17,8 @@ abbrev pub outcome : ℕ → Book → Outcome
 outcome n b = record { number = n; detail = 0; book = b }
 
 -- 20, the book is malformed; then the call's own
-unfoldable pub codeOf : Call → Book → ℕ
-codeOf k b = cond (formedBook b) (answer k (shelf b)) 20
+unfoldable pub callNumber : Call → Book → ℕ
+callNumber k b = cond (formedBook b) (answer k (shelf b)) 20
 
 -- a refused call hands the same book back
 unfoldable pub nextOf : Call → Book → Book
@@ -26,7 +26,7 @@ nextOf k b = cond (formedBook b) (bookOf (step k (shelf b))) b
 
 -- THE DEFINITION: command, revocation and close
 abbrev pub outcomeOf : Call → Book → Outcome
-outcomeOf k b = outcome (codeOf k b) (nextOf k b)
+outcomeOf k b = outcome (callNumber k b) (nextOf k b)
 
 -- THE DEFINITION: a fresh book for a unit. 21, the code is bad, with the all-zero book
 unfoldable pub freshOf : List ℕ → Outcome
@@ -52,4 +52,4 @@ refusalIn (Number k) = (0, 0)
 
 -- THE DEFINITION: in force at t; the question hands the same book back
 unfoldable pub askedOf : ℕ → Book → Asked
-askedOf t b = record { answer = askedAs (codeOf (ask t) b) (inForce t (shelf b)); book = b }
+askedOf t b = record { answer = askedAs (callNumber (ask t) b) (inForce t (shelf b)); book = b }

@@ -5,7 +5,7 @@ use Rattle.book_lists.proofs.Sorting.{sort-snoc, sort-map, sort-keep, any-sort,
 use Rattle.book_lists.specs.Keyed.{keep, sortOnto, greatest}
 use Rattle.book_ledger.proofs.Strikes.{strike-key, strike-end, ends-past, past-earlier, no-rung, takes, run-unit}
 use Rattle.book_ledger.specs.Calls.{Call, command, revoke, close, ask}
-use Rattle.book_ledger.specs.History.{floorBy, floorFrom, strikeBy, marked, brings, takings, heldBy, ledgerOf}
+use Rattle.book_ledger.specs.History.{floorBy, floorFrom, strikeBy, markedBy, brings, takings, heldBy, ledgerOf}
 use Rattle.book_ledger.specs.Ledger.{Ledger, fresh, answer, effect, inForce, run, accepted}
 use Rattle.book_order.specs.Messages.{orderOf, strikeOf}
 use Rattle.book_order.specs.Orders.{nameOf, number, named, live, pastEnd, strikeAt, already}
@@ -26,7 +26,7 @@ floor-snoc : (f : ℕ) (h : List Call) (k : Call) → floorFrom f (h ++ (k ∷ [
 floor-snoc f [] k = refl
 floor-snoc f (j ∷ h) k = floor-snoc (floorBy j f) h k
 
-marked-snoc : (h : List Call) (k : Call) (o : Order) → marked (h ++ (k ∷ [])) o ≡ strikeBy k (marked h o)
+marked-snoc : (h : List Call) (k : Call) (o : Order) → markedBy (h ++ (k ∷ [])) o ≡ strikeBy k (markedBy h o)
 marked-snoc [] k o = refl
 marked-snoc (j ∷ h) k o = marked-snoc h k (strikeBy j o)
 

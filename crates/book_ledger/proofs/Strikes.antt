@@ -4,7 +4,7 @@ use Rattle.report_brief.specs.Brief.{unitOf}
 use Rattle.book_lists.proofs.Sorting.{ascending-keep, ascending-insert, ascending-map}
 use Rattle.book_lists.specs.Keyed.{Ascending}
 use Rattle.layout.specs.declared.Layout.{Layout}
-use Rattle.book_ledger.specs.Calls.{Call, command, revoke, close, ask, isFor}
+use Rattle.book_ledger.specs.Calls.{Call, command, revoke, close, ask, fitFor}
 use Rattle.book_ledger.specs.Ledger.{Ledger, fresh, answer, effect, step, run, answers}
 use Rattle.book_order.specs.Messages.{isCommand, orderOf, strikeOf}
 use Rattle.book_order.specs.Orders.{Name, nameOf, sameName, named, number, live, pastEnd, Strike, strikeAt, already}
@@ -83,12 +83,12 @@ no-rungs false b c x e = absurd (eqb-false 12 0 refl e)
 
 -- a message that is not refused for itself
 pub fit : (right : Layout → Bool) (unit : List ℕ) (r : Record) (x : ℕ) → ladder (isValid r) (right (r .layout)) (same (unitOf r) unit) x ≡ 0
-    → (isFor right unit r ≡ true) × (x ≡ 0)
+    → (fitFor right unit r ≡ true) × (x ≡ 0)
 fit right unit r x e = no-rungs (isValid r) (right (r .layout)) (same (unitOf r) unit) x e
 
 -- a command that is taken
 pub record Takes (r : Record) (b : Ledger) : Type 0 where
-  pub fits : isFor isCommand (b .unit) r ≡ true
+  pub fits : fitFor isCommand (b .unit) r ≡ true
   pub ends : leb (orderOf r .end) (b .floor) ≡ false
   pub free : any (named (nameOf (orderOf r))) (b .orders) ≡ false
   pub room : leb 96 (length (b .orders)) ≡ false

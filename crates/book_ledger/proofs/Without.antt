@@ -7,7 +7,7 @@ use Rattle.book_lists.proofs.Sorting.{keep-insert}
 use Rattle.book_lists.specs.Keyed.{keep, Ascending}
 use Rattle.layout.specs.declared.Layout.{Layout}
 use Rattle.book_ledger.proofs.Strikes.{apart, strike-named, already-named, ladder, fit, step-unit, ascending-step}
-use Rattle.book_ledger.specs.Calls.{Call, command, revoke, close, ask, isFor, names}
+use Rattle.book_ledger.specs.Calls.{Call, command, revoke, close, ask, fitFor, names}
 use Rattle.book_ledger.specs.Demand.{wantsPlace}
 use Rattle.book_ledger.specs.Ledger.{Ledger, answer, effect, step, run, answers}
 use Rattle.book_order.specs.Messages.{isCommand, isRevocation, orderOf, strikeOf}
@@ -78,7 +78,7 @@ sim-answer n (ask t) b h e = refl
 
 -- an accepted message that does not name n is of another name
 pub unnamed : (right : Layout → Bool) (unit : List ℕ) (r : Record) (x : ℕ) (t : Bool) → ladder (isValid r) (right (r .layout)) (same (unitOf r) unit) x ≡ 0
-    → isFor right unit r && t ≡ false → t ≡ false
+    → fitFor right unit r && t ≡ false → t ≡ false
 unnamed right unit r x t a h = rw (fit right unit r x a .0) at h
 
 sim-effect : (n : Name) (k : Call) (b : Ledger) → Ascending number (b .orders) → names n (b .unit) k ≡ false → answer k b ≡ 0

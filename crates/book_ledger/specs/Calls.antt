@@ -19,21 +19,21 @@ pub data Call : Type 0 where
   ask : ℕ → Call
 
 -- the number of the first condition that holds: 0 where none does
-abbrev pub firstOf : List (Bool × ℕ) → ℕ
-firstOf [] = 0
-firstOf (r ∷ rs) = cond (r .0) (r .1) (firstOf rs)
+abbrev pub firstHolding : List (Bool × ℕ) → ℕ
+firstHolding [] = 0
+firstHolding (r ∷ rs) = cond (r .0) (r .1) (firstHolding rs)
 
 -- 12 the record is invalid, 29 its layout is not one of the call's, 21 it is for another unit; then what follows in the call's list
 abbrev pub unfit : (Layout → Bool) → List ℕ → Record → List (Bool × ℕ) → List (Bool × ℕ)
 unfit right unit r rest = (not (isValid r), 12) ∷ (not (right (r .layout)), 29) ∷ (not (same (unitOf r) unit), 21) ∷ rest
 
 -- a message that a book for the unit does not refuse for itself
-abbrev pub isFor : (Layout → Bool) → List ℕ → Record → Bool
-isFor right unit r = isValid r && (right (r .layout) && same (unitOf r) unit)
+abbrev pub fitFor : (Layout → Bool) → List ℕ → Record → Bool
+fitFor right unit r = isValid r && (right (r .layout) && same (unitOf r) unit)
 
 -- whether a call on a book for the unit names an order by this name. (A message refused for itself names none)
 abbrev pub names : Name → List ℕ → Call → Bool
-names n unit (command r) = isFor isCommand unit r && sameName (nameOf (orderOf r)) n
-names n unit (revoke r) = isFor isRevocation unit r && sameName (strikeOf r .name) n
+names n unit (command r) = fitFor isCommand unit r && sameName (nameOf (orderOf r)) n
+names n unit (revoke r) = fitFor isRevocation unit r && sameName (strikeOf r .name) n
 names n unit (close t) = false
 names n unit (ask t) = false

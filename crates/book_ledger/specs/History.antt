@@ -28,9 +28,9 @@ strikeBy (close t) o = o
 strikeBy (ask t) o = o
 
 -- an order after the calls that followed its command
-abbrev pub marked : List Call → Order → Order
-marked [] o = o
-marked (k ∷ h) o = marked h (strikeBy k o)
+abbrev pub markedBy : List Call → Order → Order
+markedBy [] o = o
+markedBy (k ∷ h) o = markedBy h (strikeBy k o)
 
 -- the order that a call brings
 abbrev pub brings : Call → List Order
@@ -42,7 +42,7 @@ brings (ask t) = []
 -- every order that a command brought, as the calls after it left it
 abbrev pub takings : List Call → List Order
 takings [] = []
-takings (k ∷ h) = map (marked h) (brings k) ++ takings h
+takings (k ∷ h) = map (markedBy h) (brings k) ++ takings h
 
 -- THE DEFINITION: those of them that no close has reached
 abbrev pub heldBy : List Call → List Order

@@ -1,7 +1,7 @@
 -- The book as document 01 has it: its unit, its floor and the held orders by ascending number; each call's answer, and what it does.
 use Prim.Native.Nat.{ℕ}
 use Rattle.book_lists.specs.Keyed.{keep, insert, greatest}
-use Rattle.book_ledger.specs.Calls.{Call, command, revoke, close, ask, firstOf, unfit}
+use Rattle.book_ledger.specs.Calls.{Call, command, revoke, close, ask, firstHolding, unfit}
 use Rattle.book_ledger.specs.Keepers.{Keeper, run as runOf, answers as answersOf, accepted as acceptedOf}
 use Rattle.book_order.specs.Messages.{isCommand, isRevocation, orderOf, strikeOf}
 use Rattle.book_order.specs.Orders.{number, nameOf, named, live, pastEnd, strikeAt, already}
@@ -27,18 +27,18 @@ fresh unit = record { unit = unit; floor = 0; orders = [] }
 -- close: 27 below the floor; in force: 28 below the floor
 abbrev pub answer : Call → Ledger → ℕ
 answer (command r) b =
-    firstOf (unfit isCommand (b .unit) r
+    firstHolding (unfit isCommand (b .unit) r
     ((leb (orderOf r .end) (b .floor), 23)
     ∷ (any (named (nameOf (orderOf r))) (b .orders), 22)
     ∷ (leb 96 (length (b .orders)), 24)
     ∷ []))
 answer (revoke r) b =
-    firstOf (unfit isRevocation (b .unit) r
+    firstHolding (unfit isRevocation (b .unit) r
     ((not (any (named (strikeOf r .name)) (b .orders)), 25)
     ∷ (any (already (strikeOf r)) (b .orders), 26)
     ∷ []))
-answer (close t) b = firstOf ((ltb t (b .floor), 27) ∷ [])
-answer (ask t) b = firstOf ((ltb t (b .floor), 28) ∷ [])
+answer (close t) b = firstHolding ((ltb t (b .floor), 27) ∷ [])
+answer (ask t) b = firstHolding ((ltb t (b .floor), 28) ∷ [])
 
 -- what an accepted call does: the order is held; it is struck; the floor is t and orders with end ≤ t go; nothing
 abbrev pub effect : Call → Ledger → Ledger

@@ -1,7 +1,7 @@
 -- The order that a record brings, from what is told of the record in brief. Assumes nothing.
 use Prim.Native.Nat.{ℕ, _≤_}
 use Rattle.value_ask.specs.Values.{instantIn}
-use Rattle.report_brief.specs.Brief.{numberOf, startOf, endOf, toldOf, briefOf}
+use Rattle.report_brief.specs.Brief.{messageNumber, startOf, endOf, toldOf, briefOf}
 use Rattle.report_brief.specs.declared.Brief.{Brief}
 use Rattle.book_order.specs.Messages.{firstVariation, secondVariation, orderOf}
 use Rattle.record.specs.declared.Record.{Record}
@@ -32,5 +32,5 @@ module _ (r : Record) (told : Brief) (e : told ≡ briefOf r) where
         second = toZ w32 (ofZ w32 second);
         struck = false;
       } ≡ orderOf r
-  unfolding briefOf toldOf numberOf orderOf
+  unfolding briefOf toldOf messageNumber orderOf
   order-is start end first second f g s t v w = rw (toZ-ofZ w32 first f, toZ-ofZ w32 second g, s, t, v, w, e)

@@ -1,7 +1,7 @@
 -- What the book takes of a message. Document 01, "The book of commands": a held order has number, layout, start, end (mFRR: TINI1, TFIN2), variations
 -- (mFRR: its one, then 0) and whether it is struck; a revocation names a number.
 use Rattle.value_ask.specs.Values.{instantIn, amountIn, countIn}
-use Rattle.report_brief.specs.Brief.{numberOf, startOf, endOf}
+use Rattle.report_brief.specs.Brief.{messageNumber, startOf, endOf}
 use Rattle.layout.specs.declared.Layout.{Layout}
 use Rattle.layout.specs.declared.Layout.the-variants.{Market, Mfrr, Revocation, Generic, Exclusion, Limitation, Secondary, VoltVar, Rejection, Reserve}
 use Rattle.book_order.specs.Orders.{Strike}
@@ -69,7 +69,7 @@ secondVariation Reserve cells = pos 0
 unfoldable pub orderOf : Record → Order
 orderOf r =
     record {
-      number = numberOf r;
+      number = messageNumber r;
       layout = r .layout;
       start = instantIn (startOf r);
       end = instantIn (endOf r);

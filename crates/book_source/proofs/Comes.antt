@@ -1,7 +1,7 @@
 -- The order of a valid command passes the test, so its instants fit 32 bits. Assumes nothing.
 use Prim.Native.Nat.{ℕ, _-_, _≤_}
 use Rattle.value_ask.specs.Values.{instantIn, amountIn}
-use Rattle.report_brief.specs.Brief.{numberOf, startOf, endField, endOf}
+use Rattle.report_brief.specs.Brief.{messageNumber, startOf, endField, endOf}
 use Rattle.book_source.proofs.Bounds.{by-command, market-tells, mfrr-tells, Bounds, come-tells}
 use Rattle.book_source.proofs.Fields.{number-in, date-in, amount-in}
 use Rattle.book_source.proofs.Places.{number-at, start-at, end-at, market-amounts, mfrr-amount}
@@ -62,7 +62,7 @@ module _ (r : Record) where
       (amount-in (of Mfrr) w mfrr-amount, mfrr-tells (instant 6 - instant 3) (pos 0) .1 (omega arith, refl))
 
   in-bounds : Valid r → isCommand (r .layout) ≡ true → Bounds (orderOf r)
-  unfolding orderOf numberOf endOf
+  unfolding orderOf messageNumber endOf
   in-bounds w c =
       let starts = date-in r w (start-at (r .layout) c) in
       let ends = date-in r w (end-at (r .layout) c) in

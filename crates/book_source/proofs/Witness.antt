@@ -1,6 +1,6 @@
 -- For an order that passes the test, a valid command that gives it: for mFRR, one whose first ramp lasts a second. Assumes nothing.
 use Prim.Native.Nat.{ℕ, _+_, _-_, _<_}
-use Rattle.report_brief.specs.Brief.{numberOf, endOf}
+use Rattle.report_brief.specs.Brief.{messageNumber, endOf}
 use Rattle.value_date.specs.Date.{isReal, instantOf}
 use Rattle.book_source.proofs.Bounds.{by-command, fits-command, market-tells, mfrr-tells, Bounds, come-tells}
 use Rattle.book_source.proofs.Commands.{marketCommand, mfrrCommand, market-valid, mfrr-valid}
@@ -51,7 +51,7 @@ module _ (o : Order) (b : Bounds o) where
       }
 
   market-given : Fit Market → Given (of Market)
-  unfolding orderOf numberOf endOf cellsOf fieldOf
+  unfolding orderOf messageNumber endOf cellsOf fieldOf
   market-given f =
       let p = market-tells (o .end - o .start) (o .second) .0 f in
       let made = marketCommand (o .number) (from .date) (to .date) (o .first) (o .second) in
@@ -72,7 +72,7 @@ module _ (o : Order) (b : Bounds o) where
       }
 
   mfrr-given : Fit Mfrr → Given (of Mfrr)
-  unfolding orderOf numberOf endOf cellsOf fieldOf
+  unfolding orderOf messageNumber endOf cellsOf fieldOf
   mfrr-given f =
       let p = mfrr-tells (o .end - o .start) (o .second) .0 f in
       let up = reached (o .start + 1) (omega (arith, b .start-from)) (omega (arith, b .end-to, p .0)) in

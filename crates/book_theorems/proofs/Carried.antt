@@ -1,6 +1,6 @@
 -- A book and the ledger that it carries, call by call and over whole runs. Assumes nothing.
 use Prim.Native.Nat.{ℕ, _≤_}
-use Rattle.book.specs.Answers.{codeOf, nextOf, found, askedOf}
+use Rattle.book.specs.Answers.{callNumber, nextOf, found, askedOf}
 use Rattle.book.specs.Places.{bookOf, formedBook}
 use Rattle.book.specs.declared.Book.{Book}
 use Rattle.book_ledger.specs.Calls.{Call}
@@ -28,8 +28,8 @@ module _ {s : Book} {b : Ledger} (c : Carries s b) where
   unfolding bookOf
   same-floor = ap (λ (x : Book). x .floor) (c .is-book)
 
-  pub same-code : (k : Call) → codeOf k s ≡ answer k b
-  same-code k = ap (codeOf k) (c .is-book) ∙ lift-code b (c .fits) k
+  pub same-code : (k : Call) → callNumber k s ≡ answer k b
+  same-code k = ap (callNumber k) (c .is-book) ∙ lift-code b (c .fits) k
 
   pub carries-step : (k : Call) → Carries (nextOf k s) (step k b)
   carries-step k = record { is-book = ap (nextOf k) (c .is-book) ∙ lift-next b (c .fits) k; fits = fits-step k b (c .fits) }

@@ -7,7 +7,7 @@ use Rattle.book_lists.proofs.Keeping.{length-keep}
 use Rattle.book_lists.proofs.Sorting.{length-insert}
 use Rattle.book_lists.specs.Keyed.{keep, insert}
 use Rattle.book_ledger.proofs.Strikes.{strike-key, strike-end, takes, step-keeps}
-use Rattle.book_ledger.specs.Calls.{Call, command, revoke, close, ask, isFor}
+use Rattle.book_ledger.specs.Calls.{Call, command, revoke, close, ask, fitFor}
 use Rattle.book_ledger.specs.Ledger.{Ledger, fresh, answer, effect, step}
 use Rattle.value_name.specs.Names.{isUnit}
 use Rattle.book_order.specs.Messages.{isCommand, orderOf, strikeOf}
@@ -37,7 +37,7 @@ unfolding couldCome
 strike-comes s o = by-test (named (s .name) o) (λ e. rw e) (λ e. rw e)
 
 -- a command that is not refused for itself brings one that could come
-brought : (r : Record) (unit : List ℕ) → isFor isCommand unit r ≡ true → couldCome (orderOf r) ≡ true
+brought : (r : Record) (unit : List ℕ) → fitFor isCommand unit r ≡ true → couldCome (orderOf r) ≡ true
 brought r unit e =
     let p = and-parts (isValid r) _ e in
     comes r (p .0) (and-parts (isCommand (r .layout)) _ (p .1) .0)

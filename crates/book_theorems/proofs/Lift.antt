@@ -1,7 +1,7 @@
 -- The book that holds a fitting ledger is not malformed, and its calls are the ledger's. Assumes nothing.
 use Prim.Native.Nat.{ℕ, zero, suc, _-_, _≤_}
 use Rattle.book.proofs.Leading.{fits-past, fits-filled, empty-dropped}
-use Rattle.book.specs.Answers.{codeOf, nextOf, found, askedOf}
+use Rattle.book.specs.Answers.{callNumber, nextOf, found, askedOf}
 use Rattle.book.specs.Places.{bookOf, shelf, formedFrom, formedUnit, formedBook}
 use Rattle.book_lists.specs.Keyed.{keep}
 use Rattle.book_ledger.specs.Calls.{Call, ask}
@@ -81,8 +81,8 @@ module _ (b : Ledger) (g : Fits b) where
     filled-up 16 0 (b .unit) (leb-true (length (b .unit)) 16 (unit-short (b .unit) (g .unit-good))),
   )
 
-  pub lift-code : (k : Call) → codeOf k (bookOf b) ≡ answer k b
-  unfolding codeOf
+  pub lift-code : (k : Call) → callNumber k (bookOf b) ≡ answer k b
+  unfolding callNumber
   lift-code k = rw formed (ap (answer k) shelved)
 
   pub lift-next : (k : Call) → nextOf k (bookOf b) ≡ bookOf (step k b)

@@ -1,7 +1,7 @@
 -- Demand 3 of the book with its 96 places: the ledger's theorems, carried over. Assumes nothing.
 use Prim.Native.Nat.{ℕ, zero, suc}
 use Rattle.book.proofs.Formed.{shelf-book}
-use Rattle.book.specs.Answers.{codeOf, nextOf, freshOf, found, askedAs, refusalIn, askedOf}
+use Rattle.book.specs.Answers.{callNumber, nextOf, freshOf, found, askedAs, refusalIn, askedOf}
 use Rattle.book.specs.Places.{shelf, zeroBook, formedUnit, formedBook}
 use Rattle.book.specs.declared.Book.{Book}
 use Rattle.book_ledger.proofs.Agreement.{same-answer, same-in-force}
@@ -63,12 +63,12 @@ module _ (unit : List ℕ) (bad : isUnit unit ≡ false) where
   bad-run [] = refl
   bad-run (k ∷ ks) = ap (run books ks) (bad-step k) ∙ bad-run ks
 
-  bad-code : (k : Call) → codeOf k (bookFor unit) ≡ 20
-  unfolding codeOf
+  bad-code : (k : Call) → callNumber k (bookFor unit) ≡ 20
+  unfolding callNumber
   bad-code k = rw bad-malformed
 
-  pub unkept : (ks : List Call) (k : Call) → (codeOf k (run books ks (bookFor unit)) ≡ 20) × (run books ks (bookFor unit) ≡ bookFor unit)
-  unkept ks k = (ap (codeOf k) (bad-run ks) ∙ bad-code k, bad-run ks)
+  pub unkept : (ks : List Call) (k : Call) → (callNumber k (run books ks (bookFor unit)) ≡ 20) × (run books ks (bookFor unit) ≡ bookFor unit)
+  unkept ks k = (ap (callNumber k) (bad-run ks) ∙ bad-code k, bad-run ks)
 
 -- ---- the question is refused as its list says, with the detail 0, whatever the book
 
@@ -80,9 +80,9 @@ asked-none : (c n : ℕ) → refusalIn (askedAs c n) ≡ (c, 0)
 asked-none zero n = found-none n
 asked-none (suc c) n = refl
 
-pub asked-refusal : (t : ℕ) (b : Book) → refusalIn (askedOf t b .answer) ≡ (codeOf (ask t) b, 0)
+pub asked-refusal : (t : ℕ) (b : Book) → refusalIn (askedOf t b .answer) ≡ (callNumber (ask t) b, 0)
 unfolding askedOf
-asked-refusal t b = asked-none (codeOf (ask t) b) (inForce t (shelf b))
+asked-refusal t b = asked-none (callNumber (ask t) b) (inForce t (shelf b))
 
 -- ---- the second half: a command that was taken and later revoked may be left out, with its revocation
 
@@ -145,8 +145,8 @@ module _ (unit : List ℕ) (before between after : List Call) (c v : Record) whe
 
 -- ---- a refused call hands the same book back
 
-pub refused-same : (k : Call) (b : Book) → (codeOf k b ≡ 0 → ⊥) → length (b .orders) ≡ 96 → length (b .unit) ≡ 16 → nextOf k b ≡ b
-unfolding codeOf nextOf
+pub refused-same : (k : Call) (b : Book) → (callNumber k b ≡ 0 → ⊥) → length (b .orders) ≡ 96 → length (b .unit) ≡ 16 → nextOf k b ≡ b
+unfolding callNumber nextOf
 refused-same k b refused h u =
     by-test (formedBook b)
     (λ e. rw (e, ne-eqb (answer k (shelf b)) 0 (rw e at refused)) (sym (shelf-book b h u e)))

@@ -1,6 +1,6 @@
 -- Demand 3 of the book with its 96 places, from a fresh book for a unit and after any calls.
 use Prim.Native.Nat.{ℕ, _≤_}
-use Rattle.book.specs.Answers.{codeOf, nextOf, freshOf, found, askedOf}
+use Rattle.book.specs.Answers.{callNumber, nextOf, freshOf, found, askedOf}
 use Rattle.book.specs.Places.{formedBook}
 use Rattle.book.specs.declared.Book.{Book}
 use Rattle.book.specs.declared.InForce.{InForce}
@@ -17,7 +17,7 @@ abbrev pub books : Keeper
 books =
     record {
       State = Book;
-      answer = codeOf;
+      answer = callNumber;
       step = nextOf;
       floor = λ (b : Book). b .floor;
       Found = InForce;
@@ -40,5 +40,5 @@ module _ (unit : List ℕ) (ks : List Call) where
   -- yet closed
   pub record Kept : Type 0 where
     pub formed : formedBook after ≡ true
-    pub answers-so : (k : Call) → codeOf k after ≡ answer k (ledgerOf unit history)
+    pub answers-so : (k : Call) → callNumber k after ≡ answer k (ledgerOf unit history)
     pub in-force-so : (t : ℕ) → after .floor ≤ t → askedOf t after .answer ≡ found (inForce t (ledgerOf unit history))

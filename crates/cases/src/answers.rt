@@ -103,9 +103,9 @@ fn say_record(r: Record) {
 fn say_answer(a: Answer) {
     let number = a.number;
     if number == 0 {
-        let body = a.body;
+        let content = a.content;
         say_ok();
-        say_record(body);
+        say_record(content);
         return;
     }
     say_refusal(number, a.detail);

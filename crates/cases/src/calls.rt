@@ -79,8 +79,8 @@ fn give_answer(b: Book, act: Act, read: Answer) -> Book {
     if read.number != 0 {
         return unread(b);
     }
-    let body = read.body;
-    give_record(b, act, body)
+    let content = read.content;
+    give_record(b, act, content)
 }
 
 fn give_read(b: Book, act: Act, plan: &[u8; 64], n: usize, file: &[u8]) -> Book {

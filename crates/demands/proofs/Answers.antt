@@ -3,11 +3,11 @@ use Prim.Native.Nat.{ℕ, _+_, _≤_, _<_}
 use Rattle.report_brief.proofs.Sizes.{six-length}
 use Rattle.report_brief.specs.Brief.{sixLines}
 use Rattle.demands.specs.Demand1.{isReaders, Leaves}
-use Rattle.gateway.specs.Entry.{lengthOr11, codeOf, outOf}
+use Rattle.gateway.specs.Entry.{lengthOr11, entryCode, outOf}
 use Rattle.plan.specs.Plans.{planOf, soughtOf}
 use Rattle.reader.proofs.Firsts.{given-first, numbers}
-use Rattle.reader.specs.Refusals.{Given}
-use Rattle.reader.specs.Reader.{valued, labelled, reading, bodyIn, planned, answerAt, readOf}
+use Rattle.reader.specs.Refusals.{IsFirst}
+use Rattle.reader.specs.Reader.{valued, labelled, reading, recordIn, planned, answerAt, readOf}
 use Rattle.reader.specs.Refusals.{Refusal, answer}
 use Rattle.reader.specs.declared.Answer.{Answer}
 use Rattle.reader_theorems.proofs.Validity.{read-valid}
@@ -45,17 +45,17 @@ pub readers-number : (ca ioa : ℕ) (plan file : List ℕ) → isReaders (readOf
 unfolding readOf answerAt planned reading labelled valued all
 readers-number ca ioa plan file =
     let s = soughtOf ca ioa (planOf plan) in
-    number-of isReaders (planned s file) (bodyIn (s .kind) file) refl refl
+    number-of isReaders (planned s file) (recordIn (s .message) file) refl refl
 
 module _ (ca ioa : ℕ) (plan file : List ℕ) (refused : readOf ca ioa plan file .number ≡ 0 → ⊥) where
-  pub refused-first : Given (planned (soughtOf ca ioa (planOf plan)) file) (readOf ca ioa plan file)
+  pub refused-first : IsFirst (planned (soughtOf ca ioa (planOf plan)) file) (readOf ca ioa plan file)
   unfolding readOf answerAt
   refused-first =
       let s = soughtOf ca ioa (planOf plan) in
-      given-first (planned s file) (bodyIn (s .kind) file) (numbers s file) refused
+      given-first (planned s file) (recordIn (s .message) file) (numbers s file) refused
 
-  pub refused-file : readOf ca ioa plan file .body ≡ zeroRecord
-  refused-file = ap (λ (a : Answer). a .body) (refused-first .says)
+  pub refused-file : readOf ca ioa plan file .content ≡ zeroRecord
+  refused-file = ap (λ (a : Answer). a .content) (refused-first .says)
 
 -- ---- an output in which a text has no room
 
@@ -78,7 +78,7 @@ refused-write r out n d h = by-test (isValid r) (λ e. rw e (unfit-left (fileOf 
 
 pub left-normal : (a : Answer) (out : List ℕ) (n d : ℕ) → normaliseOf a (length out) ≡ Refused n d → normalLeft a out ≡ out
 unfolding normaliseOf normalLeft
-left-normal a out n d h = by-test (eqb (a .number) 0) (λ e. rw e (unfit-left (fileOf (a .body)) out n d (rw e at h))) (λ e. rw e)
+left-normal a out n d h = by-test (eqb (a .number) 0) (λ e. rw e (unfit-left (fileOf (a .content)) out n d (rw e at h))) (λ e. rw e)
 
 -- ---- the entries: a length that is written is small, so that no success looks like a refusal
 
@@ -91,11 +91,11 @@ module _ (text : Record → List ℕ) (small : (r : Record) → Valid r → leng
       (λ e. no-room t out (leb-false (length t) (length out) e))
 
   pub reader-line-leaves : Leaves text
-  unfolding codeOf outOf
+  unfolding entryCode outOf
   entry-leaves ca ioa plan file out h =
       let a = readOf ca ioa plan file in
       by-test (eqb (a .number) 0)
-      (λ e. rw e (small-left (text (a .body)) out (small (a .body) (read-valid ca ioa plan file (eqb-true (a .number) 0 e))) (rw e at h)))
+      (λ e. rw e (small-left (text (a .content)) out (small (a .content) (read-valid ca ioa plan file (eqb-true (a .number) 0 e))) (rw e at h)))
       (λ e. rw e)
 
 unit-sized : (r : Record) → Valid r → length (r .unit) ≡ 16

@@ -49,7 +49,7 @@ demand-2 =
       ordered-alike = ordered;
       spaced-alike = λ ca ioa plan f g cf cg lines.
           let s = address ca ioa plan in
-          at-same s f g (texts-decide (s .kind) (unitIn s) f g lines cf cg);
+          at-same s f g (texts-decide (s .message) (unitIn s) f g lines cf cg);
       reader-row-agrees = λ ca ioa plan file h. read-accepted ca ioa plan file h .row-is;
       comes-back = λ r ca ioa plan v own. round-trip r v ca ioa plan own;
       written = λ r out v room. (written-length r out v room, written-bytes r out v room);

@@ -7,7 +7,7 @@ use Rattle.value_name.specs.declared.MessageType.{MessageType}
 use Rattle.plan.specs.declared.Sought.{Sought}
 use Rattle.reader.proofs.Firsts.{NoneHolds, none, next, none-given, accepted-none, numbers}
 use Rattle.reader.specs.Messages.{given, rowIn, entriesIn}
-use Rattle.reader.specs.Reader.{Sound, bodyIn, messageOf, unitIn, planned, answerAt, readOf}
+use Rattle.reader.specs.Reader.{Sound, recordIn, messageOf, unitIn, planned, answerAt, readOf}
 use Rattle.reader.specs.Refusals.{Refusal, refused, answer}
 use Rattle.reader.specs.declared.Answer.{Answer}
 use Rattle.reader_theorems.proofs.Agreed.{Accepted, accepted}
@@ -50,32 +50,32 @@ module _ (ca ioa : ℕ) (plan file : List ℕ) where
   unfolding readOf answerAt
   no-refusal h =
       let s = address ca ioa plan in
-      accepted-none (planned s file) (bodyIn (s .kind) file) (numbers s file) h
+      accepted-none (planned s file) (recordIn (s .message) file) (numbers s file) h
 
   pub accepted-exactly : readOf ca ioa plan file .number ≡ 0 ↔ any (λ (r : Refusal). r .holds) (planned (address ca ioa plan) file) ≡ false
   unfolding readOf answerAt
   accepted-exactly = (
     λ h. none-any (no-refusal h),
-    λ e. ap (λ (a : Answer). a .number) (none-given (bodyIn (address ca ioa plan .kind) file) (any-none (planned (address ca ioa plan) file) e)),
+    λ e. ap (λ (a : Answer). a .number) (none-given (recordIn (address ca ioa plan .message) file) (any-none (planned (address ca ioa plan) file) e)),
   )
 
-  pub its-record : readOf ca ioa plan file .number ≡ 0 → readOf ca ioa plan file .body ≡ bodyIn (address ca ioa plan .kind) file
+  pub its-record : readOf ca ioa plan file .number ≡ 0 → readOf ca ioa plan file .content ≡ recordIn (address ca ioa plan .message) file
   unfolding readOf answerAt
-  its-record h = ap (λ (a : Answer). a .body) (none-given (bodyIn (address ca ioa plan .kind) file) (no-refusal h))
+  its-record h = ap (λ (a : Answer). a .content) (none-given (recordIn (address ca ioa plan .message) file) (no-refusal h))
 
 -- ---- what is so of a message is so at an address
 
 -- where the address is refused both answers are that refusal
-pub at-same : (s : Sought) (f g : List ℕ) → messageOf (s .kind) (unitIn s) f ≡ messageOf (s .kind) (unitIn s) g → answerAt s f ≡ answerAt s g
+pub at-same : (s : Sought) (f g : List ℕ) → messageOf (s .message) (unitIn s) f ≡ messageOf (s .message) (unitIn s) g → answerAt s f ≡ answerAt s g
 unfolding answerAt planned messageOf answer
 at-same s f g e = ap (λ (a : Answer). cond (eqb (s .number) 13) (refused 13 (s .detail)) (cond (eqb (s .number) 1) (refused 1 0) a)) e
 
-accepted-at : (s : Sought) (file : List ℕ) → answerAt s file .number ≡ 0 → NoneHolds (planned s file) → Accepted (s .kind) (unitIn s) file
+accepted-at : (s : Sought) (file : List ℕ) → answerAt s file .number ≡ 0 → NoneHolds (planned s file) → Accepted (s .message) (unitIn s) file
 unfolding planned
-accepted-at s file h (next e (next d n)) = accepted (s .kind) (unitIn s) file (sym (ap (λ (a : Answer). a .number) (planned-back s file e d)) ∙ h)
+accepted-at s file h (next e (next d n)) = accepted (s .message) (unitIn s) file (sym (ap (λ (a : Answer). a .number) (planned-back s file e d)) ∙ h)
 
 -- what acceptance says of a file at an address
-pub read-accepted : (ca ioa : ℕ) (plan file : List ℕ) → readOf ca ioa plan file .number ≡ 0 → Accepted (address ca ioa plan .kind) (unitIn (address ca ioa plan)) file
+pub read-accepted : (ca ioa : ℕ) (plan file : List ℕ) → readOf ca ioa plan file .number ≡ 0 → Accepted (address ca ioa plan .message) (unitIn (address ca ioa plan)) file
 unfolding readOf
 read-accepted ca ioa plan file h = accepted-at (address ca ioa plan) file h (no-refusal ca ioa plan file h)
 
@@ -87,12 +87,12 @@ sound-of a = record { some-bytes = a .some-bytes; not-long = a .not-long; clean 
 pub ordered : (ca ioa : ℕ) (plan f g : List ℕ) → Sound f → Sound g
     → rowIn f ≡ rowIn g
     → Perm (given f) (given g)
-    → again [] (entriesIn (address ca ioa plan .kind) f) ≡ nothing
+    → again [] (entriesIn (address ca ioa plan .message) f) ≡ nothing
     → readOf ca ioa plan f ≡ readOf ca ioa plan g
 unfolding readOf
 ordered ca ioa plan f g sf sg row lines once =
     let s = address ca ioa plan in
-    at-same s f g (reordered (s .kind) (unitIn s) f g sf sg row lines once)
+    at-same s f g (reordered (s .message) (unitIn s) f g sf sg row lines once)
 
 pub however : (ca ioa : ℕ) (plan f g : List ℕ)
     → readOf ca ioa plan f .number ≡ 0

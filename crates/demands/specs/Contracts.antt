@@ -8,7 +8,7 @@ use Rattle.book.specs.declared.Book.{Book}
 use Rattle.book.specs.declared.Outcome.{Outcome}
 use Rattle.report_brief.specs.Brief.{sixLines}
 use Rattle.gateway.proofs as gateway
-use Rattle.gateway.specs.Entry.{codeOf, outOf}
+use Rattle.gateway.specs.Entry.{entryCode, outOf}
 use Rattle.book_ledger.specs.Calls.{command, revoke, close}
 use Rattle.reader.proofs as reader
 use Rattle.reader.specs.Reader.{readOf}
@@ -37,10 +37,10 @@ to ca ioa plan file = readOf ca ioa (plan .now) (file .now)
 pub record Contracts : Type 0 where
   pub halimpung-read : (κs : _) (ca ioa : ℕ) (plan file out : Slice) (z : ℕ) (e : _)
       → gateway.halimpung_read.Reads.Learnt κs (ca, (ioa, (plan, (file, (out, tt))))) z e
-      → (z ≡ codeOf sixLines (to ca ioa plan file) (length (out .now))) × (e .1 .1 .1 .1 .0 .now ≡ outOf sixLines (to ca ioa plan file) (out .now))
+      → (z ≡ entryCode sixLines (to ca ioa plan file) (length (out .now))) × (e .1 .1 .1 .1 .0 .now ≡ outOf sixLines (to ca ioa plan file) (out .now))
   pub halimpung-normalise : (κs : _) (ca ioa : ℕ) (plan file out : Slice) (z : ℕ) (e : _)
       → gateway.halimpung_normalise.Reads.Learnt κs (ca, (ioa, (plan, (file, (out, tt))))) z e
-      → (z ≡ codeOf fileOf (to ca ioa plan file) (length (out .now))) × (e .1 .1 .1 .1 .0 .now ≡ outOf fileOf (to ca ioa plan file) (out .now))
+      → (z ≡ entryCode fileOf (to ca ioa plan file) (length (out .now))) × (e .1 .1 .1 .1 .0 .now ≡ outOf fileOf (to ca ioa plan file) (out .now))
   pub read : (κs : _) (ca ioa : ℕ) (plan file : Slice) (z : Answer) (e : _)
       → reader.read.Reads.Learnt κs (ca, (ioa, (plan, (file, tt)))) z e
       → z ≡ to ca ioa plan file

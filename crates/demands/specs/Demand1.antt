@@ -1,4 +1,4 @@
--- Demand 1, sentence by sentence, over the definitions that the contracts name. (`Given`, a refusal that is the first of a list to hold, is in
+-- Demand 1, sentence by sentence, over the definitions that the contracts name. (`IsFirst`, a refusal that is the first of a list to hold, is in
 -- reader/proofs/Firsts.antt)
 use Prim.Native.Nat.{ℕ, _≤_, _<_}
 use Rattle.book.specs.Answers.{outcomeOf, askedOf}
@@ -6,10 +6,10 @@ use Rattle.book.specs.declared.Book.{Book}
 use Rattle.report_brief.specs.Brief.{sixLines}
 use Rattle.demands.specs.Calls.{Calls, Meets}
 use Rattle.demands.specs.Contracts.{Contracts}
-use Rattle.gateway.specs.Entry.{codeOf, outOf}
+use Rattle.gateway.specs.Entry.{entryCode, outOf}
 use Rattle.book_ledger.specs.Calls.{Call}
 use Rattle.plan.specs.Plans.{planOf, soughtOf}
-use Rattle.reader.specs.Refusals.{Given}
+use Rattle.reader.specs.Refusals.{IsFirst}
 use Rattle.reader.specs.Reader.{planned, readOf}
 use Rattle.record.specs.Records.{zeroRecord}
 use Rattle.record.specs.declared.Record.{Record}
@@ -29,7 +29,7 @@ isReaders n = eqb n 13 || leb n 10
 -- an entry for C that writes this text of a record leaves the output as it was, where its answer is a refusal: 65,536 or more
 abbrev pub Leaves : (Record → List ℕ) → Type 0
 Leaves text =
-    (ca ioa : ℕ) (plan file out : List ℕ) → 65536 ≤ codeOf text (readOf ca ioa plan file) (length out) → outOf text (readOf ca ioa plan file) out ≡ out
+    (ca ioa : ℕ) (plan file out : List ℕ) → 65536 ≤ entryCode text (readOf ca ioa plan file) (length out) → outOf text (readOf ca ioa plan file) out ≡ out
 
 pub record Demand1 : Type 2 where
   -- "Every file, address, record and book put to us gets an answer": the code of each call meets its contract, and the contract says which answer
@@ -40,10 +40,10 @@ pub record Demand1 : Type 2 where
   -- the reader's answer has the number 0, or one of its list with a detail of 16 bits
   pub answered : (ca ioa : ℕ) (plan file : List ℕ) → (isReaders (readOf ca ioa plan file .number) ≡ true) × (readOf ca ioa plan file .detail < 65536)
   -- "A refused file yields one number and its detail and no record." The number and the detail are those of the first refusal of the list that holds
-  pub refused-file : (ca ioa : ℕ) (plan file : List ℕ) → (readOf ca ioa plan file .number ≡ 0 → ⊥) → readOf ca ioa plan file .body ≡ zeroRecord
+  pub refused-file : (ca ioa : ℕ) (plan file : List ℕ) → (readOf ca ioa plan file .number ≡ 0 → ⊥) → readOf ca ioa plan file .content ≡ zeroRecord
   pub refused-first : (ca ioa : ℕ) (plan file : List ℕ)
       → (readOf ca ioa plan file .number ≡ 0 → ⊥)
-      → Given (planned (soughtOf ca ioa (planOf plan)) file) (readOf ca ioa plan file)
+      → IsFirst (planned (soughtOf ca ioa (planOf plan)) file) (readOf ca ioa plan file)
   -- "A refused write leaves the output buffer as the caller lent it." The writer, the normaliser, and the two entries
   pub refused-write : (r : Record) (out : List ℕ) (n d : ℕ) → writeOf r (length out) ≡ Refused n d → leftBy r out ≡ out
   pub refused-normalise : (ca ioa : ℕ) (plan file out : List ℕ) (n d : ℕ)

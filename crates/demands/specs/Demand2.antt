@@ -8,7 +8,7 @@ use Rattle.text_lines.specs.Lines.{texts}
 use Rattle.plan.specs.Plans.{planOf, soughtOf}
 use Rattle.plan.specs.declared.Sought.{Sought}
 use Rattle.reader.specs.Messages.{given, rowIn, layoutIn, entriesIn}
-use Rattle.reader.specs.Reader.{Clean, Sound, bodyColumn, bodyIn, planned, readOf}
+use Rattle.reader.specs.Reader.{Clean, Sound, bodyColumn, recordIn, planned, readOf}
 use Rattle.reader.specs.Refusals.{Refusal, accepted}
 use Rattle.record.specs.declared.Record.{Record}
 use Rattle.writer_theorems.specs.Own.{OwnAddress}
@@ -25,7 +25,7 @@ use mathlib.Core.Logic.{_↔_}
 use mathlib.Core.Option.{none}
 use mathlib.Core.Path.{_≡_}
 
--- what a plan gives to an address: its type is the `kind`
+-- what a plan gives to an address: its type is the `message`
 abbrev pub address : ℕ → ℕ → List ℕ → Sought
 address ca ioa plan = soughtOf ca ioa (planOf plan)
 
@@ -34,8 +34,8 @@ pub record Demand2 : Type 0 where
   pub accepted-exactly : (ca ioa : ℕ) (plan file : List ℕ)
       → readOf ca ioa plan file .number ≡ 0 ↔ any (λ (r : Refusal). r .holds) (planned (address ca ioa plan) file) ≡ false
   -- "and its record is the one that text gives", and a valid one
-  pub its-record : (ca ioa : ℕ) (plan file : List ℕ) → readOf ca ioa plan file .number ≡ 0 → readOf ca ioa plan file .body ≡ bodyIn (address ca ioa plan .kind) file
-  pub its-validity : (ca ioa : ℕ) (plan file : List ℕ) → readOf ca ioa plan file .number ≡ 0 → Valid (readOf ca ioa plan file .body)
+  pub its-record : (ca ioa : ℕ) (plan file : List ℕ) → readOf ca ioa plan file .number ≡ 0 → readOf ca ioa plan file .content ≡ recordIn (address ca ioa plan .message) file
+  pub its-validity : (ca ioa : ℕ) (plan file : List ℕ) → readOf ca ioa plan file .number ≡ 0 → Valid (readOf ca ioa plan file .content)
   -- "however its lines are ordered and spaced.": any file of allowed size, bytes and separators (`Sound`) with the same row and the same parameters, in another
   -- order and with other blanks about label and value (`given` has them trimmed), is accepted with the same record
   pub however : (ca ioa : ℕ) (plan f g : List ℕ)
@@ -48,14 +48,14 @@ pub record Demand2 : Type 0 where
   pub ordered-alike : (ca ioa : ℕ) (plan f g : List ℕ) → Sound f → Sound g
       → rowIn f ≡ rowIn g
       → Perm (given f) (given g)
-      → again [] (entriesIn (address ca ioa plan .kind) f) ≡ none
+      → again [] (entriesIn (address ca ioa plan .message) f) ≡ none
       → readOf ca ioa plan f ≡ readOf ca ioa plan g
   -- and with other blanks at the ends of its lines and other line ends
   pub spaced-alike : (ca ioa : ℕ) (plan f g : List ℕ) → Clean f → Clean g → texts f ≡ texts g → readOf ca ioa plan f ≡ readOf ca ioa plan g
   -- "Its summary row agrees with its body byte for byte."
   pub reader-row-agrees : (ca ioa : ℕ) (plan file : List ℕ)
       → readOf ca ioa plan file .number ≡ 0
-      → rowIn file ≡ rowOf (layoutIn (address ca ioa plan .kind) (given file)) (bodyColumn (address ca ioa plan .kind) file)
+      → rowIn file ≡ rowOf (layoutIn (address ca ioa plan .message) (given file)) (bodyColumn (address ca ioa plan .message) file)
   -- "A valid record, written and read at its own address, comes back the same."
   pub comes-back : (r : Record) (ca ioa : ℕ) (plan : List ℕ) → Valid r → OwnAddress r ca ioa plan → readOf ca ioa plan (fileOf r) ≡ accepted r
   -- and `fileOf r` is what is written: into 8,192 bytes or more always. (The writer's own test is of the same records)
@@ -66,4 +66,4 @@ pub record Demand2 : Type 0 where
   -- the normaliser: the written form of what was read gives the same answer
   pub normal-form : (ca ioa : ℕ) (plan file : List ℕ)
       → readOf ca ioa plan file .number ≡ 0
-      → readOf ca ioa plan (fileOf (readOf ca ioa plan file .body)) ≡ readOf ca ioa plan file
+      → readOf ca ioa plan (fileOf (readOf ca ioa plan file .content)) ≡ readOf ca ioa plan file

@@ -51,7 +51,7 @@ pub record Within : Type 0 where
   pub text-scan-first : Answers text.scan.first.ended text.scan.first.Reads.Asked text.scan.first.Reads.Learnt
   pub text-scan-lead : Answers text.scan.lead.ended text.scan.lead.Reads.Asked text.scan.lead.Reads.Learnt
   pub text-scan-are-zero : Answers text.scan.are_zero.ended text.scan.are_zero.Reads.Asked text.scan.are_zero.Reads.Learnt
-  pub text-scan-body : Answers text.scan.body.ended text.scan.body.Reads.Asked text.scan.body.Reads.Learnt
+  pub text-scan-filled : Answers text.scan.filled.ended text.scan.filled.Reads.Asked text.scan.filled.Reads.Learnt
   pub text-scan-trim : Lends text.scan.trim.ended (λ κs z. z .now) text.scan.trim.Reads.Asked text.scan.trim.Reads.Learnt
   pub text-scan-front : Lends text.scan.front.ended (λ κs z. z .now) text.scan.front.Reads.Asked text.scan.front.Reads.Learnt
   pub text-scan-rest : Lends text.scan.rest.ended (λ κs z. z .now) text.scan.rest.Reads.Asked text.scan.rest.Reads.Learnt

@@ -28,9 +28,9 @@ abbrev pub fromNumber : Number → Answer
 fromNumber (IsNumber v) = thousandths v
 fromNumber NoNumber = refused
 
-unfoldable pub answer : Sort → List ℕ → Answer
-answer date s = fromDate (dateOf s)
-answer number s = fromNumber (numberOf s)
+unfoldable pub caseAnswer : Sort → List ℕ → Answer
+caseAnswer date s = fromDate (dateOf s)
+caseAnswer number s = fromNumber (numberOf s)
 
 pub record Case : Type 0 where
   pub sort : Sort
@@ -38,8 +38,8 @@ pub record Case : Type 0 where
   pub reads : Answer
 
 -- negsuc 499 is -500
-abbrev pub table : List Case
-table =
+abbrev pub cases : List Case
+cases =
     record { sort = date; text = "01-01-2001 00:00:00 S"; reads = instant 31618800 }
     ∷ record { sort = date; text = "31-12-2099 23:59:59 S"; reads = instant 3155756399 }
     ∷ record { sort = date; text = "29-10-2023 02:30:00 L"; reads = instant 751854600 }

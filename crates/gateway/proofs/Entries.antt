@@ -1,7 +1,7 @@
 -- The entry's three ends: refused by the reader, no room, written. Assumes nothing.
 use Prim.Native.Nat.{ℕ, _+_, _*_, _≤_, _<_}
 use Rattle.report_brief.specs.Brief.{sixLines}
-use Rattle.gateway.specs.Entry.{lengthOr11, codeOf, outOf}
+use Rattle.gateway.specs.Entry.{lengthOr11, entryCode, outOf}
 use Rattle.reader.specs.Refusals.{refused, accepted}
 use Rattle.reader.specs.declared.Answer.{Answer}
 use Rattle.record.specs.declared.Record.{Record}
@@ -22,15 +22,15 @@ front-put t part room n h e f g =
 
 module _ (out : List ℕ) where
   abbrev pub Ends : Answer → ℕ → List ℕ → Type 0
-  Ends a r out₂ = (r ≡ codeOf sixLines a (length out)) × (out₂ ≡ outOf sixLines a out)
+  Ends a r out₂ = (r ≡ entryCode sixLines a (length out)) × (out₂ ≡ outOf sixLines a out)
 
   pub refused-end : (n d : ℕ) → (n ≡ 0 → ⊥) → Ends (refused n d) (n * 65536 + d) out
-  unfolding codeOf outOf
+  unfolding entryCode outOf
   refused-end n d h = rw (ne-eqb n 0 h) (omega arith, refl)
 
   module _ (r : Record) (n : ℕ) (size : n ≡ 0 + length (sixLines r)) where
     pub no-room-end : length out < n → Ends (accepted r) (11 * 65536 + n) out
-    unfolding codeOf outOf lengthOr11 bufferOf
+    unfolding entryCode outOf lengthOr11 bufferOf
     no-room-end h =
         let g : length out < length (sixLines r) = omega (arith, h, size) in
         let z : length out < 0 + length (sixLines r) = omega arith in
@@ -39,7 +39,7 @@ module _ (out : List ℕ) where
     -- the lines were put into a room of their own, and its front into the output
     pub written-end : (out₂ part room : List ℕ) → n ≤ length out → n ≤ 89 → room ≡ sets (replicate 89 0) 0 (sixLines r) → part ≡ take n room
         → out₂ ≡ sets out 0 part → Ends (accepted r) n out₂
-    unfolding codeOf outOf lengthOr11 bufferOf
+    unfolding entryCode outOf lengthOr11 bufferOf
     written-end out₂ part room h few f p e =
         let g : length (sixLines r) ≤ length out = omega (arith, h, size) in
         let z : 0 + length (sixLines r) ≤ length out = omega arith in

@@ -1,6 +1,6 @@
 -- The normalising entry answers what the normaliser says, as one number. Assumes nothing.
 use Prim.Native.Nat.{ℕ, _+_, _*_, _≤_, _<_}
-use Rattle.gateway.specs.Entry.{lengthOr11, codeOf, outOf}
+use Rattle.gateway.specs.Entry.{lengthOr11, entryCode, outOf}
 use Rattle.reader.specs.Reader.{readOf}
 use Rattle.reader.specs.declared.Answer.{Answer}
 use Rattle.reader_theorems.proofs.Small.{detail-small, number-small}
@@ -27,9 +27,9 @@ fitted-code : (t : List ℕ) (room : ℕ) → answered (fitted t room) ≡ lengt
 unfolding answered fitted lengthOr11
 fitted-code t room = by-test (leb (length t) room) (λ e. rw e) (λ e. rw e (omega arith))
 
-code-is : (a : Answer) (room : ℕ) → answered (normaliseOf a room) ≡ codeOf fileOf a room
-unfolding answered normaliseOf codeOf
-code-is a room = by-test (eqb (a .number) 0) (λ e. rw e (fitted-code (fileOf (a .body)) room)) (λ e. rw e (omega arith))
+code-is : (a : Answer) (room : ℕ) → answered (normaliseOf a room) ≡ entryCode fileOf a room
+unfolding answered normaliseOf entryCode
+code-is a room = by-test (eqb (a .number) 0) (λ e. rw e (fitted-code (fileOf (a .content)) room)) (λ e. rw e (omega arith))
 
 -- ---- none is too large
 
@@ -47,7 +47,7 @@ unfolding Fair normaliseOf
 fair ca ioa plan file room =
     let a = readOf ca ioa plan file in
     by-test (eqb (a .number) 0)
-    (λ e. rw e (fitted-fair (fileOf (a .body)) room (held-small (a .body) (read-held a ca ioa plan file refl (eqb-true (a .number) 0 e)))))
+    (λ e. rw e (fitted-fair (fileOf (a .content)) room (held-small (a .content) (read-held a ca ioa plan file refl (eqb-true (a .number) 0 e)))))
     (λ e. rw e (number-small ca ioa plan file, detail-small ca ioa plan file))
 
 -- ---- the two ends
@@ -72,10 +72,10 @@ module _ (ca ioa : ℕ) (plan file out m : List ℕ) (w : Written)
   unfolding normalLeft outOf
   left-is = told .1
 
-  pub length-end : (n : ℕ) → w ≡ Length n → (n ≡ codeOf fileOf answer (length out)) × (m ≡ outOf fileOf answer out)
+  pub length-end : (n : ℕ) → w ≡ Length n → (n ≡ entryCode fileOf answer (length out)) × (m ≡ outOf fileOf answer out)
   unfolding answered
   length-end n e = (ap answered (sym e ∙ told .0) ∙ code-is answer (length out), left-is)
 
-  pub refused-end : (k d : ℕ) → w ≡ Refused k d → (k * 65536 + d ≡ codeOf fileOf answer (length out)) × (m ≡ outOf fileOf answer out)
+  pub refused-end : (k d : ℕ) → w ≡ Refused k d → (k * 65536 + d ≡ entryCode fileOf answer (length out)) × (m ≡ outOf fileOf answer out)
   unfolding answered
   refused-end k d e = (ap answered (sym e ∙ told .0) ∙ code-is answer (length out), left-is)

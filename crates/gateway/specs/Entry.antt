@@ -18,9 +18,9 @@ unfoldable pub lengthOr11 : List ℕ → ℕ → ℕ
 lengthOr11 t room = cond (leb (length t) room) (length t) (code 11 (length t))
 
 -- THE DEFINITION: the entry that writes the text of a record, by the reader's answer
-unfoldable pub codeOf : (Record → List ℕ) → Answer → ℕ → ℕ
-codeOf text a room = cond (eqb (a .number) 0) (lengthOr11 (text (a .body)) room) (code (a .number) (a .detail))
+unfoldable pub entryCode : (Record → List ℕ) → Answer → ℕ → ℕ
+entryCode text a room = cond (eqb (a .number) 0) (lengthOr11 (text (a .content)) room) (code (a .number) (a .detail))
 
 -- the output after the call
 unfoldable pub outOf : (Record → List ℕ) → Answer → List ℕ → List ℕ
-outOf text a out = cond (eqb (a .number) 0) (bufferOf out 0 (text (a .body))) out
+outOf text a out = cond (eqb (a .number) 0) (bufferOf out 0 (text (a .content))) out

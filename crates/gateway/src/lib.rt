@@ -3,7 +3,7 @@ use text::put;
 use text::scan;
 use writer::Written;
 ghost use Rattle.report_brief.specs.Brief.{sixLines};
-ghost use Rattle.gateway.specs.Entry.{codeOf, outOf};
+ghost use Rattle.gateway.specs.Entry.{entryCode, outOf};
 ghost use Rattle.reader.specs.Reader.{readOf};
 ghost use Rattle.writer_form.specs.Written.{fileOf};
 ghost use lib.ListN.{length};
@@ -12,7 +12,7 @@ ghost use mathlib.Core.Path.{_≡_};
 // Reads a file at an address of a plan, and writes the six lines of its record into out.
 #[no_mangle]
 pub extern "C" fn halimpung_read(ca: u32, ioa: u32, plan: &[u8], file: &[u8], out: &mut [u8]) -> u32
-    ensures { λ r. ⌜ (r ≡ codeOf sixLines (readOf ca ioa (now (plan .entry)) (now (file .entry))) (length (now (out .entry))))
+    ensures { λ r. ⌜ (r ≡ entryCode sixLines (readOf ca ioa (now (plan .entry)) (now (file .entry))) (length (now (out .entry))))
         × (now (out .exit) ≡ outOf sixLines (readOf ca ioa (now (plan .entry)) (now (file .entry))) (now (out .entry))) ⌝ }
 {
     let x = reader::judged(ca, ioa, plan, file);
@@ -56,7 +56,7 @@ pub extern "C" fn halimpung_normalise(
     file: &[u8],
     out: &mut [u8],
 ) -> u32
-    ensures { λ r. ⌜ (r ≡ codeOf fileOf (readOf ca ioa (now (plan .entry)) (now (file .entry))) (length (now (out .entry))))
+    ensures { λ r. ⌜ (r ≡ entryCode fileOf (readOf ca ioa (now (plan .entry)) (now (file .entry))) (length (now (out .entry))))
         × (now (out .exit) ≡ outOf fileOf (readOf ca ioa (now (plan .entry)) (now (file .entry))) (now (out .entry))) ⌝ }
 {
     match writer::normalise(ca, ioa, plan, file, out) {

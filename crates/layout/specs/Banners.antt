@@ -7,20 +7,20 @@ use Rattle.layout.specs.declared.Layout.the-variants.{Market, Mfrr, Revo
 use Rattle.text.specs.Bytes.{bytes}
 use mathlib.Core.List.{List, [], _∷_, _++_}
 
-abbrev pub line : String → List ℕ
-line t = bytes t ++ 10 ∷ []
+abbrev pub bannerLine : String → List ℕ
+bannerLine t = bytes t ++ 10 ∷ []
 
 abbrev pub stars : List ℕ
-stars = line "*****"
+stars = bannerLine "*****"
 
 unfoldable pub bannerOf : Layout → List ℕ
-bannerOf Market = stars ++ line "***** MESSAGGIO DI COMANDO *****" ++ line "***** PER UPA/UCA *****" ++ stars
-bannerOf Mfrr = stars ++ line "***** MESSAGGIO DI COMANDO MFRR*****" ++ line "***** PER UPA/UCA *****" ++ stars
-bannerOf Revocation = stars ++ line "***** MESSAGGIO DI REVOCA COMANDO *****" ++ stars
-bannerOf Generic = stars ++ line "***** MESSAGGIO GENERICO *****" ++ stars
-bannerOf Exclusion = stars ++ line "***** MESSAGGIO DI ESCLUSIONE *****" ++ line "***** DAL BILANCIAMENTO *****" ++ stars
-bannerOf Limitation = stars ++ line "***** MESSAGGIO DI LIMITAZIONE *****" ++ line "***** AL BILANCIAMENTO *****" ++ stars
-bannerOf Secondary = stars ++ line "***** MESSAGGIO PER IL SERVIZIO *****" ++ line "***** DI REGOLAZIONE SECONDARIA *****" ++ stars
-bannerOf VoltVar = stars ++ line "***** MESSAGGIO DI REGOLAZIONE V-Q *****" ++ stars
-bannerOf Rejection = stars ++ line "*** MESSAGGIO DI RIFIUTO DELL'INDISPONIBILITA ***" ++ stars
-bannerOf Reserve = stars ++ line "***** MESSAGGIO DI QUANTITA *****" ++ line "***** RISERVATA *****" ++ stars
+bannerOf Market = stars ++ bannerLine "***** MESSAGGIO DI COMANDO *****" ++ bannerLine "***** PER UPA/UCA *****" ++ stars
+bannerOf Mfrr = stars ++ bannerLine "***** MESSAGGIO DI COMANDO MFRR*****" ++ bannerLine "***** PER UPA/UCA *****" ++ stars
+bannerOf Revocation = stars ++ bannerLine "***** MESSAGGIO DI REVOCA COMANDO *****" ++ stars
+bannerOf Generic = stars ++ bannerLine "***** MESSAGGIO GENERICO *****" ++ stars
+bannerOf Exclusion = stars ++ bannerLine "***** MESSAGGIO DI ESCLUSIONE *****" ++ bannerLine "***** DAL BILANCIAMENTO *****" ++ stars
+bannerOf Limitation = stars ++ bannerLine "***** MESSAGGIO DI LIMITAZIONE *****" ++ bannerLine "***** AL BILANCIAMENTO *****" ++ stars
+bannerOf Secondary = stars ++ bannerLine "***** MESSAGGIO PER IL SERVIZIO *****" ++ bannerLine "***** DI REGOLAZIONE SECONDARIA *****" ++ stars
+bannerOf VoltVar = stars ++ bannerLine "***** MESSAGGIO DI REGOLAZIONE V-Q *****" ++ stars
+bannerOf Rejection = stars ++ bannerLine "*** MESSAGGIO DI RIFIUTO DELL'INDISPONIBILITA ***" ++ stars
+bannerOf Reserve = stars ++ bannerLine "***** MESSAGGIO DI QUANTITA *****" ++ bannerLine "***** RISERVATA *****" ++ stars

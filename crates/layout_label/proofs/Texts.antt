@@ -1,6 +1,6 @@
 -- A padded label and its words: each tells the other, and a text begins with the one where it begins with the others. Assumes nothing.
 use Prim.Native.Nat.{ℕ, zero, suc, _+_, _-_, _≤_, _<_}
-use Rattle.layout_label.specs.Labels.{padded, wordsOf, labelOf, textOf}
+use Rattle.layout_label.specs.Labels.{padded, wordsOf, labelOf, labelText}
 use Rattle.layout_label.specs.declared.Label.{Label}
 use Rattle.layout.specs.Fields.{market, command, technical, mfrr, rc, mg, eb, lb, sr, vq, ri, qr}
 use Rattle.layout.specs.Layouts.{fieldsOf, labelsOf, labelAt}
@@ -24,15 +24,15 @@ use native.Mathlib.Omega.{arith}
 
 -- ---- the words of a label
 
-pub length-text : (l : Label) → length (textOf l) ≡ 36
-unfolding textOf bytesOf
+pub length-text : (l : Label) → length (labelText l) ≡ 36
+unfolding labelText bytesOf
 length-text l = refl
 
 -- each at its place
 pub text-put : (l : Label) (out : List ℕ) (i : ℕ) {a b c d e : List ℕ} → a ≡ sets out i (bytesOf 8 (l .first)) → b ≡ sets a (i + 8) (bytesOf 8 (l .second))
     → c ≡ sets b (i + 16) (bytesOf 8 (l .third)) → d ≡ sets c (i + 24) (bytesOf 8 (l .fourth)) → e ≡ sets d (i + 32) (bytesOf 4 (l .last))
-    → e ≡ sets out i (textOf l)
-unfolding textOf
+    → e ≡ sets out i (labelText l)
+unfolding labelText
 text-put l out i {a} {b} {c} {d} {e} p q r s t =
     let first : Puts out i (bytesOf 8 (l .first)) (i + 8) a =
     record { place = omega (arith, length-bytes 8 (l .first)); bytes = p } in
@@ -47,22 +47,22 @@ text-put l out i {a} {b} {c} {d} {e} p q r s t =
     then (then (then (then first second) third) fourth) last .bytes
 
 -- put into a room of its length
-pub text-room : (l : Label) (room t : List ℕ) → length room ≡ 36 → t ≡ sets room 0 (textOf l) → t ≡ textOf l
+pub text-room : (l : Label) (room t : List ℕ) → length room ≡ 36 → t ≡ sets room 0 (labelText l) → t ≡ labelText l
 text-room l room t h e =
     let n : length room ≤ 36 = omega arith in
-    e ∙ sets-eq (textOf l) room 0 (omega (arith, length-text l))
-    ∙ rw (length-text l, drop-of-length-le room n) (append-nil (textOf l))
+    e ∙ sets-eq (labelText l) room 0 (omega (arith, length-text l))
+    ∙ rw (length-text l, drop-of-length-le room n) (append-nil (labelText l))
 
 module _ (l : Label) (s : List ℕ) where
-  pub printed-short : length s < 36 → false ≡ starts (textOf l) s
-  printed-short h = starts-short (textOf l) s (omega (arith, length-text l))
+  pub printed-short : length s < 36 → false ≡ starts (labelText l) s
+  printed-short h = starts-short (labelText l) s (omega (arith, length-text l))
 
   pub printed-is : {a b c d e : ℕ} → Bytes s → 36 ≤ length s
       → l .first < 18446744073709551616 → l .second < 18446744073709551616 → l .third < 18446744073709551616 → l .fourth < 18446744073709551616
       → l .last < 4294967296 → a ≡ wordOf (part 0 8 s) → b ≡ wordOf (part 8 16 s) → c ≡ wordOf (part 16 24 s) → d ≡ wordOf (part 24 32 s)
       → e ≡ wordOf (part 32 36 s)
-      → (eqb a (l .first) && eqb b (l .second) && eqb c (l .third) && eqb d (l .fourth) && eqb e (l .last)) ≡ starts (textOf l) s
-  unfolding textOf
+      → (eqb a (l .first) && eqb b (l .second) && eqb c (l .third) && eqb d (l .fourth) && eqb e (l .last)) ≡ starts (labelText l) s
+  unfolding labelText
   printed-is f h k₁ k₂ k₃ k₄ k₅ p q r t u =
       let A = bytesOf 8 (l .first) in
       let B = bytesOf 8 (l .second) in
@@ -98,8 +98,8 @@ module _ (l : Label) (s : List ℕ) where
 -- ---- the labels of the table
 
 -- 36 bytes as words are those bytes
-text-words : (n : ℕ) (t : List ℕ) → Bytes t → length t ≡ 36 → textOf (wordsOf n t) ≡ t
-unfolding textOf wordsOf
+text-words : (n : ℕ) (t : List ℕ) → Bytes t → length t ≡ 36 → labelText (wordsOf n t) ≡ t
+unfolding labelText wordsOf
 text-words n t f h =
     let rest : drop 32 t ≡ part 32 36 t = sym (take-all 4 (drop 32 t) (rw length-drop (omega arith))) in
     let cut : (i k : ℕ) → bytesOf (8 + k) (wordOf (drop i t)) ≡ bytesOf 8 (wordOf (take 8 (drop i t))) ++ bytesOf k (wordOf (drop (i + 8) t)) =
@@ -156,7 +156,7 @@ module _ (l : Layout) (k : ℕ) where
   length-padded = simp (length-append, length-replicate) (omega (arith, label-short))
 
   -- the words of a label spell it padded
-  pub label-text : {m : Label} → m ≡ labelOf (labelAt l k) → textOf m ≡ padded (labelAt l k)
+  pub label-text : {m : Label} → m ≡ labelOf (labelAt l k) → labelText m ≡ padded (labelAt l k)
   unfolding labelOf
   label-text e = rw e (text-words (length (labelAt l k)) (padded (labelAt l k)) padded-bytes length-padded)
 
@@ -165,7 +165,7 @@ module _ (l : Layout) (k : ℕ) where
   label-size e = ap (λ (m : Label). m .size) e
 
   -- put into a room, its front is the label
-  pub label-front : {m : Label} {t front : List ℕ} → m ≡ labelOf (labelAt l k) → t ≡ sets (replicate 36 0) 0 (textOf m) → front ≡ take (m .size) t
+  pub label-front : {m : Label} {t front : List ℕ} → m ≡ labelOf (labelAt l k) → t ≡ sets (replicate 36 0) 0 (labelText m) → front ≡ take (m .size) t
       → front ≡ labelAt l k
   unfolding padded
   label-front {m} {t} e p f =

@@ -25,5 +25,5 @@ unfoldable pub labelOf : List ℕ → Label
 labelOf t = wordsOf (length t) (padded t)
 
 -- the padded text that the words spell
-unfoldable pub textOf : Label → List ℕ
-textOf l = bytesOf 8 (l .first) ++ bytesOf 8 (l .second) ++ bytesOf 8 (l .third) ++ bytesOf 8 (l .fourth) ++ bytesOf 4 (l .last)
+unfoldable pub labelText : Label → List ℕ
+labelText l = bytesOf 8 (l .first) ++ bytesOf 8 (l .second) ++ bytesOf 8 (l .third) ++ bytesOf 8 (l .fourth) ++ bytesOf 4 (l .last)

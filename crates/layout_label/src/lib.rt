@@ -3,7 +3,7 @@ use layout::Layout;
 use text::put;
 use text::words;
 ghost use Prim.Native.Nat.{_+_, _≤_, _<_};
-ghost use Rattle.layout_label.specs.Labels.{wordsOf, labelOf, textOf};
+ghost use Rattle.layout_label.specs.Labels.{wordsOf, labelOf, labelText};
 ghost use Rattle.layout.specs.Layouts.{labelAt};
 ghost use Rattle.text.specs.Bytes.{bytes, starts};
 ghost use Rattle.text.specs.Puts.{limit};
@@ -346,7 +346,7 @@ pub fn of_field(l: Layout, k: usize) -> Label
 // A label, padded, put from i on.
 pub fn put_label(out: &mut [u8], i: usize, l: Label)
     requires { ⌜ i + 36 ≤ length (now out) ⌝ }
-    ensures { λ r. ⌜ now (out .exit) ≡ sets (now (out .entry)) i (textOf l) ⌝ }
+    ensures { λ r. ⌜ now (out .exit) ≡ sets (now (out .entry)) i (labelText l) ⌝ }
 {
     words::put_word(out, i, l.first);
     words::put_word(out, i + 8, l.second);
@@ -358,7 +358,7 @@ pub fn put_label(out: &mut [u8], i: usize, l: Label)
 // A label, padded, put at a place, as far as there is room for it.
 pub fn put(out: &mut [u8], at: usize, l: Label) -> usize
     requires { ⌜ at + 36 < limit ⌝ }
-    ensures { λ r. ⌜ (r ≡ at + 36) × (now (out .exit) ≡ sets (now (out .entry)) at (textOf l)) ⌝ }
+    ensures { λ r. ⌜ (r ≡ at + 36) × (now (out .exit) ≡ sets (now (out .entry)) at (labelText l)) ⌝ }
 {
     if at + 36 <= out.len() {
         put_label(out, at, l);
@@ -371,7 +371,7 @@ pub fn put(out: &mut [u8], at: usize, l: Label) -> usize
 
 // Whether a text begins with the padded label.
 pub fn is_printed(l: Label, s: &[u8]) -> bool
-    ensures { λ r. ⌜ r ≡ starts (textOf l) (now (s .entry)) ⌝ }
+    ensures { λ r. ⌜ r ≡ starts (labelText l) (now (s .entry)) ⌝ }
 {
     if s.len() < 36 {
         return false;

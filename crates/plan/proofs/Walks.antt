@@ -5,8 +5,8 @@ use Rattle.plan_row.proofs.Addresses.{kept-row, any-kept, key-place, key-sought
 use Rattle.plan_row.proofs.Codes.{type-told}
 use Rattle.plan_row.proofs.Lines.{unit-told}
 use Rattle.plan_row.proofs.Readers.{At, at-length, next-line, second-line}
-use Rattle.plan_row.specs.Kept.{soughtKey, rowsOf, thirdOf, entryOf, rowAtOf}
-use Rattle.plan_row.specs.Rows.{Row, row, unitAt, caAt, ioaAt, typeAt, isAt, RowRead, good, bad, named, begun, rowOf}
+use Rattle.plan_row.specs.Kept.{soughtKey, rowsOf, thirdOf, keptRow, rowAtOf}
+use Rattle.plan_row.specs.Rows.{Row, row, unitAt, caAt, ioaAt, typeAt, isAt, RowRead, good, bad, rowNamed, begun, planRowOf}
 use Rattle.plan_row.specs.declared.Entry.{Entry}
 use Rattle.plan_row.specs.declared.RowAt.the-variants.{Good, Bad}
 use Rattle.plan_row.specs.declared.RowAt.{RowAt}
@@ -14,7 +14,7 @@ use Rattle.text_keyline.proofs.Values.{number-told}
 use Rattle.text_keyline.specs.Keylines.{valueIn, below}
 use Rattle.value_name.specs.declared.MessageType.{MessageType}
 use Rattle.plan.specs.Kept.{foundIn}
-use Rattle.plan.specs.Plans.{rows, wrong, after, planFrom, planOf, refusal, lookUp, soughtOf}
+use Rattle.plan.specs.Plans.{rows, wrong, onward, planFrom, planOf, soughtRefused, lookUp, soughtOf}
 use Rattle.plan.specs.declared.Sought.{Sought}
 use Rattle.text_room.specs.Rooms.{keptIn}
 use Rattle.text.proofs.Cuts.{tail, part-from, upto-take}
@@ -35,13 +35,13 @@ use native.Mathlib.Omega.{arith}
 -- ---- what a row with the address gives
 
 pub found-here : (s : List ℕ) (e : Entry) (kept : List ℕ) → kept ≡ keptIn 16 (part (e .from) (e .to) s)
-    → record { number = 0; detail = 0; kind = e .kind; size = length (part (e .from) (e .to) s); unit = kept } ≡ foundIn s e
+    → record { number = 0; detail = 0; message = e .message; size = length (part (e .from) (e .to) s); unit = kept } ≡ foundIn s e
 found-here s e kept q = rw q
 
 -- ---- a row is judged by the addresses above it, and by nothing else of them
 
-row-any : (up vs : List Row) (s : List ℕ) → ((c i : ℕ) → any (isAt c i) up ≡ any (isAt c i) vs) → rowOf up s ≡ rowOf vs s
-unfolding rowOf
+row-any : (up vs : List Row) (s : List ℕ) → ((c i : ℕ) → any (isAt c i) up ≡ any (isAt c i) vs) → planRowOf up s ≡ planRowOf vs s
+unfolding planRowOf
 row-any up vs s h = go (caAt s) (ioaAt (below s)) (unitAt (below (below s))) (typeAt (below (below (below s))))
   where
     go : (d e : Digits) (o : Option (List ℕ)) (p : Option MessageType) → begun up d e o p ≡ begun vs d e o p
@@ -54,7 +54,7 @@ is-bad : (s : List ℕ) (x : RowRead) (k : ℕ) → rowAtOf s x ≡ Bad k → x 
 is-bad s (bad j) k e = let n : j ≡ k = cc in rw n
 is-bad s (good r) k e = let z : _≡_ {A = ℕ} 0 1 = cc in absurd (omega arith)
 
-is-good : (s : List ℕ) (x : RowRead) (e : Entry) → rowAtOf s x ≡ Good e → (r : Row) × ((x ≡ good r) × (entryOf s r ≡ e))
+is-good : (s : List ℕ) (x : RowRead) (e : Entry) → rowAtOf s x ≡ Good e → (r : Row) × ((x ≡ good r) × (keptRow s r ≡ e))
 is-good s (bad j) e h = let z : _≡_ {A = ℕ} 0 1 = cc in absurd (omega arith)
 is-good s (good r) e h = (r, (refl, cc))
 
@@ -66,28 +66,28 @@ bad-is-good e = let z : _≡_ {A = ℕ} 0 1 = cc in absurd (omega arith)
 abbrev Four : List ℕ → Row → Type 0
 Four s r =
     (caAt s ≡ Are (r .ca)) × (ioaAt (below s) ≡ Are (r .ioa)) × (unitAt (below (below s)) ≡ some (r .unit))
-    × (typeAt (below (below (below s))) ≡ some (r .kind))
+    × (typeAt (below (below (below s))) ≡ some (r .message))
 
-four-lines : (up : List Row) (s : List ℕ) (r : Row) → rowOf up s ≡ good r → Four s r
-unfolding rowOf
+four-lines : (up : List Row) (s : List ℕ) (r : Row) → planRowOf up s ≡ good r → Four s r
+unfolding planRowOf
 four-lines up s r e =
     at-first (caAt s) (ioaAt (below s)) (unitAt (below (below s))) (typeAt (below (below (below s)))) e
   where
-    at-third : (c i : ℕ) (o : Option (List ℕ)) (p : Option MessageType) → named c i o p ≡ good r
-        → (Are c ≡ Are (r .ca)) × (Are i ≡ Are (r .ioa)) × (o ≡ some (r .unit)) × (p ≡ some (r .kind))
+    at-third : (c i : ℕ) (o : Option (List ℕ)) (p : Option MessageType) → rowNamed c i o p ≡ good r
+        → (Are c ≡ Are (r .ca)) × (Are i ≡ Are (r .ioa)) × (o ≡ some (r .unit)) × (p ≡ some (r .message))
     at-third c i none p e = bad-is-good e
     at-third c i (some u) none e = bad-is-good e
     at-third c i (some u) (some t) e =
         let n : row c i u t ≡ r = cc in
-        (ap (λ (x : Row). Are (x .ca)) n, ap (λ (x : Row). Are (x .ioa)) n, ap (λ (x : Row). some (x .unit)) n, ap (λ (x : Row). some (x .kind)) n)
+        (ap (λ (x : Row). Are (x .ca)) n, ap (λ (x : Row). Are (x .ioa)) n, ap (λ (x : Row). some (x .unit)) n, ap (λ (x : Row). some (x .message)) n)
 
-    at-second : (t : Bool) (c i : ℕ) (o : Option (List ℕ)) (p : Option MessageType) → cond t (bad 1) (named c i o p) ≡ good r
-        → (Are c ≡ Are (r .ca)) × (Are i ≡ Are (r .ioa)) × (o ≡ some (r .unit)) × (p ≡ some (r .kind))
+    at-second : (t : Bool) (c i : ℕ) (o : Option (List ℕ)) (p : Option MessageType) → cond t (bad 1) (rowNamed c i o p) ≡ good r
+        → (Are c ≡ Are (r .ca)) × (Are i ≡ Are (r .ioa)) × (o ≡ some (r .unit)) × (p ≡ some (r .message))
     at-second true c i o p e = bad-is-good e
     at-second false c i o p e = at-third c i o p e
 
     at-first : (d f : Digits) (o : Option (List ℕ)) (p : Option MessageType) → begun up d f o p ≡ good r
-        → (d ≡ Are (r .ca)) × (f ≡ Are (r .ioa)) × (o ≡ some (r .unit)) × (p ≡ some (r .kind))
+        → (d ≡ Are (r .ca)) × (f ≡ Are (r .ioa)) × (o ≡ some (r .unit)) × (p ≡ some (r .message))
     at-first Not f o p e = bad-is-good e
     at-first (Are c) Not o p e = bad-is-good e
     at-first (Are c) (Are i) o p e = at-second (any (isAt c i) up) c i o p e
@@ -110,7 +110,7 @@ module _ (s : List ℕ) (r : Row) (f : Four s r) where
   unit-is = unit-told x₃ (r .unit) (f .2)
 
   type-is : (firstOf 10 (below x₃) ≡ 7) × (7 < length (below x₃))
-  type-is = type-told (below x₃) (r .kind) (f .3)
+  type-is = type-told (below x₃) (r .message) (f .3)
 
   third-at : At s (thirdOf s) x₃
   third-at = placed (next-line (firstOf 10 (below s)) (second-line s (firstOf 10 s) refl (ca-is .2)) refl (ioa-is .2))
@@ -138,7 +138,7 @@ unfolding planFrom
 plan-over n up s h = let e : length s ≡ 0 → ⊥ = λ e. omega arith in rw (ne-eqb _ _ e)
 
 plan-row : (room n : ℕ) (up : List Row) (s : List ℕ) → 0 < length s
-    → planFrom (suc room) n up s ≡ after n (rowOf up s) (λ r. planFrom room (n + 4) (r ∷ up) (below (below (below (below s)))))
+    → planFrom (suc room) n up s ≡ onward n (planRowOf up s) (λ r. planFrom room (n + 4) (r ∷ up) (below (below (below (below s)))))
 unfolding planFrom
 plan-row room n up s h = let e : length s ≡ 0 → ⊥ = λ e. omega arith in rw (ne-eqb _ _ e)
 
@@ -155,11 +155,11 @@ pub record Sofar (plan : List ℕ) (ca ioa : ℕ) (keys : List ℕ) (count : ℕ
   pub hand : found ≡ lookUp ca ioa up
 
 module _ (plan : List ℕ) (ca ioa : ℕ) where
-  pub empty : (r : Sought) → length plan ≡ 0 → r ≡ refusal 13 0 → r ≡ soughtOf ca ioa (planOf plan)
+  pub empty : (r : Sought) → length plan ≡ 0 → r ≡ soughtRefused 13 0 → r ≡ soughtOf ca ioa (planOf plan)
   unfolding planOf soughtOf
   empty r e g = g ∙ rw (eq-eqb _ _ e)
 
-  pub begin : (keys : List ℕ) (found : Sought) → (length plan ≡ 0 → ⊥) → found ≡ refusal 1 0 → Sofar plan ca ioa keys 0 found plan
+  pub begin : (keys : List ℕ) (found : Sought) → (length plan ≡ 0 → ⊥) → found ≡ soughtRefused 1 0 → Sofar plan ca ioa keys 0 found plan
   unfolding planOf lookUp
   begin keys found n e =
       record { few = omega arith; up = []; kept = λ c i. refl; all = rw (ne-eqb _ _ n); hand = e }
@@ -170,31 +170,31 @@ module _ (plan : List ℕ) (ca ioa : ℕ) where
     finish h = f .hand ∙ rw (f .all, plan-end (64 - count) (4 * count + 1) (f .up) rest h)
 
     module _ (more : 0 < length rest) where
-      pub too-many : (r : Sought) → count ≡ 64 → r ≡ refusal 13 (4 * count + 1) → r ≡ soughtOf ca ioa (planOf plan)
+      pub too-many : (r : Sought) → count ≡ 64 → r ≡ soughtRefused 13 (4 * count + 1) → r ≡ soughtOf ca ioa (planOf plan)
       unfolding soughtOf
       too-many r e g =
           let m : 64 - count ≡ 0 = omega arith in
           g ∙ rw (f .all, m, plan-over (4 * count + 1) (f .up) rest more)
 
-      module _ (x : RowAt) (fits : count ≡ 64 → ⊥) (told : x ≡ rowAtOf rest (rowOf (rowsOf (take (count - 0) keys)) rest)) where
-        judged : rowAtOf rest (rowOf (f .up) rest) ≡ x
+      module _ (x : RowAt) (fits : count ≡ 64 → ⊥) (told : x ≡ rowAtOf rest (planRowOf (rowsOf (take (count - 0) keys)) rest)) where
+        judged : rowAtOf rest (planRowOf (f .up) rest) ≡ x
         judged =
-            sym (told ∙ ap (λ (n : ℕ). rowAtOf rest (rowOf (rowsOf (take n keys)) rest)) (sub-zero count)
+            sym (told ∙ ap (λ (n : ℕ). rowAtOf rest (planRowOf (rowsOf (take n keys)) rest)) (sub-zero count)
             ∙ ap (rowAtOf rest) (row-any (rowsOf (take count keys)) (f .up) rest (f .kept)))
 
-        one-more : planOf plan ≡ after (4 * count + 1) (rowOf (f .up) rest) (λ r. planFrom (64 - (count + 1)) (4 * count + 1 + 4) (r ∷ f .up) (below (below (below (below rest)))))
+        one-more : planOf plan ≡ onward (4 * count + 1) (planRowOf (f .up) rest) (λ r. planFrom (64 - (count + 1)) (4 * count + 1 + 4) (r ∷ f .up) (below (below (below (below rest)))))
         one-more =
             let c : count ≤ 64 = f .few in
             let m : 64 - count ≡ suc (64 - (count + 1)) = omega arith in
             f .all ∙ ap (λ (k : ℕ). planFrom k (4 * count + 1) (f .up) rest) m ∙ plan-row (64 - (count + 1)) (4 * count + 1) (f .up) rest more
 
-        pub bad-line : (k : ℕ) (r : Sought) → x ≡ Bad k → r ≡ refusal 13 (4 * count + 1 + k) → r ≡ soughtOf ca ioa (planOf plan)
+        pub bad-line : (k : ℕ) (r : Sought) → x ≡ Bad k → r ≡ soughtRefused 13 (4 * count + 1 + k) → r ≡ soughtOf ca ioa (planOf plan)
         unfolding soughtOf
-        bad-line k r e g = g ∙ rw (one-more, is-bad rest (rowOf (f .up) rest) k (judged ∙ e))
+        bad-line k r e g = g ∙ rw (one-more, is-bad rest (planRowOf (f .up) rest) k (judged ∙ e))
 
         module _ (e : Entry) (y : x ≡ Good e) where
-          this : (r : Row) × ((rowOf (f .up) rest ≡ good r) × (entryOf rest r ≡ e))
-          this = is-good rest (rowOf (f .up) rest) e (judged ∙ y)
+          this : (r : Row) × ((planRowOf (f .up) rest ≡ good r) × (keptRow rest r ≡ e))
+          this = is-good rest (planRowOf (f .up) rest) e (judged ∙ y)
 
           abbrev r : Row
           r = this .0
@@ -221,10 +221,10 @@ module _ (plan : List ℕ) (ca ioa : ℕ) where
               ap (λ (n : Entry). eqb (n .key) (soughtKey ca ioa)) (sym (this .1 .1))
               ∙ key-sought (r .ca) (r .ioa) ca ioa (ca-is rest r lines .0) (ioa-is rest r lines .1)
 
-          found-is : foundIn rest e ≡ record { number = 0; detail = 0; kind = r .kind; size = length (r .unit); unit = keptIn 16 (r .unit) }
+          found-is : foundIn rest e ≡ record { number = 0; detail = 0; message = r .message; size = length (r .unit); unit = keptIn 16 (r .unit) }
           found-is =
               ap (foundIn rest) (sym (this .1 .1))
-              ∙ ap (λ (v : List ℕ). record { number = 0; detail = 0; kind = r .kind; size = length v; unit = keptIn 16 v }) (unit-part rest r lines)
+              ∙ ap (λ (v : List ℕ). record { number = 0; detail = 0; message = r .message; size = length v; unit = keptIn 16 v }) (unit-part rest r lines)
 
           -- what was found so far, with this row
           handed : (sought : ℕ) (found₂ : Sought) → sought ≡ soughtKey ca ioa

@@ -9,4 +9,4 @@ use mathlib.Core.List.{List}
 
 -- what a row with the address gives
 abbrev pub foundIn : List ℕ → Entry → Sought
-foundIn s e = record { number = 0; detail = 0; kind = e .kind; size = length (part (e .from) (e .to) s); unit = keptIn 16 (part (e .from) (e .to) s) }
+foundIn s e = record { number = 0; detail = 0; message = e .message; size = length (part (e .from) (e .to) s); unit = keptIn 16 (part (e .from) (e .to) s) }

@@ -4,7 +4,7 @@ use plan_row::RowAt;
 use value_name::MessageType;
 ghost use Prim.Native.Nat.{max, _≤_};
 ghost use Rattle.plan.specs.Kept.{foundIn};
-ghost use Rattle.plan.specs.Plans.{planOf, refusal, soughtOf};
+ghost use Rattle.plan.specs.Plans.{planOf, soughtRefused, soughtOf};
 ghost use lib.ListN.{length};
 ghost use mathlib.Core.Path.{_≡_};
 
@@ -12,19 +12,19 @@ ghost use mathlib.Core.Path.{_≡_};
 pub struct Sought {
     pub number: u8,
     pub detail: usize,
-    pub kind: MessageType,
+    pub message: MessageType,
     pub size: usize,
     pub unit: [u8; 16],
 }
 
 fn refused(number: u8, detail: usize) -> Sought
-    ensures { λ r. ⌜ r ≡ refusal number detail ⌝ }
+    ensures { λ r. ⌜ r ≡ soughtRefused number detail ⌝ }
 {
     let unit = [0u8; 16];
     Sought {
         number,
         detail,
-        kind: MessageType::Cb,
+        message: MessageType::Cb,
         size: 0,
         unit,
     }
@@ -39,11 +39,11 @@ fn found_in(s: &[u8], e: Entry) -> Sought
     let to = e.to;
     let u = &s[from..to];
     let unit = text_room::keep_unit(u);
-    let kind = e.kind;
+    let message = e.message;
     Sought {
         number: 0,
         detail: 0,
-        kind,
+        message,
         size: u.len(),
         unit,
     }

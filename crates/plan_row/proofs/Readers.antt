@@ -5,7 +5,7 @@ use Rattle.plan_row.proofs.Addresses.{any-keys}
 use Rattle.plan_row.proofs.Codes.{type-told}
 use Rattle.plan_row.proofs.Lines.{unit-told}
 use Rattle.plan_row.specs.Kept.{keyOf, rowsOf, numberedOf, namedTo, ifNamed, typeReadOf, thirdOf, rowAtOf}
-use Rattle.plan_row.specs.Rows.{caAt, ioaAt, unitAt, typeAt, isAt, rowOf}
+use Rattle.plan_row.specs.Rows.{caAt, ioaAt, unitAt, typeAt, isAt, planRowOf}
 use Rattle.plan_row.specs.declared.Named.the-variants.{To, Not as NotNamed}
 use Rattle.plan_row.specs.declared.Named.{Named}
 use Rattle.plan_row.specs.declared.Numbered.the-variants.{Is as IsNumbered, Not as NotNumbered}
@@ -86,10 +86,10 @@ second-line s e f h =
 module _ (keys s : List ℕ) (d : Numbered) (first : d ≡ numberedOf (caAt s) s) where
   -- what is answered
   abbrev answer : RowAt
-  answer = rowAtOf s (rowOf (rowsOf keys) s)
+  answer = rowAtOf s (planRowOf (rowsOf keys) s)
 
   pub bad-ca : d ≡ NotNumbered → Bad 0 ≡ answer
-  unfolding rowOf
+  unfolding planRowOf
   bad-ca n = rw (not-numbered (caAt s) s (sym n ∙ first))
 
   module _ (c a : ℕ) (is-ca : d ≡ IsNumbered c a) where
@@ -110,7 +110,7 @@ module _ (keys s : List ℕ) (d : Numbered) (first : d ≡ numberedOf (caAt s) s
       two-told = second ∙ ap (λ (x : List ℕ). numberedOf (ioaAt x) x) (at-two .left)
 
       pub bad-ioa : d₂ ≡ NotNumbered → Bad 1 ≡ answer
-      unfolding rowOf
+      unfolding planRowOf
       bad-ioa n = rw (one .0, not-numbered (ioaAt (below s)) (below s) (sym n ∙ two-told))
 
       module _ (i b : ℕ) (is-ioa : d₂ ≡ IsNumbered i b) where
@@ -128,7 +128,7 @@ module _ (keys s : List ℕ) (d : Numbered) (first : d ≡ numberedOf (caAt s) s
           above = any-keys c i keys (ioa-told .1) ∙ ap (λ (x : ℕ). any (is x) keys) (sym key) ∙ sym told
 
           pub twice : t ≡ true → Bad 1 ≡ answer
-          unfolding rowOf
+          unfolding planRowOf
           twice y = rw (one .0, two .0, above, y)
 
           abbrev three-left : List ℕ
@@ -139,7 +139,7 @@ module _ (keys s : List ℕ) (d : Numbered) (first : d ≡ numberedOf (caAt s) s
             three-told = third ∙ ap (λ (x : List ℕ). namedTo x) (at-three .left)
 
             pub bad-unit : d₃ ≡ NotNamed → Bad 2 ≡ answer
-            unfolding rowOf
+            unfolding planRowOf
             bad-unit n = rw (one .0, two .0, above, new, not-named (unitAt (below (below s))) (below (below s)) (sym n ∙ three-told))
 
             module _ (e : ℕ) (is-unit : d₃ ≡ To e) where
@@ -163,25 +163,25 @@ module _ (keys s : List ℕ) (d : Numbered) (first : d ≡ numberedOf (caAt s) s
                 four-told = fourth ∙ ap (λ (x : List ℕ). typeReadOf (typeAt x)) (at-four .left)
 
                 pub bad-type : p ≡ NoType → Bad 3 ≡ answer
-                unfolding rowOf
+                unfolding planRowOf
                 bad-type n =
                     rw (one .0, two .0, above, new, three .1, not-typed (typeAt (below (below (below s)))) (sym n ∙ four-told))
 
-                module _ (kind : MessageType) (is-type : p ≡ Is kind) where
-                  four : typeAt (below (below (below s))) ≡ some kind
-                  four = is-typed (typeAt (below (below (below s)))) kind (sym is-type ∙ four-told)
+                module _ (message : MessageType) (is-type : p ≡ Is message) where
+                  four : typeAt (below (below (below s))) ≡ some message
+                  four = is-typed (typeAt (below (below (below s)))) message (sym is-type ∙ four-told)
 
                   type-ends : (firstOf 10 (below (below (below s))) ≡ 7) × (7 < length (below (below (below s))))
-                  type-ends = type-told (below (below (below s))) kind four
+                  type-ends = type-told (below (below (below s))) message four
 
                   pub at-five : At s (a + 1 + b + 1 + e + 1 + 8) (below (below (below (below s))))
                   at-five =
                       let n : a + 1 + b + 1 + e + 1 + 7 + 1 ≡ a + 1 + b + 1 + e + 1 + 8 = omega arith in
                       rw n at (next-line 7 at-four (sym (type-ends .0)) (type-ends .1))
 
-                  pub good-row : Good record { key = k; kind = kind; from = a + 1 + b + 1 + 5; to = a + 1 + b + 1 + e; end = a + 1 + b + 1 + e + 1 + 8 } ≡ answer
-                  unfolding rowOf
+                  pub good-row : Good record { key = k; message = message; from = a + 1 + b + 1 + 5; to = a + 1 + b + 1 + e; end = a + 1 + b + 1 + e + 1 + 8 } ≡ answer
+                  unfolding planRowOf
                   good-row =
                       let f : a + 1 + b + 1 ≡ thirdOf s = omega (arith, at-length at-three) in
                       let g : a + 1 + b + 1 + e + 1 + 8 ≡ length s - length (below (below (below (below s)))) = omega (arith, at-length at-five) in
-                      rw (one .0, two .0, above, new, three .1, four, key, g) (ap₂ (λ (x y : ℕ). Good record { key = keyOf c i; kind = kind; from = x + 5; to = x + y; end = length s - length (below (below (below (below s)))) }) f (three .2))
+                      rw (one .0, two .0, above, new, three .1, four, key, g) (ap₂ (λ (x y : ℕ). Good record { key = keyOf c i; message = message; from = x + 5; to = x + y; end = length s - length (below (below (below (below s)))) }) f (three .2))

@@ -56,15 +56,15 @@ typeReadOf (some t) = Is t
 abbrev pub thirdOf : List ℕ → ℕ
 thirdOf s = length s - length (below (below s))
 
-abbrev pub entryOf : List ℕ → Row → Entry
-entryOf s r = record {
+abbrev pub keptRow : List ℕ → Row → Entry
+keptRow s r = record {
   key = keyOf (r .ca) (r .ioa);
-  kind = r .kind;
+  message = r .message;
   from = thirdOf s + 5;
   to = thirdOf s + firstOf 10 (below (below s));
   end = length s - length (below (below (below (below s))));
 }
 
 abbrev pub rowAtOf : List ℕ → RowRead → RowAt
-rowAtOf s (good r) = Good (entryOf s r)
+rowAtOf s (good r) = Good (keptRow s r)
 rowAtOf s (bad k) = Bad k

@@ -21,10 +21,10 @@ pub record Row : Type 0 where
   pub ca : ℕ
   pub ioa : ℕ
   pub unit : List ℕ
-  pub kind : MessageType
+  pub message : MessageType
 
 abbrev pub row : ℕ → ℕ → List ℕ → MessageType → Row
-row c i u t = record { ca = c; ioa = i; unit = u; kind = t }
+row c i u t = record { ca = c; ioa = i; unit = u; message = t }
 
 -- ---- the four lines of a row
 
@@ -67,22 +67,22 @@ pub data RowRead : Type 0 where
   good : Row → RowRead
   bad : ℕ → RowRead
 
-abbrev pub typed : ℕ → ℕ → List ℕ → Option MessageType → RowRead
-typed c i u none = bad 3
-typed c i u (some t) = good (row c i u t)
+abbrev pub rowTyped : ℕ → ℕ → List ℕ → Option MessageType → RowRead
+rowTyped c i u none = bad 3
+rowTyped c i u (some t) = good (row c i u t)
 
-abbrev pub named : ℕ → ℕ → Option (List ℕ) → Option MessageType → RowRead
-named c i none t = bad 2
-named c i (some u) t = typed c i u t
+abbrev pub rowNamed : ℕ → ℕ → Option (List ℕ) → Option MessageType → RowRead
+rowNamed c i none t = bad 2
+rowNamed c i (some u) t = rowTyped c i u t
 
 abbrev pub placed : List Row → ℕ → Digits → Option (List ℕ) → Option MessageType → RowRead
 placed above c Not u t = bad 1
-placed above c (Are i) u t = cond (any (isAt c i) above) (bad 1) (named c i u t)
+placed above c (Are i) u t = cond (any (isAt c i) above) (bad 1) (rowNamed c i u t)
 
 abbrev pub begun : List Row → Digits → Digits → Option (List ℕ) → Option MessageType → RowRead
 begun above Not i u t = bad 0
 begun above (Are c) i u t = placed above c i u t
 
 -- the row at the front of a text, below those above
-unfoldable pub rowOf : List Row → List ℕ → RowRead
-rowOf above s = begun above (caAt s) (ioaAt (below s)) (unitAt (below (below s))) (typeAt (below (below (below s))))
+unfoldable pub planRowOf : List Row → List ℕ → RowRead
+planRowOf above s = begun above (caAt s) (ioaAt (below s)) (unitAt (below (below s))) (typeAt (below (below (below s))))

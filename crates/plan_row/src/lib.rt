@@ -6,7 +6,7 @@ use value_name::MessageType;
 use value_name::unit;
 ghost use Prim.Native.Nat.{_≤_};
 ghost use Rattle.plan_row.specs.Kept.{keyOf, soughtKey, rowsOf, numberedOf, namedTo, typeReadOf, rowAtOf};
-ghost use Rattle.plan_row.specs.Rows.{types, typeFrom, typeAt, rowOf};
+ghost use Rattle.plan_row.specs.Rows.{types, typeFrom, typeAt, planRowOf};
 ghost use Rattle.text_keyline.specs.Keylines.{numberAt};
 ghost use Rattle.text.specs.Bytes.{any, is};
 ghost use lib.Dec.{ltb};
@@ -34,7 +34,7 @@ pub enum Named {
 // What a row gives: its address in one number, its type, and where the unit's code and the row end.
 pub struct Entry {
     pub key: u64,
-    pub kind: MessageType,
+    pub message: MessageType,
     pub from: usize,
     pub to: usize,
     pub end: usize,
@@ -206,7 +206,7 @@ fn type_line(s: &[u8]) -> TypeRead
 // The row at the front of a text, below those with these addresses, of which none is above the greatest.
 pub fn row_at(s: &[u8], keys: &[u64], greatest: u64) -> RowAt
     requires { ⌜ any (ltb greatest) (now keys) ≡ false ⌝ }
-    ensures { λ r. ⌜ r ≡ rowAtOf (now (s .entry)) (rowOf (rowsOf (now (keys .entry))) (now (s .entry))) ⌝ }
+    ensures { λ r. ⌜ r ≡ rowAtOf (now (s .entry)) (planRowOf (rowsOf (now (keys .entry))) (now (s .entry))) ⌝ }
 {
     let Numbered::Is(ca, a) = number_line(b"ca=", 65534, s) else {
         return RowAt::Bad(0);
@@ -224,12 +224,12 @@ pub fn row_at(s: &[u8], keys: &[u64], greatest: u64) -> RowAt
         return RowAt::Bad(2);
     };
     let fourth = third + c + 1;
-    let TypeRead::Is(kind) = type_line(&s[fourth..]) else {
+    let TypeRead::Is(message) = type_line(&s[fourth..]) else {
         return RowAt::Bad(3);
     };
     RowAt::Good(Entry {
         key,
-        kind,
+        message,
         from: third + 5,
         to: third + c,
         end: fourth + 8,

@@ -9,7 +9,7 @@ use Rattle.text_lines.specs.declared.Span.{Span}
 use Rattle.value_list.specs.declared.Triple.{Triple}
 use Rattle.reader.proofs.Firsts.{NoneHolds, accepted-none, none-given}
 use Rattle.reader.proofs.Firsts.NoneHolds.{next}
-use Rattle.reader.specs.Messages.{valuesOf, isBad, bodyOf}
+use Rattle.reader.specs.Messages.{valuesOf, isBad, columnRecord}
 use Rattle.reader.specs.Reader.{valued}
 use Rattle.reader.specs.Refusals.{Refusal, refused, accepted, answer}
 use Rattle.reader.specs.State.{columnAt, continued, Locates, finished, Judges, Values, concluded, Reads}
@@ -49,7 +49,7 @@ fourth-false (next e (next f (next g h))) = first-false h
 -- the answer of refusals 7 to 10 for a unit
 abbrev judgedFor : List ℕ → Located → List ℕ → Answer
 judgedFor file x unit =
-    answer (valued (x .layout) unit (partOf file (x .row)) (columnAt (x .layout) file (x .places))) (bodyOf (x .layout) (columnAt (x .layout) file (x .places)))
+    answer (valued (x .layout) unit (partOf file (x .row)) (columnAt (x .layout) file (x .places))) (columnRecord (x .layout) (columnAt (x .layout) file (x .places)))
 
 module _ (file unit : List ℕ) (x : Located) where
   continued-no : (x .number ≡ 0 → ⊥) → refused (x .number) (x .detail) ≡ continued file unit x
@@ -63,16 +63,16 @@ module _ (file unit : List ℕ) (x : Located) where
 -- where nothing is refused, the record is that of the values, none of them is bad, and the row is theirs
 module _ (l : Layout) (unit row : List ℕ) (col : List (List ℕ)) (n d : ℕ) (cells : List Cell) (gs : List Triple)
     (j : Judges l unit row col n d cells gs) (z : n ≡ 0) where
-  accepted-is : accepted (recordWith l col cells gs) ≡ answer (valued l unit row col) (bodyOf l col)
+  accepted-is : accepted (recordWith l col cells gs) ≡ answer (valued l unit row col) (columnRecord l col)
   unfolding finished
   accepted-is = rw (eq-eqb n 0 z) at j
 
   none-holds : NoneHolds (valued l unit row col)
   unfolding valued all
-  none-holds = accepted-none (valued l unit row col) (bodyOf l col) refl (sym (ap (λ (a : Answer). a .number) accepted-is))
+  none-holds = accepted-none (valued l unit row col) (columnRecord l col) refl (sym (ap (λ (a : Answer). a .number) accepted-is))
 
-  body-same : recordWith l col cells gs ≡ bodyOf l col
-  body-same = ap (λ (a : Answer). a .body) (accepted-is ∙ none-given (bodyOf l col) none-holds)
+  body-same : recordWith l col cells gs ≡ columnRecord l col
+  body-same = ap (λ (a : Answer). a .content) (accepted-is ∙ none-given (columnRecord l col) none-holds)
 
   none-bad : isBad (valuesOf l col) ≡ false
   unfolding valued
@@ -98,7 +98,7 @@ module _ (c i : ℕ) (plan file : List ℕ) (x : Located) (h : Locates c i plan 
         placed = λ z. absurd (n z);
         readable = λ z. absurd (n z);
         own-row = λ z. absurd (n z);
-        body-is = λ z. absurd (n z);
+        content-is = λ z. absurd (n z);
         answers = sym (concluded-no file (unread cells gs) n) ∙ continued-no file (take (x .size) (x .unit)) x n ∙ h .answers;
       }
 
@@ -116,7 +116,7 @@ module _ (c i : ℕ) (plan file : List ℕ) (x : Located) (h : Locates c i plan 
         own-row = λ e.
             let r = row-same (x .layout) unit (partOf file (x .row)) col (y .number) (y .detail) (y .cells) (y .gradients) (v .judges) e in
             rw (v .layout-is, v .row-is, v .places-are) record { ordered = h .stands z .ordered; inside = h .stands z .inside; holds = r };
-        body-is = λ e.
+        content-is = λ e.
             rw (v .layout-is, v .places-are)
             (body-same (x .layout) unit (partOf file (x .row)) col (y .number) (y .detail) (y .cells) (y .gradients) (v .judges) e);
         answers =

@@ -4,7 +4,7 @@ use Prim.Native.Nat.{ℕ}
 use Rattle.value_name.specs.declared.MessageType.{MessageType}
 use Rattle.plan.specs.declared.Sought.{Sought}
 use Rattle.reader.specs.Reader.{valued, labelled, reading, planned}
-use Rattle.reader.specs.Refusals.{Refusal, refusal, refused, accepted, answer, First, here, later, Given}
+use Rattle.reader.specs.Refusals.{Refusal, refusal, refused, accepted, answer, First, here, later, IsFirst}
 use Rattle.record.specs.declared.Record.{Record}
 use Rattle.text.proofs.Tests.{by-test, and-parts}
 use Rattle.text.specs.Bytes.{all}
@@ -49,7 +49,7 @@ none-given r (next e f) = rw e (none-given r f)
 abbrev pub numbered : Refusal → Bool
 numbered x = leb 1 (x .number)
 
-pub given-first : (rs : List Refusal) (r : Record) → all numbered rs ≡ true → (answer rs r .number ≡ 0 → ⊥) → Given rs (answer rs r)
+pub given-first : (rs : List Refusal) (r : Record) → all numbered rs ≡ true → (answer rs r .number ≡ 0 → ⊥) → IsFirst rs (answer rs r)
 unfolding answer all
 given-first [] r h n = absurd (n refl)
 given-first (x ∷ xs) r h n =

@@ -12,7 +12,7 @@ use Rattle.text_lines.specs.declared.Span.{Span}
 use Rattle.value_list.specs.declared.Triple.{Triple}
 use Rattle.reader.proofs.Firsts.{answer-yes, answer-no, none-given}
 use Rattle.reader.proofs.Firsts.NoneHolds.{none}
-use Rattle.reader.specs.Messages.{valuesOf, isBad, goodOf, bodyOf}
+use Rattle.reader.specs.Messages.{valuesOf, isBad, goodOf, columnRecord}
 use Rattle.reader.specs.Reader.{valued}
 use Rattle.reader.specs.Refusals.{refused, accepted}
 use Rattle.reader.specs.State.{columnAt, Filling, verdict, finished, Judges}
@@ -54,12 +54,12 @@ module _ (l : Layout) (col : List (List ℕ)) (f : Filled) (e : f ≡ filledOf (
   unfolding valuesOf
   is-good n = good-fields (typed 1 (kindsOf l) col) refl bad-is n
 
-  is-body : f .bad ≡ 0 → (gs : List Triple) → gs ≡ triplesOf l col → recordWith l col (f .cells) gs ≡ bodyOf l col
-  unfolding bodyOf
+  is-body : f .bad ≡ 0 → (gs : List Triple) → gs ≡ triplesOf l col → recordWith l col (f .cells) gs ≡ columnRecord l col
+  unfolding columnRecord
   is-body n gs g = ap₂ (recordWith l col) (is-good n .1) g ∙ record-with l col (goodOf (valuesOf l col))
 
   -- the rules on the cells and triples are those of the record
-  is-broken : f .bad ≡ 0 → (gs : List Triple) → gs ≡ triplesOf l col → lowest (rulesOf l (f .cells) gs) ≡ brokenIn (bodyOf l col)
+  is-broken : f .bad ≡ 0 → (gs : List Triple) → gs ≡ triplesOf l col → lowest (rulesOf l (f .cells) gs) ≡ brokenIn (columnRecord l col)
   unfolding brokenIn recordWith
   is-broken n gs g = ap brokenIn (is-body n gs g)
 
@@ -123,18 +123,18 @@ module _ (l : Layout) (unit file : List ℕ) (row : Span) (places : List Span) (
     values : isBad (valuesOf l col) ≡ false
     values = is-good l col given (f .filled) n .0
 
-    broken-is : k ≡ brokenIn (bodyOf l col)
+    broken-is : k ≡ brokenIn (columnRecord l col)
     broken-is = q ∙ is-broken l col given (f .filled) n gs (f .triples)
 
     broken-rule : (k ≡ 0 → ⊥) → Judged 8 k
     unfolding valued finished
     broken-rule h =
-        let q : 0 < brokenIn (bodyOf l col) = omega (arith, broken-is, h) in
-        ap (refused 8) broken-is ∙ sym (answer-no 7 _ _ _ _ values ∙ answer-yes 8 _ _ _ _ (lt-ltb 0 (brokenIn (bodyOf l col)) q))
+        let q : 0 < brokenIn (columnRecord l col) = omega (arith, broken-is, h) in
+        ap (refused 8) broken-is ∙ sym (answer-no 7 _ _ _ _ values ∙ answer-yes 8 _ _ _ _ (lt-ltb 0 (brokenIn (columnRecord l col)) q))
 
     module _ (zero-k : k ≡ 0) where
-      unbroken : ltb 0 (brokenIn (bodyOf l col)) ≡ false
-      unbroken = let h : brokenIn (bodyOf l col) ≤ 0 = omega (arith, broken-is, zero-k) in le-ltb 0 (brokenIn (bodyOf l col)) h
+      unbroken : ltb 0 (brokenIn (columnRecord l col)) ≡ false
+      unbroken = let h : brokenIn (columnRecord l col) ≤ 0 = omega (arith, broken-is, zero-k) in le-ltb 0 (brokenIn (columnRecord l col)) h
 
       other-unit : same unit (textAt col 2) ≡ false → Judged 9 0
       unfolding valued finished

@@ -16,7 +16,7 @@ use mathlib.Core.Logic.{_⊎_, inl, inr, ⊎-elim}
 use mathlib.Core.Path.{_≡_, refl, sym, ap, ap₂, _∙_}
 use native.Mathlib.Omega.{arith}
 
-pub answer-at : (s : Sought) (file : List ℕ) → s .number ≡ 0 → messageOf (s .kind) (unitIn s) file ≡ answerAt s file
+pub answer-at : (s : Sought) (file : List ℕ) → s .number ≡ 0 → messageOf (s .message) (unitIn s) file ≡ answerAt s file
 unfolding answerAt planned messageOf
 answer-at s file e =
     let a : s .number ≡ 13 → ⊥ = λ q. omega (arith, q, e) in
@@ -53,7 +53,7 @@ module _ (c i : ℕ) (file : List ℕ) where
     not-found n = record { stands = λ z. absurd (n z); answers = rw (ne-eqb (s .number) 0 n) (refused-at s (planOf plan) e n) }
 
     -- what the walk gave, with the size and the unit of the plan
-    pub walked-on : s .number ≡ 0 → (x : Located) → Walks (s .kind) file x
+    pub walked-on : s .number ≡ 0 → (x : Located) → Walks (s .message) file x
         → Locates c i plan file (record { number = x .number; detail = x .detail; layout = x .layout; size = s .size; unit = s .unit; row = x .row; places = x .places })
     unfolding readOf continued
     walked-on n x w =

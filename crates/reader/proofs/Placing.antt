@@ -7,7 +7,7 @@ use Rattle.text_lines.specs.Entries.{Entry, again, missing, column}
 use Rattle.text_lines.specs.Places.{partOf, Placed, columnIn}
 use Rattle.text_lines.specs.declared.Span.{Span}
 use Rattle.reader.proofs.Firsts.{answer-yes, answer-no}
-use Rattle.reader.specs.Messages.{bodyOf}
+use Rattle.reader.specs.Messages.{columnRecord}
 use Rattle.reader.specs.Reader.{valued, labelled, isThere, numberOr}
 use Rattle.reader.specs.Refusals.{refused, answer}
 use Rattle.reader.specs.State.{nowhere, placedAs, Stands, continued}
@@ -50,7 +50,7 @@ module _ (l : Layout) (row : Span) (m : Marks) (places : List Span) where
 -- to the answer of refusals 5 to 10 on the entries; where it is no refusal, every field has its place
 pub record Onward (l : Layout) (file : List ℕ) (row : Span) (es : List Entry) (x : Located) : Type 0 where
   pub stands : x .number ≡ 0 → Stands file x
-  pub answers : (unit : List ℕ) → continued file unit x ≡ answer (labelled l unit (partOf file row) es) (bodyOf l (column 1 (labelsOf l) es))
+  pub answers : (unit : List ℕ) → continued file unit x ≡ answer (labelled l unit (partOf file row) es) (columnRecord l (column 1 (labelsOf l) es))
 
 module _ (l : Layout) (file : List ℕ) (m : Marks) (places : List Span) (es : List Entry) (f : Fields file (labelsOf l) m places es) where
   pub seen-few : ones (m .seen) ≤ sizeOf l
@@ -101,7 +101,7 @@ module _ (l : Layout) (file : List ℕ) (m : Marks) (places : List Span) (es : L
             record {
               stands = λ z. record { ordered = ordered; inside = inside; placed = all-placed };
               answers = λ unit.
-                  ap (λ (c : List (List ℕ)). answer (valued l unit (partOf file row) c) (bodyOf l c)) column-is
+                  ap (λ (c : List (List ℕ)). answer (valued l unit (partOf file row) c) (columnRecord l c)) column-is
                   ∙ sym (answer-no 5 _ _ _ _ no-repeat ∙ answer-no 6 _ _ _ _ (le-ltb 0 (missing 1 (labelsOf l) es) h));
             }
 

@@ -7,13 +7,13 @@ use Rattle.layout.specs.declared.Layout.the-variants.{Mfrr}
 use Rattle.text_lines.proofs.Steps.{allowed-length}
 use Rattle.text_lines.specs.Entries.{entries, column}
 use Rattle.text_lines.specs.Lines.{texts, framed, allowedUpto}
-use Rattle.text_lines.specs.Places.{Holds}
+use Rattle.text_lines.specs.Places.{HoldsText}
 use Rattle.value_name.specs.declared.MessageType.{MessageType}
 use Rattle.reader.proofs.Chosen.{is-mfrr, not-mfrr}
 use Rattle.reader.proofs.Firsts.{answer-yes, answer-no}
 use Rattle.reader.proofs.Placing.{Onward, seen-few, placed-onward}
-use Rattle.reader.specs.Messages.{given, rowIn, layoutIn, entriesIn, bodyOf}
-use Rattle.reader.specs.Reader.{labelled, reading, bodyIn, messageOf}
+use Rattle.reader.specs.Messages.{given, rowIn, layoutIn, entriesIn, columnRecord}
+use Rattle.reader.specs.Reader.{labelled, reading, recordIn, messageOf}
 use Rattle.reader.specs.Refusals.{refused, answer}
 use Rattle.reader.specs.State.{nowhere, placedAs, continued, Walks, isMfrr}
 use Rattle.reader.specs.declared.Located.{Located}
@@ -91,20 +91,20 @@ module _ (t : MessageType) (file : List ℕ) where
           framed-yes : framed (texts file) ≡ true
           framed-yes = framed-by t file r w clean ∙ rw (eq-eqb (r .frame .seps) 2 two, eq-eqb (r .frame .inside) 1 one)
 
-          row-holds : Holds file (r .frame .row) (rowIn file)
+          row-holds : HoldsText file (r .frame .row) (rowIn file)
           unfolding rowIn
           row-holds = row-by t file r w clean framed-yes
 
           -- where a layout is the file's, what its fields lead to is what the file leads to
           laid : (l : Layout) → layoutIn t (given file) ≡ l → (x : Located) → Onward l file (r .frame .row) (entries (labelsOf l) (given file)) x → Walks t file x
-          unfolding messageOf reading bodyIn entriesIn
+          unfolding messageOf reading recordIn entriesIn
           laid l e x h =
               record {
                 stands = h .stands;
                 answers = λ unit.
                     h .answers unit
-                    ∙ ap (λ (x : List ℕ). answer (labelled l unit x (entries (labelsOf l) (given file))) (bodyOf l (column 1 (labelsOf l) (entries (labelsOf l) (given file))))) (row-holds .holds)
-                    ∙ ap (λ (k : Layout). answer (labelled k unit (rowIn file) (entries (labelsOf k) (given file))) (bodyOf k (column 1 (labelsOf k) (entries (labelsOf k) (given file))))) (sym e)
+                    ∙ ap (λ (x : List ℕ). answer (labelled l unit x (entries (labelsOf l) (given file))) (columnRecord l (column 1 (labelsOf l) (entries (labelsOf l) (given file))))) (row-holds .holds)
+                    ∙ ap (λ (k : Layout). answer (labelled k unit (rowIn file) (entries (labelsOf k) (given file))) (columnRecord k (column 1 (labelsOf k) (entries (labelsOf k) (given file))))) (sym e)
                     ∙ sym (answer-no 2 _ _ _ _ sized ∙ answer-no 3 _ _ _ _ no-bad ∙ answer-no 4 _ _ _ _ (ap not framed-yes));
               }
 

@@ -60,5 +60,5 @@ abbrev pub goodOf : Typed → List Value
 goodOf (bad k) = []
 goodOf (good vs) = vs
 
-unfoldable pub bodyOf : Layout → List (List ℕ) → Record
-bodyOf l col = recordOf l col (goodOf (valuesOf l col))
+unfoldable pub columnRecord : Layout → List (List ℕ) → Record
+columnRecord l col = recordOf l col (goodOf (valuesOf l col))

@@ -8,7 +8,7 @@ use Rattle.text_lines.specs.Lines.{texts, seps, framed, allowedUpto}
 use Rattle.value_name.specs.declared.MessageType.{MessageType}
 use Rattle.plan.specs.Plans.{planOf, soughtOf}
 use Rattle.plan.specs.declared.Sought.{Sought}
-use Rattle.reader.specs.Messages.{given, rowIn, layoutIn, entriesIn, valuesOf, isBad, bodyOf}
+use Rattle.reader.specs.Messages.{given, rowIn, layoutIn, entriesIn, valuesOf, isBad, columnRecord}
 use Rattle.reader.specs.Refusals.{Refusal, refusal, answer}
 use Rattle.reader.specs.declared.Answer.{Answer}
 use Rattle.record.specs.Records.{badOf}
@@ -28,7 +28,7 @@ use mathlib.Core.Path.{_≡_}
 unfoldable pub valued : Layout → List ℕ → List ℕ → List (List ℕ) → List Refusal
 valued l unit row col =
     refusal 7 (badOf (valuesOf l col)) (isBad (valuesOf l col))
-    ∷ refusal 8 (brokenIn (bodyOf l col)) (ltb 0 (brokenIn (bodyOf l col)))
+    ∷ refusal 8 (brokenIn (columnRecord l col)) (ltb 0 (brokenIn (columnRecord l col)))
     ∷ refusal 9 0 (not (same unit (textAt col 2)))
     ∷ refusal 10 0 (not (same row (rowOf l col)))
     ∷ []
@@ -65,12 +65,12 @@ abbrev pub bodyColumn : MessageType → List ℕ → List (List ℕ)
 bodyColumn t file = column 1 (labelsOf (layoutIn t (given file))) (entriesIn t file)
 
 -- the record of a file
-unfoldable pub bodyIn : MessageType → List ℕ → Record
-bodyIn t file = bodyOf (layoutIn t (given file)) (bodyColumn t file)
+unfoldable pub recordIn : MessageType → List ℕ → Record
+recordIn t file = columnRecord (layoutIn t (given file)) (bodyColumn t file)
 
 -- a file read as a message of a type for a unit
 unfoldable pub messageOf : MessageType → List ℕ → List ℕ → Answer
-messageOf t unit file = answer (reading t unit file) (bodyIn t file)
+messageOf t unit file = answer (reading t unit file) (recordIn t file)
 
 -- ---- files that no refusal of 2 to 4 meets
 
@@ -98,10 +98,10 @@ unfoldable pub planned : Sought → List ℕ → List Refusal
 planned s file =
     refusal 13 (s .detail) (eqb (s .number) 13)
     ∷ refusal 1 0 (eqb (s .number) 1)
-    ∷ reading (s .kind) (unitIn s) file
+    ∷ reading (s .message) (unitIn s) file
 
 unfoldable pub answerAt : Sought → List ℕ → Answer
-answerAt s file = answer (planned s file) (bodyIn (s .kind) file)
+answerAt s file = answer (planned s file) (recordIn (s .message) file)
 
 -- THE DEFINITION: address, plan and file to a record or a refusal
 unfoldable pub readOf : ℕ → ℕ → List ℕ → List ℕ → Answer

@@ -18,10 +18,10 @@ refusal n d b = record { number = n; detail = d; holds = b }
 
 -- an answer: a refusal's number and detail with the all-zero record, or the number 0 with the record
 abbrev pub refused : ℕ → ℕ → Answer
-refused n d = record { number = n; detail = d; body = zeroRecord }
+refused n d = record { number = n; detail = d; content = zeroRecord }
 
 abbrev pub accepted : Record → Answer
-accepted r = record { number = 0; detail = 0; body = r }
+accepted r = record { number = 0; detail = 0; content = r }
 
 -- THE DEFINITION: the first refusal that holds, or else the record
 unfoldable pub answer : List Refusal → Record → Answer
@@ -36,7 +36,7 @@ pub data First : List Refusal → Refusal → Type 0 where
   later : {x y : Refusal} {xs : List Refusal} → y .holds ≡ false → First xs x → First (y ∷ xs) x
 
 -- an answer that is the refusal of the first that holds
-pub record Given (rs : List Refusal) (a : Answer) : Type 0 where
+pub record IsFirst (rs : List Refusal) (a : Answer) : Type 0 where
   pub which : Refusal
   pub first : First rs which
   pub says : a ≡ refused (which .number) (which .detail)

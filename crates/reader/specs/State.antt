@@ -5,12 +5,12 @@ use Rattle.layout.specs.Layouts.{kindsOf, sizeOf}
 use Rattle.layout.specs.Rows.{rowOf}
 use Rattle.layout.specs.declared.Layout.{Layout}
 use Rattle.layout.specs.declared.Layout.the-variants.{Market}
-use Rattle.text_lines.specs.Places.{noSpan, partOf, Holds, Placed, columnIn}
+use Rattle.text_lines.specs.Places.{noSpan, partOf, HoldsText, Placed, columnIn}
 use Rattle.text_lines.specs.declared.Span.{Span}
 use Rattle.value_list.specs.declared.Triple.{Triple}
 use Rattle.value_name.specs.declared.MessageType.{MessageType}
 use Rattle.value_name.specs.declared.MessageType.the-variants.{Cb, Rc, Mg, Eb, Lb, Sr, Vq, Ri, Qr}
-use Rattle.reader.specs.Messages.{valuesOf, isBad, bodyOf}
+use Rattle.reader.specs.Messages.{valuesOf, isBad, columnRecord}
 use Rattle.reader.specs.Reader.{valued, messageOf, readOf}
 use Rattle.reader.specs.Refusals.{refused, accepted, answer}
 use Rattle.reader.specs.declared.Answer.{Answer}
@@ -57,7 +57,7 @@ columnAt l file places = columnIn (sizeOf l) file places
 unfoldable pub continued : List ℕ → List ℕ → Located → Answer
 continued file unit x =
     cond (eqb (x .number) 0)
-    (answer (valued (x .layout) unit (partOf file (x .row)) (columnAt (x .layout) file (x .places))) (bodyOf (x .layout) (columnAt (x .layout) file (x .places))))
+    (answer (valued (x .layout) unit (partOf file (x .row)) (columnAt (x .layout) file (x .places))) (columnRecord (x .layout) (columnAt (x .layout) file (x .places))))
     (refused (x .number) (x .detail))
 
 -- what a file leads to as a message of a type, and at an address of a plan
@@ -89,7 +89,7 @@ finished l col n d cells gradients = cond (eqb n 0) (accepted (recordWith l col 
 
 -- what is judged is refusals 7 to 10 of a unit and a row
 abbrev pub Judges : Layout → List ℕ → List ℕ → List (List ℕ) → ℕ → ℕ → List Cell → List Triple → Type 0
-Judges l unit row col n d cells gradients = finished l col n d cells gradients ≡ answer (valued l unit row col) (bodyOf l col)
+Judges l unit row col n d cells gradients = finished l col n d cells gradients ≡ answer (valued l unit row col) (columnRecord l col)
 
 pub record Values (l : Layout) (unit file : List ℕ) (row : Span) (places : List Span) (x : Reading) : Type 0 where
   pub layout-is : x .layout ≡ l
@@ -107,9 +107,9 @@ concluded file x = finished (x .layout) (columnAt (x .layout) file (x .places)) 
 pub record Reads (ca ioa : ℕ) (plan file : List ℕ) (x : Reading) : Type 0 where
   pub placed : x .number ≡ 0 → Placed (sizeOf (x .layout)) file (x .places)
   pub readable : x .number ≡ 0 → isBad (valuesOf (x .layout) (columnAt (x .layout) file (x .places))) ≡ false
-  pub own-row : x .number ≡ 0 → Holds file (x .row) (rowOf (x .layout) (columnAt (x .layout) file (x .places)))
-  pub body-is : x .number ≡ 0
-      → recordWith (x .layout) (columnAt (x .layout) file (x .places)) (x .cells) (x .gradients) ≡ bodyOf (x .layout) (columnAt (x .layout) file (x .places))
+  pub own-row : x .number ≡ 0 → HoldsText file (x .row) (rowOf (x .layout) (columnAt (x .layout) file (x .places)))
+  pub content-is : x .number ≡ 0
+      → recordWith (x .layout) (columnAt (x .layout) file (x .places)) (x .cells) (x .gradients) ≡ columnRecord (x .layout) (columnAt (x .layout) file (x .places))
   pub answers : concluded file x ≡ readOf ca ioa plan file
 
 -- the bit of `Tipo Comando`, the field 8 of mFRR, in a CB file

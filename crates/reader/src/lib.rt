@@ -24,7 +24,7 @@ ghost use mathlib.Core.Path.{_≡_};
 pub struct Answer {
     pub number: u8,
     pub detail: usize,
-    pub body: Record,
+    pub content: Record,
 }
 
 pub fn refuse(number: u8, detail: usize) -> Answer
@@ -33,17 +33,17 @@ pub fn refuse(number: u8, detail: usize) -> Answer
     Answer {
         number,
         detail,
-        body: record::zero(),
+        content: record::zero(),
     }
 }
 
-fn accept(body: Record) -> Answer
-    ensures { λ r. ⌜ r ≡ accepted body ⌝ }
+fn accept(content: Record) -> Answer
+    ensures { λ r. ⌜ r ≡ accepted content ⌝ }
 {
     Answer {
         number: 0,
         detail: 0,
-        body,
+        content,
     }
 }
 
@@ -172,7 +172,7 @@ fn locate(ca: u32, ioa: u32, plan: &[u8], file: &[u8]) -> Located
     if sought.number != 0 {
         return unplaced(sought.number, sought.detail);
     }
-    let t = sought.kind;
+    let t = sought.message;
     let mut x = walk_file(t, file);
     let unit = sought.unit;
     x.size = sought.size;

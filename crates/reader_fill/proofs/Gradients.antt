@@ -11,8 +11,8 @@ use Rattle.text_lines.proofs.Columns.{column-at}
 use Rattle.text_lines.specs.Places.{partOf, spanAt, columnIn, Placed}
 use Rattle.text_lines.specs.declared.Span.{Span}
 use Rattle.value_list.proofs.Lines.{no-gradients}
-use Rattle.value_list.specs.Forms.{numberIn, oneOf, oneIn, tripleIs, tripleIn, noTriple, gradientsIn}
-use Rattle.value_list.specs.Lists.{cutAt, before, everyOf, counted, someOf}
+use Rattle.value_list.specs.Forms.{amountOf, oneOf, oneIn, tripleIs, tripleIn, noTriple, gradientsIn}
+use Rattle.value_list.specs.Lists.{cutAt, consRead, everyOf, counted, someOf}
 use Rattle.value_list.specs.declared.GradientsRead.{GradientsRead}
 use Rattle.value_list.specs.declared.One.{One}
 use Rattle.value_list.specs.declared.One.the-variants.{No}
@@ -34,18 +34,18 @@ use native.Mathlib.Omega.{arith}
 
 -- ---- a layout without gradients: its text is empty, and none are read
 
-one-part : (o : Option ℤ) → oneOf (counted 3 3 (before o (some []))) ≡ No
-unfolding counted before
+one-part : (o : Option ℤ) → oneOf (counted 3 3 (consRead o (some []))) ≡ No
+unfolding counted consRead
 one-part none = refl
 one-part (some v) = refl
 
 no-triple : oneIn [] ≡ No
 unfolding oneIn someOf everyOf cutAt
-no-triple = one-part (numberIn (trim []))
+no-triple = one-part (amountOf (trim []))
 
 nothing : someOf tripleIn 59 1 16 [] ≡ none
-unfolding someOf everyOf cutAt counted before trim skip skipEnd
-nothing = ap (λ (o : One). counted 1 16 (before (tripleIs o) (some []))) no-triple
+unfolding someOf everyOf cutAt counted consRead trim skip skipEnd
+nothing = ap (λ (o : One). counted 1 16 (consRead (tripleIs o) (some []))) no-triple
 
 pub none-there : (col : List (List ℕ)) (k j : ℕ) → k ≡ j → k ≡ 0
     → record { good = false; list = record { count = 0; values = replicate 16 noTriple } } ≡ gradientsIn (textAt col j)

@@ -9,7 +9,7 @@ use Rattle.text_lines.proofs.Params.{no-param}
 use Rattle.text_lines.proofs.Standing.{place-le}
 use Rattle.text_lines.specs.Entries.{placeOf, entry, entryOf}
 use Rattle.text_lines.specs.Lines.{Param, param, paramOf, isSep}
-use Rattle.text_lines.specs.Places.{Holds, noSpan, partOf}
+use Rattle.text_lines.specs.Places.{HoldsText, noSpan, partOf}
 use Rattle.text_lines.specs.declared.Span.{Span}
 use Rattle.value_name.specs.declared.MessageType.{MessageType}
 use Rattle.value_name.specs.declared.MessageType.the-variants.{Cb, Rc, Mg, Eb, Lb, Sr, Vq, Ri, Qr}
@@ -28,12 +28,12 @@ use native.Mathlib.Omega.{arith}
 
 -- ---- the entry of a parameter
 
-entry-at : (file v : List ℕ) (p : Span) (n : ℕ) → n ≤ 26 → Holds file p v → IsEntry file n p (cond (eqb n 0) none (some (entry n v)))
+entry-at : (file v : List ℕ) (p : Span) (n : ℕ) → n ≤ 26 → HoldsText file p v → IsEntry file n p (cond (eqb n 0) none (some (entry n v)))
 unfolding IsEntry
 entry-at file v p zero h w = refl
 entry-at file v p (suc n) h w = rw (eqb·suc-zero n) (refl, omega arith, h, w)
 
-pub is-entry : (file : List ℕ) (ls : List (List ℕ)) (label v : List ℕ) (p : Span) (k : ℕ) → length ls ≤ 26 → k ≡ placeOf ls label → Holds file p v
+pub is-entry : (file : List ℕ) (ls : List (List ℕ)) (label v : List ℕ) (p : Span) (k : ℕ) → length ls ≤ 26 → k ≡ placeOf ls label → HoldsText file p v
     → IsEntry file k p (entryOf ls (param label v))
 unfolding entryOf
 is-entry file ls label v p k h e w =
@@ -55,7 +55,7 @@ seconds-few Qr = omega arith
 abbrev pub item : ℕ → Bool → ℕ → ℕ → Span → Item
 item end s f g p = record { end = end; separator = s; first = f; second = g; value = p }
 
-pub is-row : (t : MessageType) (file x : List ℕ) (end : ℕ) (s : Bool) (p : Span) → s ≡ isSep (partOf file p) → Holds file p x
+pub is-row : (t : MessageType) (file x : List ℕ) (end : ℕ) (s : Bool) (p : Span) → s ≡ isSep (partOf file p) → HoldsText file p x
     → IsItem t file x 1 (item end s 0 0 p)
 is-row t file x end s p e w = record {
   sep = e ∙ ap isSep (w .holds);
@@ -66,7 +66,7 @@ is-row t file x end s p e w = record {
   second = λ h ne. absurd (ne refl);
 }
 
-pub is-separator : (t : MessageType) (file x : List ℕ) (n end : ℕ) (p : Span) → isSep (partOf file p) ≡ true → Holds file p x
+pub is-separator : (t : MessageType) (file x : List ℕ) (n end : ℕ) (p : Span) → isSep (partOf file p) ≡ true → HoldsText file p x
     → IsItem t file x n (item end true 0 0 p)
 is-separator t file x n end p e w =
     let y : isSep x ≡ true = sym (ap isSep (w .holds)) ∙ e in
@@ -91,7 +91,7 @@ module _ (t : MessageType) (file x : List ℕ) (n end : ℕ) (p : Span) (no-sep 
     second = λ h ne. rw f refl;
   }
 
-  pub is-value : (label v : List ℕ) (f g : ℕ) → paramOf x ≡ some (param label v) → f ≡ placeOf (firstLabels t) label → g ≡ placeOf (secondLabels t) label → Holds file p v
+  pub is-value : (label v : List ℕ) (f g : ℕ) → paramOf x ≡ some (param label v) → f ≡ placeOf (firstLabels t) label → g ≡ placeOf (secondLabels t) label → HoldsText file p v
       → IsItem t file x n (item end false f g p)
   unfolding entryIn
   is-value label v f g e hf hg w = record {
@@ -144,7 +144,7 @@ module _ (t : MessageType) (file : List ℕ) (p : Span) (e : ℕ) (he : e ≡ fi
   value-fits h k = omega (arith, upto-length (is 61) (partOf file p), length-part (p .from) (p .to) file k, he, hl)
 
   pub a-value : (n end : ℕ) (label : List ℕ) (f g : ℕ) (v : Span) → isSep (partOf file p) ≡ false → (n ≡ 1 → ⊥) → label ≡ trim (take e (partOf file p))
-      → g ≡ placeOf (secondLabels t) label → f ≡ placeOf (firstLabels t) label → Holds file v (trim (part (p .from + e + 1) (p .to) file))
+      → g ≡ placeOf (secondLabels t) label → f ≡ placeOf (firstLabels t) label → HoldsText file v (trim (part (p .from + e + 1) (p .to) file))
       → IsItem t file (partOf file p) n (item end false f g v)
   a-value n end label f g v s ne hx hg hf w =
       is-value t file (partOf file p) n end v s ne (trim (take e (partOf file p))) (trim (part (p .from + e + 1) (p .to) file)) f g divided
@@ -222,7 +222,7 @@ no-first Qr k x e h = absurd (omega arith)
 
 -- ---- a line by its place
 
-pub by-place : (t : MessageType) (file x : List ℕ) (n : ℕ) (p : Span) (i : Item) → Holds file p x → IsItem t file (partOf file p) n i → IsItem t file x n i
+pub by-place : (t : MessageType) (file x : List ℕ) (n : ℕ) (p : Span) (i : Item) → HoldsText file p x → IsItem t file (partOf file p) n i → IsItem t file x n i
 by-place t file x n p i w h = subst (λ (y : List ℕ). IsItem t file y n i) (w .holds) h
 
 pub below-one : (t : MessageType) (file x : List ℕ) (n : ℕ) (i : Item) → n ≡ 1 → IsItem t file x 1 i → IsItem t file x n i

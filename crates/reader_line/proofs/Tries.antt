@@ -11,7 +11,7 @@ use Rattle.layout.specs.Layouts.{labelAt}
 use Rattle.text_lines.proofs.Params.{no-param, sep-equals}
 use Rattle.text_lines.proofs.Steps.{run-length}
 use Rattle.text_lines.specs.Lines.{Param, param, paramOf, isSep}
-use Rattle.text_lines.specs.Places.{Holds, notPlain, plainRun}
+use Rattle.text_lines.specs.Places.{HoldsText, notPlain, plainRun}
 use Rattle.text_lines.specs.declared.Span.{Span}
 use Rattle.value_name.specs.declared.MessageType.{MessageType}
 use Rattle.text.proofs.Cuts.{tail, upto-take}
@@ -61,7 +61,7 @@ module _ (t : MessageType) (file : List ℕ) (at n h : ℕ) (x : Expected) (hx :
   expected-end end k r e =
       omega (arith, e, r, run-past label (drop at file) h begins (tidy-parts label (good .is-tidy) .0), ap plainRun (drop-drop h at file))
 
-  pub as-expected : (end : ℕ) (v : Span) → end ≡ at + h + plainRun (drop (at + h) file) → (n ≡ 1 → ⊥) → Holds file v (trim (part (at + h) end file))
+  pub as-expected : (end : ℕ) (v : Span) → end ≡ at + h + plainRun (drop (at + h) file) → (n ≡ 1 → ⊥) → HoldsText file v (trim (part (at + h) end file))
       → IsItem t file (trim (part at end file)) n (item end false (x .first) (x .second) v)
   as-expected end v e ne w =
       let whole = line-is file at end (expected-end end (plainRun (drop (at + h) file)) refl e) in
@@ -97,7 +97,7 @@ module _ (t : MessageType) (file : List ℕ) (at n : ℕ) (x : Expected) (hx : I
     pub run-inside : at + h + k ≤ length file
     run-inside = omega (arith, run-is, run-length (drop (at + h) file), length-drop (at + h) file, head-inside)
 
-    pub met : 0 < h → (v : Span) → Holds file v (trim (part (at + h) (at + h + k) file))
+    pub met : 0 < h → (v : Span) → HoldsText file v (trim (part (at + h) (at + h + k) file))
         → (at + h + k ≡ at + plainRun (drop at file))
         × IsItem t file (trim (part at (at + h + k) file)) n (item (at + h + k) false (x .first) (x .second) v)
     met s v w =

@@ -7,7 +7,7 @@ use Rattle.layout.specs.Layouts.{labelsOf, labelAt, layoutOf}
 use Rattle.layout.specs.declared.Layout.the-variants.{Mfrr}
 use Rattle.text_lines.specs.Entries.{Entry, entryOf, placeOf}
 use Rattle.text_lines.specs.Lines.{Param, paramOf, isSep}
-use Rattle.text_lines.specs.Places.{Holds}
+use Rattle.text_lines.specs.Places.{HoldsText}
 use Rattle.text_lines.specs.declared.Span.{Span}
 use Rattle.value_name.specs.declared.MessageType.{MessageType}
 use Rattle.value_name.specs.declared.MessageType.the-variants.{Cb, Rc, Mg, Eb, Lb, Sr, Vq, Ri, Qr}
@@ -70,12 +70,12 @@ entryIn ls x = ifParam ls (paramOf x)
 -- the field k with its value at a place is this entry, or 0 is none
 unfoldable pub IsEntry : List ℕ → ℕ → Span → Option Entry → Type 0
 IsEntry file k p none = k ≡ 0
-IsEntry file k p (some e) = (k ≡ e .at) × (1 ≤ e .at) × (e .at ≤ 26) × Holds file p (e .value)
+IsEntry file k p (some e) = (k ≡ e .at) × (1 ≤ e .at) × (e .at ≤ 26) × HoldsText file p (e .value)
 
 -- the line with the trimmed text x, below n separators. The row is the line below one separator; it has no field
 pub record IsItem (t : MessageType) (file x : List ℕ) (n : ℕ) (i : Item) : Type 0 where
   pub sep : i .separator ≡ isSep x
-  pub row : isSep x ≡ false → n ≡ 1 → Holds file (i .value) x
+  pub row : isSep x ≡ false → n ≡ 1 → HoldsText file (i .value) x
   pub no-field : (isSep x ≡ true) → (i .first ≡ 0) × (i .second ≡ 0)
   pub no-row-field : n ≡ 1 → (i .first ≡ 0) × (i .second ≡ 0)
   pub first : isSep x ≡ false → (n ≡ 1 → ⊥) → IsEntry file (i .first) (i .value) (entryIn (firstLabels t) x)

@@ -1,7 +1,7 @@
 -- The two half-bands of SR: the value cut at its first `;`, by places. Assumes nothing.
 use Prim.Native.Nat.{ℕ, _+_, _-_, _≤_}
 use Rattle.layout.specs.Rows.{tailText}
-use Rattle.text_lines.specs.Places.{Holds, partOf}
+use Rattle.text_lines.specs.Places.{HoldsText, partOf}
 use Rattle.text_lines.specs.declared.Span.{Span}
 use Rattle.reader_row.proofs.Joins.{step-fits, step-on, step-stop}
 use Rattle.reader_row.specs.Steps.{stepOf}
@@ -45,7 +45,7 @@ module _ (file : List ℕ) (from to n : ℕ) (h : from ≤ to) (l : to ≤ lengt
       let k : length value ≤ firstOf 59 value + 1 = omega (arith, c, length-part from to file l) in
       sym (past-drop (is 59) value ∙ drop-of-length-le value k)
 
-  module _ (at end : ℕ) (a : at ≤ end) (b : end ≤ length file) (q : Span) (w : Holds file q (trim (part from (from + n) file))) (r : Step)
+  module _ (at end : ℕ) (a : at ≤ end) (b : end ≤ length file) (q : Span) (w : HoldsText file q (trim (part from (from + n) file))) (r : Step)
       (e : r ≡ stepOf file at end (59 ∷ partOf file q)) where
     both : tailText (trim (upto (is 59) value) ∷ trim (past (is 59) value) ∷ []) ≡ (59 ∷ partOf file q) ++ (59 ∷ trim (past (is 59) value))
     both =
@@ -62,7 +62,7 @@ module _ (file : List ℕ) (from to n : ℕ) (h : from ≤ to) (l : to ≤ lengt
       half-on : stepOf file m end (59 ∷ trim (past (is 59) value)) ≡ stepOf file at end (tailText (trim (upto (is 59) value) ∷ trim (past (is 59) value) ∷ []))
       half-on = step-on file at end (59 ∷ partOf file q) r e (59 ∷ trim (past (is 59) value)) m g ∙ ap (stepOf file at end) (sym both)
 
-      pub both-on : (q′ : Span) → Holds file q′ (trim (part (from + n + 1) to file)) → s ≡ stepOf file m end (59 ∷ partOf file q′)
+      pub both-on : (q′ : Span) → HoldsText file q′ (trim (part (from + n + 1) to file)) → s ≡ stepOf file m end (59 ∷ partOf file q′)
           → s ≡ stepOf file at end (tailText (trim (upto (is 59) value) ∷ trim (past (is 59) value) ∷ []))
       both-on q′ v f = f ∙ ap (λ (t : List ℕ). stepOf file m end (59 ∷ t)) (v .holds ∙ ap trim after-mark) ∙ half-on
 

@@ -9,7 +9,7 @@ use Rattle.text_lines.specs.Lines.{allowedUpto, texts, framed}
 use Rattle.value_name.specs.declared.MessageType.{MessageType}
 use Rattle.reader.proofs.Firsts.{NoneHolds, next, none-given, accepted-none, reading-numbered}
 use Rattle.reader.specs.Messages.{given, rowIn, layoutIn, entriesIn, valuesOf, isBad}
-use Rattle.reader.specs.Reader.{isThere, valued, labelled, reading, bodyColumn, bodyIn, messageOf}
+use Rattle.reader.specs.Reader.{isThere, valued, labelled, reading, bodyColumn, recordIn, messageOf}
 use Rattle.reader.specs.Refusals.{Refusal, accepted as taken}
 use Rattle.record_rules.specs.Rules.{brokenIn}
 use Rattle.text.proofs.Cuts.{same-true}
@@ -32,10 +32,10 @@ pub record Accepted (t : MessageType) (unit file : List ℕ) : Type 0 where
   pub once : again [] (entriesIn t file) ≡ none
   pub complete : missing 1 (labelsOf (layoutIn t (given file))) (entriesIn t file) ≡ 0
   pub values : isBad (valuesOf (layoutIn t (given file)) (bodyColumn t file)) ≡ false
-  pub rules : brokenIn (bodyIn t file) ≡ 0
+  pub rules : brokenIn (recordIn t file) ≡ 0
   pub unit-is : unit ≡ textAt (bodyColumn t file) 2
   pub row-is : rowIn file ≡ rowOf (layoutIn t (given file)) (bodyColumn t file)
-  pub answered : messageOf t unit file ≡ taken (bodyIn t file)
+  pub answered : messageOf t unit file ≡ taken (recordIn t file)
 
 top : {x : Refusal} {xs : List Refusal} → NoneHolds (x ∷ xs) → x .holds ≡ false
 top (next e n) = e
@@ -56,14 +56,14 @@ not-other s t e = same-true s t (not-false (same s t) e)
 module _ (t : MessageType) (unit file : List ℕ) (h : messageOf t unit file .number ≡ 0) where
   none-holds : NoneHolds (reading t unit file)
   unfolding messageOf
-  none-holds = accepted-none (reading t unit file) (bodyIn t file) (reading-numbered t unit file) h
+  none-holds = accepted-none (reading t unit file) (recordIn t file) (reading-numbered t unit file) h
 
-  pub record-is : messageOf t unit file ≡ taken (bodyIn t file)
+  pub record-is : messageOf t unit file ≡ taken (recordIn t file)
   unfolding messageOf
-  record-is = none-given (bodyIn t file) none-holds
+  record-is = none-given (recordIn t file) none-holds
 
   pub accepted : Accepted t unit file
-  unfolding reading labelled valued bodyIn
+  unfolding reading labelled valued recordIn
   accepted =
       let n2 = none-holds in
       let n3 = below n2 in
@@ -82,7 +82,7 @@ module _ (t : MessageType) (unit file : List ℕ) (h : messageOf t unit file .nu
         once = not-there (again [] (entriesIn t file)) (top n5);
         complete = not-some (missing 1 (labelsOf (layoutIn t (given file))) (entriesIn t file)) (top n6);
         values = top n7;
-        rules = not-some (brokenIn (bodyIn t file)) (top n8);
+        rules = not-some (brokenIn (recordIn t file)) (top n8);
         unit-is = not-other unit (textAt (bodyColumn t file) 2) (top n9);
         row-is = not-other (rowIn file) (rowOf (layoutIn t (given file)) (bodyColumn t file)) (top (below n9));
         answered = record-is;

@@ -13,8 +13,8 @@ use Rattle.text_lines.specs.Order.{Perm, done, keep, swap, both}
 use Rattle.text_lines.specs.Lines.{Param, allowed, allowedUpto, lines, textOf, texts, seps, inside, outside, framed, paramOf, params}
 use Rattle.value_name.specs.declared.MessageType.{MessageType}
 use Rattle.value_name.specs.declared.MessageType.the-variants.{Cb, Rc, Mg, Eb, Lb, Sr, Vq, Ri, Qr}
-use Rattle.reader.specs.Messages.{given, rowIn, isKindOfCommand, layoutIn, entriesIn, bodyOf}
-use Rattle.reader.specs.Reader.{Clean, Sound, labelled, reading, bodyIn, messageOf}
+use Rattle.reader.specs.Messages.{given, rowIn, isKindOfCommand, layoutIn, entriesIn, columnRecord}
+use Rattle.reader.specs.Reader.{Clean, Sound, labelled, reading, recordIn, messageOf}
 use Rattle.reader.specs.Refusals.{refusal, answer}
 use Rattle.reader.specs.declared.Answer.{Answer}
 use Rattle.text.proofs.Cuts.{upto-seam, past-seam, upto-all, any-append, all-none}
@@ -39,20 +39,20 @@ clean-of s = record { some-bytes = s .some-bytes; not-long = s .not-long; clean 
 -- what is left to judge of them
 clean-reading : (t : MessageType) (unit file : List ℕ) → Clean file
     → messageOf t unit file
-    ≡ answer (refusal 4 (seps (texts file)) (not (framed (texts file))) ∷ labelled (layoutIn t (given file)) unit (rowIn file) (entriesIn t file)) (bodyIn t file)
+    ≡ answer (refusal 4 (seps (texts file)) (not (framed (texts file))) ∷ labelled (layoutIn t (given file)) unit (rowIn file) (entriesIn t file)) (recordIn t file)
 unfolding messageOf reading answer
 clean-reading t unit file c =
     rw (le-leb 1 (length file) (c .some-bytes), le-leb (length file) 8192 (c .not-long), c .clean, le-ltb (length file) (length file) (le-refl (length file)))
 
 sound-reading : (t : MessageType) (unit file : List ℕ) → Sound file
-    → messageOf t unit file ≡ answer (labelled (layoutIn t (given file)) unit (rowIn file) (entriesIn t file)) (bodyIn t file)
+    → messageOf t unit file ≡ answer (labelled (layoutIn t (given file)) unit (rowIn file) (entriesIn t file)) (recordIn t file)
 unfolding answer
 sound-reading t unit file s = clean-reading t unit file (clean-of s) ∙ rw (s .frame)
 
 -- ---- ordered: the judgment depends on the entries by what stands and by the values alone
 
 labelled-same : (l : Layout) (unit row : List ℕ) {es gs : List Entry} → Perm es gs → again [] es ≡ none
-    → answer (labelled l unit row es) (bodyOf l (column 1 (labelsOf l) es)) ≡ answer (labelled l unit row gs) (bodyOf l (column 1 (labelsOf l) gs))
+    → answer (labelled l unit row es) (columnRecord l (column 1 (labelsOf l) es)) ≡ answer (labelled l unit row gs) (columnRecord l (column 1 (labelsOf l) gs))
 unfolding labelled
 labelled-same l unit row {es} {gs} p h =
     let a = agree p in
@@ -65,11 +65,11 @@ pub same-reading : (t : MessageType) (unit f g : List ℕ) → Sound f → Sound
     → Perm (entriesIn t f) (entriesIn t g)
     → again [] (entriesIn t f) ≡ none
     → messageOf t unit f ≡ messageOf t unit g
-unfolding bodyIn
+unfolding recordIn
 same-reading t unit f g sf sg r l p h =
     sound-reading t unit f sf
     ∙ labelled-same (layoutIn t (given f)) unit (rowIn f) p h
-    ∙ ap₂ (λ (m : Layout) (row : List ℕ). answer (labelled m unit row (entriesIn t g)) (bodyOf m (column 1 (labelsOf m) (entriesIn t g)))) l r
+    ∙ ap₂ (λ (m : Layout) (row : List ℕ). answer (labelled m unit row (entriesIn t g)) (columnRecord m (column 1 (labelsOf m) (entriesIn t g)))) l r
     ∙ sym (sound-reading t unit g sg)
 
 any-perm : {A : Type 0} (p : A → Bool) {xs ys : List A} → Perm xs ys → any p xs ≡ any p ys
@@ -282,14 +282,14 @@ allowed-of (w ∷ ws) h =
 
 -- an answer depends on a clean file by its texts alone
 pub texts-decide : (t : MessageType) (unit f g : List ℕ) → texts f ≡ texts g → Clean f → Clean g → messageOf t unit f ≡ messageOf t unit g
-unfolding bodyIn entriesIn given rowIn
+unfolding recordIn entriesIn given rowIn
 texts-decide t unit f g e cf cg = clean-reading t unit f cf ∙ ap byTexts e ∙ sym (clean-reading t unit g cg)
   where
     byTexts : List (List ℕ) → Answer
     byTexts ts =
         let ps = params (outside ts) in
         let l = layoutIn t ps in
-        answer (refusal 4 (seps ts) (not (framed ts)) ∷ labelled l unit (getD (inside ts) 0 []) (entries (labelsOf l) ps)) (bodyOf l (column 1 (labelsOf l) (entries (labelsOf l) ps)))
+        answer (refusal 4 (seps ts) (not (framed ts)) ∷ labelled l unit (getD (inside ts) 0 []) (entries (labelsOf l) ps)) (columnRecord l (column 1 (labelsOf l) (entries (labelsOf l) ps)))
 
 pub ends-alike : (t : MessageType) (unit f g : List ℕ) → texts f ≡ texts g → Sound f → Sound g → messageOf t unit f ≡ messageOf t unit g
 ends-alike t unit f g e sf sg = texts-decide t unit f g e (clean-of sf) (clean-of sg)

@@ -1,7 +1,7 @@
 -- Document 01, "The program": its message at its plan gives its record, and wrong inputs, at least one for each of the reader's refusals, are refused
 -- with their number and detail. By computation.
 use Prim.Native.Nat.{ℕ}
-use Rattle.value_date.specs.Date.{fitsByte, shaped, fieldsOf as dateFields, leap, daysIn, isReal, dateOf, daysOf, passed, clockOf, instantOf}
+use Rattle.value_date.specs.Date.{fitsByte, shaped, dateParts as dateFields, leap, daysIn, isReal, dateOf, daysOf, passed, clockOf, instantOf}
 use Rattle.value_date.specs.declared.Date.{Date}
 use Rattle.layout.specs.Fields.{rc}
 use Rattle.layout.specs.Layouts.{fieldsOf, labelsOf, kindsOf}
@@ -11,10 +11,10 @@ use Rattle.text_lines.specs.Entries.{placeOf, entryOf, entries, stands, again, 
 use Rattle.text_lines.specs.Lines.{allowed, allowedUpto, lines, textOf, texts, isSep, seps, mark, marked, ifInside, ifOutside, inside, outside, framed, paramOf, params}
 use Rattle.value_name.specs.Names.{exactly, identifierOf, isUnit, sequenceOf}
 use Rattle.text_keyline.specs.Keylines.{lineOf, wholeUpto, numberAt}
-use Rattle.plan_row.specs.Rows.{unitAt, typeFrom, typeAt, rowOf as rowAt}
+use Rattle.plan_row.specs.Rows.{unitAt, typeFrom, typeAt, planRowOf as rowAt}
 use Rattle.plan.specs.Plans.{planFrom, planOf, lookUp, soughtOf}
-use Rattle.reader.specs.Messages.{given, rowIn, layoutIn, entriesIn, valuesOf, bodyOf}
-use Rattle.reader.specs.Reader.{valued, labelled, reading, bodyIn, planned, answerAt, readOf}
+use Rattle.reader.specs.Messages.{given, rowIn, layoutIn, entriesIn, valuesOf, columnRecord}
+use Rattle.reader.specs.Reader.{valued, labelled, reading, recordIn, planned, answerAt, readOf}
 use Rattle.reader.specs.Refusals.{refused, accepted, answer}
 use Rattle.reader.specs.declared.Answer.{Answer}
 use Rattle.record.specs.Records.{joined, typed, cellsOf, fieldOf, recordOf}
@@ -135,5 +135,5 @@ cases =
 
 -- every input of the table is answered as it says
 pub right : map (λ (c : Case). readOf (c .ca) (c .ioa) (c .plan) (c .file)) cases ≡ map (λ (c : Case). c .answer) cases
-unfolding fitsByte shaped dateFields leap daysIn isReal dateOf daysOf passed clockOf instantOf rc fieldsOf labelsOf kindsOf rowFields piecesOf tailText rowText rowOf placeOf entryOf entries stands again missing valueAt column allowed allowedUpto lines textOf texts isSep seps mark marked ifInside ifOutside inside outside framed paramOf params exactly identifierOf isUnit sequenceOf lineOf wholeUpto numberAt unitAt typeFrom typeAt rowAt planFrom planOf lookUp soughtOf given rowIn layoutIn entriesIn valuesOf bodyOf valued labelled reading bodyIn planned answerAt readOf answer joined typed cellsOf fieldOf recordOf keptIn inOrder rulesOf lowest brokenIn same starts upto past any all skip skipEnd trim numberFrom digitsOf count sift roomOf shapeOf valueOf cases
+unfolding fitsByte shaped dateFields leap daysIn isReal dateOf daysOf passed clockOf instantOf rc fieldsOf labelsOf kindsOf rowFields piecesOf tailText rowText rowOf placeOf entryOf entries stands again missing valueAt column allowed allowedUpto lines textOf texts isSep seps mark marked ifInside ifOutside inside outside framed paramOf params exactly identifierOf isUnit sequenceOf lineOf wholeUpto numberAt unitAt typeFrom typeAt rowAt planFrom planOf lookUp soughtOf given rowIn layoutIn entriesIn valuesOf columnRecord valued labelled reading recordIn planned answerAt readOf answer joined typed cellsOf fieldOf recordOf keptIn inOrder rulesOf lowest brokenIn same starts upto past any all skip skipEnd trim numberFrom digitsOf count sift roomOf shapeOf valueOf cases
 right = refl

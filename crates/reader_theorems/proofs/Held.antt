@@ -7,8 +7,8 @@ use Rattle.layout.proofs.Labels.{kinds-length, kind-at}
 use Rattle.layout.specs.Layouts.{kindsOf, noKind, typeOf}
 use Rattle.layout.specs.Rows.{textAt}
 use Rattle.layout.specs.declared.Layout.{Layout}
-use Rattle.value_list.specs.Forms.{numberIn, oneOf, oneIn, tripleIs, noTriple, gradientsIn, gradientsOf, readOf}
-use Rattle.value_list.specs.Lists.{cutAt, before, everyOf, counted, someOf}
+use Rattle.value_list.specs.Forms.{amountOf, oneOf, oneIn, tripleIs, noTriple, gradientsIn, gradientsOf, gradientsRead}
+use Rattle.value_list.specs.Lists.{cutAt, consRead, everyOf, counted, someOf}
 use Rattle.value_list.specs.declared.One.{One}
 use Rattle.value_list.specs.declared.One.the-variants.{No}
 use Rattle.value_name.proofs.RoundTrip.{unit-size}
@@ -142,18 +142,18 @@ map-at f e (v ∷ vs) zero = refl
 map-at f e (v ∷ vs) (suc j) = map-at f e vs j
 
 -- an empty text is one part, and a triple has three
-one-part : (o : Option ℤ) → oneOf (counted 3 3 (before o (some []))) ≡ No
-unfolding counted before
+one-part : (o : Option ℤ) → oneOf (counted 3 3 (consRead o (some []))) ≡ No
+unfolding counted consRead
 one-part none = refl
 one-part (some v) = refl
 
 no-triple : oneIn [] ≡ No
 unfolding oneIn someOf everyOf cutAt
-no-triple = one-part (numberIn (trim []))
+no-triple = one-part (amountOf (trim []))
 
 no-triples : gradientsIn [] .list .values ≡ replicate 16 noTriple
-unfolding gradientsIn readOf gradientsOf someOf everyOf cutAt counted before trim skip skipEnd
-no-triples = ap (λ (o : One). readOf (counted 1 16 (before (tripleIs o) (some []))) .list .values) no-triple
+unfolding gradientsIn gradientsRead gradientsOf someOf everyOf cutAt counted consRead trim skip skipEnd
+no-triples = ap (λ (o : One). gradientsRead (counted 1 16 (consRead (tripleIs o) (some []))) .list .values) no-triple
 
 pub no-gradients : (col : List (List ℕ)) (k : ℕ) → k ≡ 0 → gradientsIn (textAt col k) .list .values ≡ replicate 16 noTriple
 no-gradients col k e = ap (λ (n : ℕ). gradientsIn (textAt col n) .list .values) e ∙ no-triples

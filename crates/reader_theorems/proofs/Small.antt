@@ -12,11 +12,11 @@ use Rattle.text_lines.specs.Lines.{Param, allowedUpto, lineStep, lines, textOf,
 use Rattle.value_list.specs.declared.Triple.{Triple}
 use Rattle.value_name.specs.declared.MessageType.{MessageType}
 use Rattle.text_keyline.specs.Keylines.{below}
-use Rattle.plan_row.specs.Rows.{Row, caAt, ioaAt, unitAt, typeAt, isAt, RowRead, named, begun, rowOf as rowAt}
-use Rattle.plan.specs.Plans.{Plan, rows, wrong, after, planFrom, planOf, lookUp, soughtOf}
+use Rattle.plan_row.specs.Rows.{Row, caAt, ioaAt, unitAt, typeAt, isAt, RowRead, rowNamed, begun, planRowOf as rowAt}
+use Rattle.plan.specs.Plans.{Plan, rows, wrong, onward, planFrom, planOf, lookUp, soughtOf}
 use Rattle.plan_row.specs.Rows.RowRead.{good as goodRow, bad as badRow}
-use Rattle.reader.specs.Messages.{given, rowIn, layoutIn, entriesIn, valuesOf, isBad, bodyOf}
-use Rattle.reader.specs.Reader.{isThere, numberOr, valued, labelled, reading, bodyIn, unitIn, planned, answerAt, readOf}
+use Rattle.reader.specs.Messages.{given, rowIn, layoutIn, entriesIn, valuesOf, isBad, columnRecord}
+use Rattle.reader.specs.Reader.{isThere, numberOr, valued, labelled, reading, recordIn, unitIn, planned, answerAt, readOf}
 use Rattle.reader.specs.Refusals.{Refusal, refusal, answer}
 use Rattle.record.specs.Records.{Typed, joined, typed, badOf}
 use Rattle.record.specs.Records.Typed.{bad, good}
@@ -115,7 +115,7 @@ unfolding valued
 valued-small l unit row col r =
     detail-step 7 (badOf (valuesOf l col)) (isBad (valuesOf l col)) _ r (λ e. omega (arith, bad-le l col))
     (λ e.
-    detail-step 8 (brokenIn (bodyOf l col)) (ltb 0 (brokenIn (bodyOf l col))) _ r (λ e. omega (arith, broken-le (bodyOf l col)))
+    detail-step 8 (brokenIn (columnRecord l col)) (ltb 0 (brokenIn (columnRecord l col))) _ r (λ e. omega (arith, broken-le (columnRecord l col)))
     (λ e.
     detail-step 9 0 (not (same unit (textAt col 2))) _ r (λ e. omega arith)
     (λ e. detail-step 10 0 (not (same row (rowOf l col))) [] r (λ e. omega arith) (λ e. taken-small r))))
@@ -189,7 +189,7 @@ abbrev badLine : RowRead → ℕ
 badLine (goodRow r) = 0
 badLine (badRow k) = k
 
-named-le : (c i : ℕ) (u : Option (List ℕ)) (t : Option MessageType) → badLine (named c i u t) ≤ 3
+named-le : (c i : ℕ) (u : Option (List ℕ)) (t : Option MessageType) → badLine (rowNamed c i u t) ≤ 3
 named-le c i none t = omega arith
 named-le c i (some u) none = omega arith
 named-le c i (some u) (some t) = omega arith
@@ -203,7 +203,7 @@ row-le : (above : List Row) (s : List ℕ) → badLine (rowAt above s) ≤ 3
 unfolding rowAt
 row-le above s = begun-le above (caAt s) (ioaAt (below s)) (unitAt (below (below s))) (typeAt (below (below (below s))))
 
-after-le : (n m : ℕ) (r : RowRead) (next : Row → Plan) → badLine r ≤ 3 → n + 3 ≤ m → ((x : Row) → wrongOf (next x) ≤ m) → wrongOf (after n r next) ≤ m
+after-le : (n m : ℕ) (r : RowRead) (next : Row → Plan) → badLine r ≤ 3 → n + 3 ≤ m → ((x : Row) → wrongOf (next x) ≤ m) → wrongOf (onward n r next) ≤ m
 after-le n m (goodRow r) next h k f = f r
 after-le n m (badRow j) next h k f = omega arith
 
@@ -216,7 +216,7 @@ unfolding planFrom
 from-le zero n above s = wrong-cond (eqb (length s) 0) above (wrong n) (n + 4 * 0) (omega arith)
 from-le (suc room) n above s =
     let next : Row → Plan = λ x. planFrom room (n + 4) (x ∷ above) (below (below (below (below s)))) in
-    wrong-cond (eqb (length s) 0) above (after n (rowAt above s) next) (n + 4 * suc room)
+    wrong-cond (eqb (length s) 0) above (onward n (rowAt above s) next) (n + 4 * suc room)
     (after-le n (n + 4 * suc room) (rowAt above s) next (row-le above s) (omega arith)
     (λ x. omega (arith, from-le room (n + 4) (x ∷ above) (below (below (below (below s)))))))
 
@@ -240,12 +240,12 @@ pub detail-small : (ca ioa : ℕ) (plan file : List ℕ) → readOf ca ioa plan 
 unfolding readOf answerAt planned
 detail-small ca ioa plan file =
     let s = soughtOf ca ioa (planOf plan) in
-    let r = bodyIn (s .kind) file in
+    let r = recordIn (s .message) file in
     detail-step 13 (s .detail) (eqb (s .number) 13) _ r (λ e. omega (arith, sought-le ca ioa (planOf plan), plan-le plan))
-    (λ e. detail-step 1 0 (eqb (s .number) 1) _ r (λ e. omega arith) (λ e. reading-small (s .kind) (unitIn s) file r))
+    (λ e. detail-step 1 0 (eqb (s .number) 1) _ r (λ e. omega arith) (λ e. reading-small (s .message) (unitIn s) file r))
 
 pub number-small : (ca ioa : ℕ) (plan file : List ℕ) → readOf ca ioa plan file .number ≤ 13
 unfolding readOf answerAt planned reading labelled valued all
 number-small ca ioa plan file =
     let s = soughtOf ca ioa (planOf plan) in
-    numbers-low (planned s file) (bodyIn (s .kind) file) refl
+    numbers-low (planned s file) (recordIn (s .message) file) refl

@@ -6,7 +6,7 @@ use Rattle.text_lines.proofs.Standing.{stands-yes, stands-other, value-old, val
 use Rattle.text_lines.specs.Entries.{Entry, entryOf, placeOf, stands, again}
 use Rattle.text_lines.specs.Lines.{Param, paramOf}
 use Rattle.text_lines.specs.Mask.{bit}
-use Rattle.text_lines.specs.Places.{Holds, noSpan}
+use Rattle.text_lines.specs.Places.{HoldsText, noSpan}
 use Rattle.text_lines.specs.declared.Span.{Span}
 use Rattle.text.proofs.Tests.{by-test}
 use Rattle.text.specs.Lists.{onto}
@@ -80,7 +80,7 @@ module _ (file : List ℕ) (ls : List (List ℕ)) (m : Marks) (spans : List Span
         }
 
     -- a field that did not: its bit is set, and its place kept
-    note-fresh : e .at ≤ 26 → Holds file p (e .value) → stands (e .at) es ≡ false
+    note-fresh : e .at ≤ 26 → HoldsText file p (e .value) → stands (e .at) es ≡ false
         → Fields file ls (notedOf m (e .at) .marks) (set spans (notedOf m (e .at) .into) p) (es ++ e ∷ [])
     unfolding notedOf
     note-fresh l v t =

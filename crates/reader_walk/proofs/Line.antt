@@ -5,7 +5,7 @@ use Rattle.reader_line.specs.declared.Item.{Item}
 use Rattle.text_lines.proofs.Standing.{sift-snoc, first-old, first-new, inside-here, inside-not, outside-here, outside-not}
 use Rattle.text_lines.specs.Entries.{Entry}
 use Rattle.text_lines.specs.Lines.{Marked, mark, ifInside, ifOutside, isSep}
-use Rattle.text_lines.specs.Places.{Holds}
+use Rattle.text_lines.specs.Places.{HoldsText}
 use Rattle.text_lines.specs.declared.Span.{Span}
 use Rattle.value_name.specs.declared.MessageType.{MessageType}
 use Rattle.text.proofs.Tests.{by-test, by-eq}
@@ -118,7 +118,7 @@ module _ (t : MessageType) (file : List ℕ) (f : Frame) (m : Marks) (spans : Li
       }
 
   -- the row is the first of the lines between the separators
-  row-more : Holds file (i .value) x → Holds file (cond (eqb (f .inside) 0) (i .value) (f .row)) (getD (sift ifInside done ++ x ∷ []) 0 [])
+  row-more : HoldsText file (i .value) x → HoldsText file (cond (eqb (f .inside) 0) (i .value) (f .row)) (getD (sift ifInside done ++ x ∷ []) 0 [])
   row-more v =
       by-eq (f .inside) 0
       (λ z. rw (eq-eqb (f .inside) 0 z, first-new (sift ifInside done) x (sym (w .inside) ∙ z)) v)

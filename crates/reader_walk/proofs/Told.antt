@@ -5,7 +5,7 @@ use Rattle.reader_line.specs.Items.{ifParam, entryIn, firstLabels, secondLabels
 use Rattle.text_lines.proofs.Bits.{seen-missing}
 use Rattle.text_lines.specs.Entries.{Entry, entryOf, entries, stands, again, missing, valueAt, column}
 use Rattle.text_lines.specs.Lines.{Param, paramOf, params, inside, outside, framed, texts, allowedUpto}
-use Rattle.text_lines.specs.Places.{Placed, noSpan, partOf, spanAt, columnIn, Holds}
+use Rattle.text_lines.specs.Places.{Placed, noSpan, partOf, spanAt, columnIn, HoldsText}
 use Rattle.text_lines.specs.declared.Span.{Span}
 use Rattle.value_name.specs.declared.MessageType.{MessageType}
 use Rattle.text.proofs.Tests.{by-test, by-eq, and-parts}
@@ -43,7 +43,7 @@ module _ (t : MessageType) (file : List ℕ) (r : Found) (w : Whole t file r) (a
   unfolding framed inside
   framed-by = ap₂ (λ (a b : ℕ). eqb a 2 && eqb b 1) (sym (w .seps all-allowed)) (sym (w .lines all-allowed .inside))
 
-  pub row-by : framed (texts file) ≡ true → Holds file (r .frame .row) (getD (inside (texts file)) 0 [])
+  pub row-by : framed (texts file) ≡ true → HoldsText file (r .frame .row) (getD (inside (texts file)) 0 [])
   unfolding inside
   row-by h =
       let one : r .frame .inside ≡ 1 = eqb-true (r .frame .inside) 1 (and-parts (eqb (r .frame .seps) 2) (eqb (r .frame .inside) 1) (sym framed-by ∙ h) .1) in
@@ -105,7 +105,7 @@ module _ (file : List ℕ) (ls : List (List ℕ)) (m : Marks) (spans : List Span
   missing-by = omega (arith, seen-missing ls es, ap ones (f .seen))
 
   module _ (none-missing : missing 1 ls es ≡ 0) where
-    placed : (k : ℕ) → 1 ≤ k → k ≤ length ls → Holds file (spanAt spans k) (valueAt k es)
+    placed : (k : ℕ) → 1 ≤ k → k ≤ length ls → HoldsText file (spanAt spans k) (valueAt k es)
     placed k a b = f .value k a b (all-stand 1 ls es none-missing k a (omega arith))
 
     pub placed-by : Placed (length ls) file spans

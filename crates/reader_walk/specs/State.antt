@@ -4,7 +4,7 @@ use Rattle.reader_line.specs.Items.{firstLabels, secondLabels, entryIn}
 use Rattle.text_lines.specs.Entries.{Entry, again, stands, standing, valueAt}
 use Rattle.text_lines.specs.Lines.{Marked, marked, ifInside, ifOutside, seps, texts, allowedUpto}
 use Rattle.text_lines.specs.Mask.{maskOf}
-use Rattle.text_lines.specs.Places.{Holds, spanAt}
+use Rattle.text_lines.specs.Places.{HoldsText, spanAt}
 use Rattle.text_lines.specs.declared.Span.{Span}
 use Rattle.value_name.specs.declared.MessageType.{MessageType}
 use Rattle.text.specs.Lists.{sift}
@@ -55,12 +55,12 @@ pub record Fields (file : List ℕ) (ls : List (List ℕ)) (m : Marks) (spans : 
   pub long : length spans ≡ 27
   pub seen : m .seen ≡ maskOf (standing 1 ls es)
   pub repeat : IsNumber (m .again) (again [] es)
-  pub value : (k : ℕ) → 1 ≤ k → k ≤ length ls → stands k es ≡ true → Holds file (spanAt spans k) (valueAt k es)
+  pub value : (k : ℕ) → 1 ≤ k → k ≤ length ls → stands k es ≡ true → HoldsText file (spanAt spans k) (valueAt k es)
 
 -- after the lines `done`
 pub record Walked (t : MessageType) (file : List ℕ) (f : Frame) (m : Marks) (spans : List Span) (o : Marks) (others : List Span) (done : List Marked) : Type 0 where
   pub inside : f .inside ≡ length (sift ifInside done)
-  pub row : 1 ≤ f .inside → Holds file (f .row) (getD (sift ifInside done) 0 [])
+  pub row : 1 ≤ f .inside → HoldsText file (f .row) (getD (sift ifInside done) 0 [])
   pub first : Fields file (firstLabels t) m spans (sift (entryIn (firstLabels t)) (sift ifOutside done))
   pub second : Fields file (secondLabels t) o others (sift (entryIn (secondLabels t)) (sift ifOutside done))
 

@@ -6,7 +6,7 @@ use Rattle.value_list.specs.declared.Triple.{Triple}
 use Rattle.record.specs.Records.{cell, fieldOf}
 use Rattle.record.specs.declared.Cell.{Cell}
 use Rattle.record_rules.specs.Rules.{inOrder, ramps, updated, profiled, rises, sloped, excluded, limited, banded, quantified, rulesOf, lowest}
-use Rattle.record_voltvar.specs.Table.{table, formOf, lineOf, fits, inTable}
+use Rattle.record_voltvar.specs.Table.{table, formOf, voltVarLine, meets, inTable}
 use Rattle.text.specs.Bytes.{any, all}
 use Rattle.value.specs.declared.Value.{Value}
 use Rattle.value.specs.declared.Value.the-variants.{Blank, When, Amount, Reason, Word, List as Numbers, Triples, Voltage, Change}
@@ -144,28 +144,28 @@ no-quantity = refl
 
 -- row 5: V MAX and a change
 row-five : inTable (vsrif (Word 13) vMax change) ≡ true
-unfolding inTable table lineOf formOf fits any fieldOf
+unfolding inTable table voltVarLine formOf meets any fieldOf
 row-five = refl
 
 -- no row has a number of kV and a change
 kv-and-change : inTable (vsrif (Word 13) kv change) ≡ false
-unfolding inTable table lineOf formOf fits any fieldOf
+unfolding inTable table voltVarLine formOf meets any fieldOf
 kv-and-change = refl
 
 -- row 4, without a state: a number of kV, and no word
 row-four : inTable (vsrif Blank kv Blank) ≡ true
-unfolding inTable table lineOf formOf fits any fieldOf
+unfolding inTable table voltVarLine formOf meets any fieldOf
 row-four = refl
 
 word-in-four : inTable (vsrif Blank vMax Blank) ≡ false
-unfolding inTable table lineOf formOf fits any fieldOf
+unfolding inTable table voltVarLine formOf meets any fieldOf
 word-in-four = refl
 
 -- ---- the lowest broken rule
 
 -- rules 1 and 8 are broken
 lowest-one : lowest (rulesOf VoltVar (after 2 (at 10 true ∷ at 10 true ∷ [])) []) ≡ 1
-unfolding lowest rulesOf inOrder inTable table lineOf formOf fits any fieldOf instantOf clockOf passed daysOf daysIn leap
+unfolding lowest rulesOf inOrder inTable table voltVarLine formOf meets any fieldOf instantOf clockOf passed daysOf daysIn leap
 lowest-one = refl
 
 -- rule 6 alone is
@@ -174,5 +174,5 @@ unfolding lowest rulesOf inOrder limited fieldOf instantOf clockOf passed daysOf
 lowest-six = refl
 
 none-broken : lowest (rulesOf VoltVar (vsrif (Word 13) vMax change) []) ≡ 0
-unfolding lowest rulesOf inOrder inTable table lineOf formOf fits any fieldOf instantOf clockOf passed daysOf daysIn leap
+unfolding lowest rulesOf inOrder inTable table voltVarLine formOf meets any fieldOf instantOf clockOf passed daysOf daysIn leap
 none-broken = refl

@@ -11,7 +11,7 @@ use Rattle.record_rules.specs.Rules.{iff, Rule, rule, lowest, ordered, r
 use Rattle.record_rules.specs.Rules.{inOrder, ramps, updated, profiled, sloped, excluded, limited, banded, quantified, rulesOf}
 use Rattle.value.specs.declared.Value.{Value}
 use Rattle.value.specs.declared.Value.the-variants.{Blank}
-use Rattle.record_voltvar.specs.Table.{lineIn, lineOf, isRow, inTable}
+use Rattle.record_voltvar.specs.Table.{lineIn, voltVarLine, isRow, inTable}
 use borrow.Author.Tests.{not-true, not-false}
 use denote.Enum.Declared.{tagOf}
 use lib.ListN.{getD}
@@ -117,7 +117,7 @@ module _ (l : Layout) (cells : List Cell) (gs : List Triple) (r : ℕ) where
   in-secondary e q = rw e q
 
   pub in-volt-var : l ≡ VoltVar → r ≡ lowest (first ∷ rule 8 (isRow (lineIn (at 4) (at 5) (at 6) (at 7) (at 8) (at 9) (at 10))) ∷ []) → Lowest
-  unfolding rulesOf inOrder inTable lineOf fieldOf
+  unfolding rulesOf inOrder inTable voltVarLine fieldOf
   in-volt-var e q = rw e q
 
   pub in-reserve : l ≡ Reserve → r ≡ lowest (first ∷ rule 9 (quantifies (at 5) (at 6)) ∷ []) → Lowest

@@ -38,15 +38,15 @@ formOf v = cond (isFilled v) (cond (eqb (wordNumber v) 0) 1 2) 0
 abbrev pub lineIn : Value → Value → Value → Value → Value → Value → Value → Line
 lineIn s m g v r c q = line (wordNumber s) (wordNumber m) (wordNumber g) (formOf v) (formOf r) (formOf c) (formOf q)
 
-unfoldable pub lineOf : List Cell → Line
-lineOf cells =
+unfoldable pub voltVarLine : List Cell → Line
+voltVarLine cells =
     lineIn (fieldOf cells 5) (fieldOf cells 6) (fieldOf cells 7) (fieldOf cells 8) (fieldOf cells 9) (fieldOf cells 10) (fieldOf cells 11)
 
 abbrev pub takes : ℕ → ℕ → Bool
 takes asked is = eqb is asked || (eqb asked 3 && leb 1 is)
 
-unfoldable pub fits : Line → Line → Bool
-fits l row =
+unfoldable pub meets : Line → Line → Bool
+meets l row =
     eqb (l .state) (row .state)
     && eqb (l .mode) (row .mode)
     && eqb (l .regulation) (row .regulation)
@@ -57,7 +57,7 @@ fits l row =
 
 -- a line of the table
 abbrev pub isRow : Line → Bool
-isRow l = any (fits l) table
+isRow l = any (meets l) table
 
 unfoldable pub inTable : List Cell → Bool
-inTable cells = isRow (lineOf cells)
+inTable cells = isRow (voltVarLine cells)

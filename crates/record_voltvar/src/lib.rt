@@ -4,7 +4,7 @@ use value::Value;
 use value_ask::is_filled;
 use value_ask::word_number;
 ghost use Prim.Native.Nat.{_<_};
-ghost use Rattle.record_voltvar.specs.Table.{line, table, formOf, lineIn, takes, fits, isRow};
+ghost use Rattle.record_voltvar.specs.Table.{line, table, formOf, lineIn, takes, meets, isRow};
 ghost use Rattle.value_ask.specs.Values.{wordNumber};
 ghost use lib.ListN.{getD};
 ghost use mathlib.Core.Path.{_≡_};
@@ -119,7 +119,7 @@ fn takes(asked: u8, is: u8) -> bool
 }
 
 fn fits(l: Line, row: Line) -> bool
-    ensures { λ r. ⌜ r ≡ fits l row ⌝ }
+    ensures { λ r. ⌜ r ≡ meets l row ⌝ }
 {
     (l.state == row.state)
         & (l.mode == row.mode)

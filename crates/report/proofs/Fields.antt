@@ -5,7 +5,7 @@ use Rattle.report.specs.Report.{twoLines, reportOf}
 use borrow.Author.Tests.{eq-eqb, ne-eqb}
 use mathlib.Core.Path.{_≡_}
 
-pub record-is : (a : Answer) → a .number ≡ 0 → sixLines (a .body) ≡ reportOf a
+pub record-is : (a : Answer) → a .number ≡ 0 → sixLines (a .content) ≡ reportOf a
 unfolding reportOf
 record-is a e = rw (eq-eqb (a .number) 0 e)
 

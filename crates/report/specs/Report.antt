@@ -13,4 +13,4 @@ twoLines n d = lineText (bytes "result=") (wholeText 9 n) ++ lineText (bytes "de
 
 -- THE DEFINITION: what is printed of an answer
 unfoldable pub reportOf : Answer → List ℕ
-reportOf a = cond (eqb (a .number) 0) (sixLines (a .body)) (twoLines (a .number) (a .detail))
+reportOf a = cond (eqb (a .number) 0) (sixLines (a .content)) (twoLines (a .number) (a .detail))

@@ -34,8 +34,8 @@ pub fn put_answer(out: &mut [u8], at: usize, a: Answer) -> usize
     ensures { λ n. ⌜ (n ≡ at + length (reportOf a)) × (now (out .exit) ≡ sets (now (out .entry)) at (reportOf a)) ⌝ }
 {
     if a.number == 0 {
-        let body = a.body;
-        return put_record(out, at, body);
+        let content = a.content;
+        return put_record(out, at, content);
     }
     put_refusal(out, at, a.number, a.detail)
 }

@@ -17,8 +17,8 @@ use mathlib.Core.List.{List, [], _∷_, _++_}
 
 -- ---- what is told of a record
 
-unfoldable pub numberOf : Record → ℕ
-numberOf r = numberIn (fieldOf (r .cells) 1)
+unfoldable pub messageNumber : Record → ℕ
+messageNumber r = numberIn (fieldOf (r .cells) 1)
 
 -- the code of its unit
 unfoldable pub unitOf : Record → List ℕ

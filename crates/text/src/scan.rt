@@ -171,7 +171,7 @@ pub fn are_zero(s: &[u8]) -> bool
 }
 
 // How long it is without the blanks that it ends with.
-pub fn body(s: &[u8]) -> usize
+pub fn filled(s: &[u8]) -> usize
     ensures { λ r. ⌜ r ≡ length (skipEnd isBlank (now (s .entry))) ⌝ }
 {
     let mut e = s.len();
@@ -190,7 +190,7 @@ pub fn trim(s: &[u8]) -> &[u8]
 {
     let a = lead(s);
     let t = &s[a..];
-    let e = body(t);
+    let e = filled(t);
     &t[..e]
 }
 

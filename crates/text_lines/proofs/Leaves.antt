@@ -2,7 +2,7 @@
 -- Assumes nothing.
 use Prim.Native.Nat.{ℕ, _+_, _-_, _≤_, _<_}
 use Rattle.text_lines.specs.Lines.{isSep}
-use Rattle.text_lines.specs.Places.{Holds, notPlain, plainRun, breakOf}
+use Rattle.text_lines.specs.Places.{HoldsText, notPlain, plainRun, breakOf}
 use Rattle.text_lines.specs.declared.Break.the-variants.{After, Bad}
 use Rattle.text.proofs.Cuts.{drop-step, part-from, part-front, length-part, upto-here, upto-on, upto-over, upto-end, all-none, skip-drop}
 use Rattle.text.proofs.Trims.{end-take, end-length}
@@ -76,7 +76,7 @@ module _ (s : List ℕ) (at end a e : ℕ) (h : at ≤ end) (k : end ≤ length 
   pub trim-fits : at + a + e ≤ end
   trim-fits = omega (arith, end-length isBlank (part (at + a) end s), length-part at end s k, length-part (at + a) end s k)
 
-  pub trim-holds : Holds s (record { from = at + a; to = at + a + e }) (trim (part at end s))
+  pub trim-holds : HoldsText s (record { from = at + a; to = at + a + e }) (trim (part at end s))
   unfolding trim
   trim-holds =
       let l = part at end s in

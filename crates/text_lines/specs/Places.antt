@@ -16,7 +16,7 @@ abbrev pub partOf : List ℕ → Span → List ℕ
 partOf file p = part (p .from) (p .to) file
 
 -- the place p of a file holds t
-pub record Holds (file : List ℕ) (p : Span) (t : List ℕ) : Type 0 where
+pub record HoldsText (file : List ℕ) (p : Span) (t : List ℕ) : Type 0 where
   pub ordered : p .from ≤ p .to
   pub inside : p .to ≤ length file
   pub holds : partOf file p ≡ t

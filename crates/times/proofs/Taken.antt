@@ -9,8 +9,8 @@ use Rattle.value_name.specs.declared.MessageType.{MessageType}
 use Rattle.plan.specs.Plans.{planOf, soughtOf}
 use Rattle.plan.specs.declared.Sought.{Sought}
 use Rattle.reader.proofs.Firsts.{accepted-none, numbers}
-use Rattle.reader.specs.Messages.{valuesOf, isBad, goodOf, bodyOf}
-use Rattle.reader.specs.Reader.{bodyIn, unitIn, planned, answerAt, readOf}
+use Rattle.reader.specs.Messages.{valuesOf, isBad, goodOf, columnRecord}
+use Rattle.reader.specs.Reader.{recordIn, unitIn, planned, answerAt, readOf}
 use Rattle.reader.specs.declared.Answer.{Answer}
 use Rattle.reader_theorems.proofs.Agreed.{Accepted, accepted}
 use Rattle.reader_theorems.proofs.Held.ReadAll.{end, next}
@@ -31,17 +31,17 @@ use native.Mathlib.Omega.{arith}
 -- ---- a message
 
 pub record Taken (a : Answer) (file : List ℕ) : Type 0 where
-  pub kind : MessageType
+  pub message : MessageType
   pub unit : List ℕ
-  pub agreed : Accepted kind unit file
-  pub body-is : a .body ≡ bodyIn kind file
+  pub agreed : Accepted message unit file
+  pub content-is : a .content ≡ recordIn message file
 
 taken-at : (s : Sought) (file : List ℕ) → answerAt s file .number ≡ 0 → Taken (answerAt s file) file
 unfolding answerAt
 taken-at s file h =
-    let e = message-at s file (accepted-none (planned s file) (bodyIn (s .kind) file) (numbers s file) h) in
-    let a = accepted (s .kind) (unitIn s) file (sym (ap (λ (x : Answer). x .number) e) ∙ h) in
-    record { kind = s .kind; unit = unitIn s; agreed = a; body-is = ap (λ (x : Answer). x .body) (e ∙ a .answered) }
+    let e = message-at s file (accepted-none (planned s file) (recordIn (s .message) file) (numbers s file) h) in
+    let a = accepted (s .message) (unitIn s) file (sym (ap (λ (x : Answer). x .number) e) ∙ h) in
+    record { message = s .message; unit = unitIn s; agreed = a; content-is = ap (λ (x : Answer). x .content) (e ∙ a .answered) }
 
 pub taken : (ca ioa : ℕ) (plan file : List ℕ) → readOf ca ioa plan file .number ≡ 0 → Taken (readOf ca ioa plan file) file
 unfolding readOf
@@ -55,8 +55,8 @@ read-length (next e a) = ap suc (read-length a)
 
 -- the value of a field is what its kind reads of its text
 pub field-read : (l : Layout) (col : List (List ℕ)) → isBad (valuesOf l col) ≡ false → (j : ℕ) → j < sizeOf l
-    → valueOf (kindAt l (suc j)) (textAt col (suc j)) ≡ Read (fieldOf (bodyOf l col .cells) (suc j))
-unfolding valuesOf bodyOf recordOf
+    → valueOf (kindAt l (suc j)) (textAt col (suc j)) ≡ Read (fieldOf (columnRecord l col .cells) (suc j))
+unfolding valuesOf columnRecord recordOf
 field-read l col e j h =
     let vs = goodOf (valuesOf l col) in
     let r = read-all 1 (kindsOf l) col vs (good-of (valuesOf l col) e) in

@@ -9,8 +9,8 @@ use Rattle.layout.specs.Layouts.{fieldsOf, labelsOf, kindsOf, labelAt, kindAt, 
 use Rattle.layout.specs.declared.Layout.the-variants.{Market}
 use Rattle.layout.specs.declared.Layout.{Layout}
 use Rattle.text_lines.specs.Entries.{entries, valueAt, column}
-use Rattle.reader.specs.Messages.{given, layoutIn, entriesIn, valuesOf, isBad, bodyOf}
-use Rattle.reader.specs.Reader.{bodyIn, readOf}
+use Rattle.reader.specs.Messages.{given, layoutIn, entriesIn, valuesOf, isBad, columnRecord}
+use Rattle.reader.specs.Reader.{recordIn, readOf}
 use Rattle.reader.specs.declared.Answer.{Answer}
 use Rattle.record.specs.Records.{fieldOf, recordOf}
 use Rattle.record.specs.declared.Record.{Record}
@@ -26,7 +26,7 @@ use Rattle.times.proofs.Markets.{market-is}
 use Rattle.times.proofs.Taken.{Taken, taken, field-read, column-value}
 use Rattle.times.proofs.Told.{labelled}
 use Rattle.times.specs.Places.{fieldPart}
-use Rattle.times.specs.Times.{fieldNo, isMarket, inFile, inSheet, timeIn, timeOf, partIn, refusalIn}
+use Rattle.times.specs.Times.{fieldNo, isMarket, inFile, inSheet, timeIn, timeOf, partIn, timeRefusal}
 use Rattle.times.specs.declared.Time.the-variants.{File, Sheet, Refused}
 use Rattle.times.specs.declared.Time.{Time}
 use Rattle.value.specs.Kinds.{valueOf}
@@ -84,7 +84,7 @@ by-refusal true false g f p q n d k j h e = let z : 16 ≡ k = cc in λ y. omega
 by-refusal false m g f p q n d k j h e = let z : n ≡ k = cc in λ y. h refl (z ∙ y)
 
 -- and it goes by the first three tests
-same-chosen : (b m g f h : Bool) (p q s t : Part) (n d : ℕ) → refusalIn (chosen b m g f p q n d) ≡ refusalIn (chosen b m g h s t n d)
+same-chosen : (b m g f h : Bool) (p q s t : Part) (n d : ℕ) → timeRefusal (chosen b m g f p q n d) ≡ timeRefusal (chosen b m g h s t n d)
 unfolding chosen
 same-chosen true true true true true p q s t n d = refl
 same-chosen true true true true false p q s t n d = refl
@@ -115,7 +115,7 @@ blank-is (Reactive v) e = absurd (true≢false e)
 
 -- the value of a field is what its kind reads of the text of its entry
 entry-read : (l : Layout) (file : List ℕ) → isBad (valuesOf l (column 1 (labelsOf l) (entries (labelsOf l) (given file)))) ≡ false → (j : ℕ) → j < sizeOf l
-    → valueOf (kindAt l (suc j)) (valueAt (suc j) (entries (labelsOf l) (given file))) ≡ Read (fieldOf (bodyOf l (column 1 (labelsOf l) (entries (labelsOf l) (given file))) .cells) (suc j))
+    → valueOf (kindAt l (suc j)) (valueAt (suc j) (entries (labelsOf l) (given file))) ≡ Read (fieldOf (columnRecord l (column 1 (labelsOf l) (entries (labelsOf l) (given file))) .cells) (suc j))
 entry-read l file e j h =
     let es = entries (labelsOf l) (given file) in
     let n : 1 + j ≡ suc j = omega arith in
@@ -123,18 +123,18 @@ entry-read l file e j h =
     ap (valueOf (kindAt l (suc j))) (sym (column-value 1 (labelsOf l) es j i ∙ ap (λ (m : ℕ). valueAt m es) n)) ∙ field-read l (column 1 (labelsOf l) es) e j h
 
 -- of a market file that was taken
-market-read : (a : Answer) (file : List ℕ) → Taken a file → isMarket (a .body .layout) ≡ true → (j : ℕ) → j < sizeOf Market
-    → valueOf (kindAt Market (suc j)) (valueAt (suc j) (entries (labelsOf Market) (given file))) ≡ Read (fieldOf (a .body .cells) (suc j))
-unfolding bodyIn bodyOf recordOf entriesIn
+market-read : (a : Answer) (file : List ℕ) → Taken a file → isMarket (a .content .layout) ≡ true → (j : ℕ) → j < sizeOf Market
+    → valueOf (kindAt Market (suc j)) (valueAt (suc j) (entries (labelsOf Market) (given file))) ≡ Read (fieldOf (a .content .cells) (suc j))
+unfolding recordIn columnRecord recordOf entriesIn
 market-read a file t m j h =
-    let l = layoutIn (t .kind) (given file) in
-    let e : l ≡ Market = sym (ap (λ (r : Record). r .layout) (t .body-is)) ∙ market-is (a .body .layout) m in
+    let l = layoutIn (t .message) (given file) in
+    let e : l ≡ Market = sym (ap (λ (r : Record). r .layout) (t .content-is)) ∙ market-is (a .content .layout) m in
     let i : j < sizeOf l = subst (λ (x : Layout). j < sizeOf x) (sym e) h in
-    subst (λ (x : Layout). valueOf (kindAt x (suc j)) (valueAt (suc j) (entries (labelsOf x) (given file))) ≡ Read (fieldOf (a .body .cells) (suc j))) e
-    (entry-read l file (t .agreed .values) j i ∙ ap (λ (r : Record). Read (fieldOf (r .cells) (suc j))) (sym (t .body-is)))
+    subst (λ (x : Layout). valueOf (kindAt x (suc j)) (valueAt (suc j) (entries (labelsOf x) (given file))) ≡ Read (fieldOf (a .content .cells) (suc j))) e
+    (entry-read l file (t .agreed .values) j i ∙ ap (λ (r : Record). Read (fieldOf (r .cells) (suc j))) (sym (t .content-is)))
 
-time-read : (w : Which) (a : Answer) (file : List ℕ) → Taken a file → isMarket (a .body .layout) ≡ true
-    → valueOf (kindAt Market (fieldNo w)) (valueAt (fieldNo w) (entries (labelsOf Market) (given file))) ≡ Read (fieldOf (a .body .cells) (fieldNo w))
+time-read : (w : Which) (a : Answer) (file : List ℕ) → Taken a file → isMarket (a .content .layout) ≡ true
+    → valueOf (kindAt Market (fieldNo w)) (valueAt (fieldNo w) (entries (labelsOf Market) (given file))) ≡ Read (fieldOf (a .content .cells) (fieldNo w))
 unfolding fieldsOf market command technical
 time-read StartUp a file t m = market-read a file t m 12 (ltb-true _ _ refl)
 time-read Ramp a file t m = market-read a file t m 13 (ltb-true _ _ refl)
@@ -154,12 +154,12 @@ module _ (w : Which) (ca ioa : ℕ) (plan file sheet : List ℕ) where
   answer = readOf ca ioa plan file
 
   abbrev value : Value
-  value = fieldOf (answer .body .cells) (fieldNo w)
+  value = fieldOf (answer .content .cells) (fieldNo w)
 
   abbrev time : Time
   time = timeOf w ca ioa plan file sheet
 
-  time-is : chosen (eqb (answer .number) 0) (isMarket (answer .body .layout)) (isFor (unitOf (answer .body)) sheet) (isFilled value) (fieldPart (labelAt Market (fieldNo w)) file) (sheetPart w sheet) (answer .number) (answer .detail) ≡ time
+  time-is : chosen (eqb (answer .number) 0) (isMarket (answer .content .layout)) (isFor (unitOf (answer .content)) sheet) (isFilled value) (fieldPart (labelAt Market (fieldNo w)) file) (sheetPart w sheet) (answer .number) (answer .detail) ≡ time
   unfolding chosen timeOf timeIn
   time-is = refl
 
@@ -180,28 +180,28 @@ module _ (w : Which) (ca ioa : ℕ) (plan file sheet : List ℕ) where
   pub in-sheet : (from to : ℕ) → time ≡ Sheet from to → (value ≡ Blank) × (isNumber (part from to sheet) ≡ true) × (from < to) × (to ≤ length sheet)
   in-sheet from to e =
       let c = by-sheet _ _ _ _ _ _ _ _ from to (time-is ∙ e) in
-      let h = sheet-part sheet (for-good (unitOf (answer .body)) sheet (c .0)) w in (
+      let h = sheet-part sheet (for-good (unitOf (answer .content)) sheet (c .0)) w in (
         blank-is value (c .1),
         ap₂ (λ (a b : ℕ). isNumber (part a b sheet)) (sym (c .2)) (sym (c .3)) ∙ h .number,
         omega (arith, h .ordered, c .2, c .3),
         omega (arith, h .inside, c .3),
       )
 
-  part-some : (t : Time) → time ≡ t → refusalIn t .number ≡ 0 → 1 ≤ length (partIn t file sheet)
+  part-some : (t : Time) → time ≡ t → timeRefusal t .number ≡ 0 → 1 ≤ length (partIn t file sheet)
   part-some (File from to) e n = let p = in-file from to e in omega (arith, p .2, length-part from to file (p .3))
   part-some (Sheet from to) e n = let p = in-sheet from to e in omega (arith, p .2, length-part from to sheet (p .3))
   part-some (Refused k d) e n = absurd (by-refusal _ _ _ _ _ _ _ _ k d (λ z. eqb-false (answer .number) 0 z) (time-is ∙ e) n)
 
   -- a part is empty exactly on refusal
-  pub empty-when-refused : (refusalIn time .number ≡ 0 → 1 ≤ length (partIn time file sheet)) × ((refusalIn time .number ≡ 0 → ⊥) → partIn time file sheet ≡ [])
+  pub empty-when-refused : (timeRefusal time .number ≡ 0 → 1 ≤ length (partIn time file sheet)) × ((timeRefusal time .number ≡ 0 → ⊥) → partIn time file sheet ≡ [])
   empty-when-refused = (part-some time refl, part-none time)
     where
-      part-none : (t : Time) → (refusalIn t .number ≡ 0 → ⊥) → partIn t file sheet ≡ []
+      part-none : (t : Time) → (timeRefusal t .number ≡ 0 → ⊥) → partIn t file sheet ≡ []
       part-none (File from to) n = absurd (n refl)
       part-none (Sheet from to) n = absurd (n refl)
       part-none (Refused k d) n = refl
 
 -- no refusal depends on which time is asked for
-pub same-refusal : (ca ioa : ℕ) (plan file sheet : List ℕ) → refusalIn (timeOf StartUp ca ioa plan file sheet) ≡ refusalIn (timeOf Ramp ca ioa plan file sheet)
+pub same-refusal : (ca ioa : ℕ) (plan file sheet : List ℕ) → timeRefusal (timeOf StartUp ca ioa plan file sheet) ≡ timeRefusal (timeOf Ramp ca ioa plan file sheet)
 same-refusal ca ioa plan file sheet =
-    ap refusalIn (sym (time-is StartUp ca ioa plan file sheet)) ∙ same-chosen _ _ _ _ _ _ _ _ _ _ _ ∙ ap refusalIn (time-is Ramp ca ioa plan file sheet)
+    ap timeRefusal (sym (time-is StartUp ca ioa plan file sheet)) ∙ same-chosen _ _ _ _ _ _ _ _ _ _ _ ∙ ap timeRefusal (time-is Ramp ca ioa plan file sheet)

@@ -9,8 +9,8 @@ use Rattle.layout.specs.Layouts.{fieldsOf, labelAt}
 use Rattle.layout.specs.Rows.{textAt}
 use Rattle.layout.specs.declared.Layout.the-variants.{Market}
 use Rattle.reader.proofs.Concluding.{concluded-no, concluded-yes}
-use Rattle.reader.specs.Messages.{given, layoutIn, bodyOf}
-use Rattle.reader.specs.Reader.{bodyColumn, bodyIn, readOf}
+use Rattle.reader.specs.Messages.{given, layoutIn, columnRecord}
+use Rattle.reader.specs.Reader.{bodyColumn, recordIn, readOf}
 use Rattle.reader.specs.Refusals.{refused, accepted}
 use Rattle.reader.specs.State.{columnAt, Reads}
 use Rattle.reader.specs.declared.Answer.{Answer}
@@ -29,7 +29,7 @@ use Rattle.times.proofs.Taken.{Taken, taken}
 use Rattle.times.proofs.Time.{the-type}
 use Rattle.times.proofs.Units.{unit-is}
 use Rattle.times.specs.Places.{fieldPart}
-use Rattle.times.specs.Times.{fieldNo, isMarket, inFile, inSheet, timeIn, timeOf, partIn, Within, refusalIn}
+use Rattle.times.specs.Times.{fieldNo, isMarket, inFile, inSheet, timeIn, timeOf, partIn, StandsIn, timeRefusal}
 use Rattle.times.specs.declared.Time.the-variants.{File, Sheet, Refused}
 use Rattle.times.specs.declared.Time.{Time}
 use borrow.Author.Tests.{leb-true, ne-eqb}
@@ -83,9 +83,9 @@ module _ (w : Which) (ca ioa : ℕ) (plan file sheet : List ℕ) (x : Reading) (
     pub file-short : length file ≤ 8192
     file-short = was-taken .agreed .not-long
 
-    body-as : body ≡ bodyOf (layoutIn (was-taken .kind) (given file)) (bodyColumn (was-taken .kind) file)
-    unfolding bodyIn
-    body-as = ap (λ (a : Answer). a .body) answer-is ∙ was-taken .body-is
+    body-as : body ≡ columnRecord (layoutIn (was-taken .message) (given file)) (bodyColumn (was-taken .message) file)
+    unfolding recordIn
+    body-as = ap (λ (a : Answer). a .content) answer-is ∙ was-taken .content-is
 
     -- the tests, one after another
     module _ (b : Bool) (market : b ≡ isMarket (x .layout)) where
@@ -98,7 +98,7 @@ module _ (w : Which) (ca ioa : ℕ) (plan file sheet : List ℕ) (x : Reading) (
         good-is =
             good
             ∙ ap (λ (t : List ℕ). isFor t sheet)
-            (unit ∙ sym (unit-is (x .layout) (layoutIn (was-taken .kind) (given file)) column (bodyColumn (was-taken .kind) file) (x .cells) (x .gradients) body-as (market-is (x .layout) (sym market ∙ yes₂)) (reads .readable yes) (was-taken .agreed .values)))
+            (unit ∙ sym (unit-is (x .layout) (layoutIn (was-taken .message) (given file)) column (bodyColumn (was-taken .message) file) (x .cells) (x .gradients) body-as (market-is (x .layout) (sym market ∙ yes₂)) (reads .readable yes) (was-taken .agreed .values)))
 
         market-yes : isMarket (x .layout) ≡ true
         market-yes = sym market ∙ yes₂
@@ -127,11 +127,11 @@ module _ (w : Which) (ca ioa : ℕ) (plan file sheet : List ℕ) (x : Reading) (
 -- ---- the part that was told
 
 module _ (file sheet : List ℕ) (t : Time) (from to : ℕ) where
-  pub file-within : t ≡ File from to → Within file sheet t → (from ≤ to) × (to ≤ length file)
-  file-within e h = subst (Within file sheet) e h
+  pub file-within : t ≡ File from to → StandsIn file sheet t → (from ≤ to) × (to ≤ length file)
+  file-within e h = subst (StandsIn file sheet) e h
 
-  pub sheet-within : t ≡ Sheet from to → Within file sheet t → (from ≤ to) × (to ≤ length sheet)
-  sheet-within e h = subst (Within file sheet) e h
+  pub sheet-within : t ≡ Sheet from to → StandsIn file sheet t → (from ≤ to) × (to ≤ length sheet)
+  sheet-within e h = subst (StandsIn file sheet) e h
 
   pub file-part : t ≡ File from to → part from to file ≡ partIn t file sheet
   file-part e = ap (λ (x : Time). partIn x file sheet) (sym e)
@@ -139,41 +139,41 @@ module _ (file sheet : List ℕ) (t : Time) (from to : ℕ) where
   pub sheet-part-of : t ≡ Sheet from to → part from to sheet ≡ partIn t file sheet
   sheet-part-of e = ap (λ (x : Time). partIn x file sheet) (sym e)
 
-pub refusal-none : (t : Time) → OneOf (0 ∷ 1 ∷ []) (tagOf the-type t) → record { number = 0; detail = 0 } ≡ refusalIn t
+pub refusal-none : (t : Time) → OneOf (0 ∷ 1 ∷ []) (tagOf the-type t) → record { number = 0; detail = 0 } ≡ timeRefusal t
 refusal-none (File from to) h = refl
 refusal-none (Sheet from to) h = refl
 refusal-none (Refused n d) h = absurd (miss (0 ∷ 1 ∷ []) 2 tt h)
 
 -- ---- it lies in the file or in the sheet
 
-within-cond : (file sheet : List ℕ) (b : Bool) (t u : Time) → (b ≡ true → Within file sheet t) → (b ≡ false → Within file sheet u) → Within file sheet (cond b t u)
+within-cond : (file sheet : List ℕ) (b : Bool) (t u : Time) → (b ≡ true → StandsIn file sheet t) → (b ≡ false → StandsIn file sheet u) → StandsIn file sheet (cond b t u)
 within-cond file sheet true t u f g = f refl
 within-cond file sheet false t u f g = g refl
 
-time-in-within : (w : Which) (a : Answer) (file sheet : List ℕ) → Within file sheet (timeIn w a file sheet)
+time-in-within : (w : Which) (a : Answer) (file sheet : List ℕ) → StandsIn file sheet (timeIn w a file sheet)
 unfolding timeIn
 time-in-within w a file sheet =
     within-cond file sheet (eqb (a .number) 0) _ (Refused (a .number) (a .detail))
     (λ e.
-    within-cond file sheet (isMarket (a .body .layout)) _ (Refused 16 0)
+    within-cond file sheet (isMarket (a .content .layout)) _ (Refused 16 0)
     (λ e.
-    within-cond file sheet (isFor (unitOf (a .body)) sheet) _ (Refused 14 0)
+    within-cond file sheet (isFor (unitOf (a .content)) sheet) _ (Refused 14 0)
     (λ g.
-    within-cond file sheet (isFilled (fieldOf (a .body .cells) (fieldNo w))) (inFile (fieldPart (labelAt Market (fieldNo w)) file)) (inSheet (sheetPart w sheet))
+    within-cond file sheet (isFilled (fieldOf (a .content .cells) (fieldNo w))) (inFile (fieldPart (labelAt Market (fieldNo w)) file)) (inSheet (sheetPart w sheet))
     (λ e. let h = field-holds (fieldNo w) (labelled w) file in (h .ordered, h .inside))
-    (λ e. let h = sheet-part sheet (for-good (unitOf (a .body)) sheet g) w in (omega (arith, h .ordered), h .inside)))
+    (λ e. let h = sheet-part sheet (for-good (unitOf (a .content)) sheet g) w in (omega (arith, h .ordered), h .inside)))
     (λ e. omega arith))
     (λ e. omega arith))
     (λ e. omega arith)
 
 module _ (w : Which) (ca ioa : ℕ) (plan file sheet : List ℕ) where
-  pub time-within : Within file sheet (timeOf w ca ioa plan file sheet)
+  pub time-within : StandsIn file sheet (timeOf w ca ioa plan file sheet)
   unfolding timeOf
   time-within = time-in-within w (readOf ca ioa plan file) file sheet
 
   -- of what was located
-  pub located-within : (t : Time) → t ≡ timeOf w ca ioa plan file sheet → Within file sheet t
-  located-within t e = subst (Within file sheet) (sym e) time-within
+  pub located-within : (t : Time) → t ≡ timeOf w ca ioa plan file sheet → StandsIn file sheet t
+  located-within t e = subst (StandsIn file sheet) (sym e) time-within
 
   pub located-part : (t : Time) (r : List ℕ) → t ≡ timeOf w ca ioa plan file sheet → r ≡ partIn t file sheet → r ≡ partIn (timeOf w ca ioa plan file sheet) file sheet
   located-part t r e f = f ∙ ap (λ (x : Time). partIn x file sheet) e

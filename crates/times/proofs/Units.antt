@@ -12,7 +12,7 @@ use Rattle.layout.specs.declared.Layout.{Layout}
 use Rattle.value_list.specs.declared.Triple.{Triple}
 use Rattle.value_name.proofs.RoundTrip.{unit-size}
 use Rattle.value_name.specs.Names.{isUnitByte, isUnit}
-use Rattle.reader.specs.Messages.{valuesOf, isBad, bodyOf}
+use Rattle.reader.specs.Messages.{valuesOf, isBad, columnRecord}
 use Rattle.record.specs.Records.{fieldOf, recordOf}
 use Rattle.record.specs.declared.Cell.{Cell}
 use Rattle.record.specs.declared.Record.{Record}
@@ -57,14 +57,14 @@ unit-value s v e =
     (λ t. let z : Bad ≡ Read v = rw t at e in let y : _≡_ {A = ℕ} 0 1 = cc in absurd (omega arith))
 
 unit-read : (l : Layout) (col : List (List ℕ)) → l ≡ Market → isBad (valuesOf l col) ≡ false
-    → (isUnit (textAt col 2) ≡ true) × (fieldOf (bodyOf l col .cells) 2 ≡ UnitOf (length (textAt col 2)))
+    → (isUnit (textAt col 2) ≡ true) × (fieldOf (columnRecord l col .cells) 2 ≡ UnitOf (length (textAt col 2)))
 unfolding fieldsOf market command technical
-unit-read l col m e = rw m (unit-value (textAt col 2) (fieldOf (bodyOf Market col .cells) 2) (field-read Market col (rw m at e) 1 (ltb-true _ _ refl)))
+unit-read l col m e = rw m (unit-value (textAt col 2) (fieldOf (columnRecord Market col .cells) 2) (field-read Market col (rw m at e) 1 (ltb-true _ _ refl)))
 
 -- a record with the texts of one column that is the record of another
-pub unit-is : (l k : Layout) (col others : List (List ℕ)) (cells : List Cell) (gs : List Triple) → recordWith l col cells gs ≡ bodyOf k others → l ≡ Market
+pub unit-is : (l k : Layout) (col others : List (List ℕ)) (cells : List Cell) (gs : List Triple) → recordWith l col cells gs ≡ columnRecord k others → l ≡ Market
     → isBad (valuesOf l col) ≡ false → isBad (valuesOf k others) ≡ false → unitOf (recordWith l col cells gs) ≡ textAt col 2
-unfolding unitOf recordWith bodyOf recordOf
+unfolding unitOf recordWith columnRecord recordOf
 unit-is l k col others cells gs e m good goods =
     let u = textAt col 2 in
     let v = textAt others 2 in

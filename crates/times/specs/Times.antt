@@ -50,9 +50,9 @@ inSheet p = Sheet (p .from) (p .to)
 unfoldable pub timeIn : Which → Answer → List ℕ → List ℕ → Time
 timeIn w a file sheet =
     cond (eqb (a .number) 0)
-    (cond (isMarket (a .body .layout))
-    (cond (isFor (unitOf (a .body)) sheet)
-    (cond (isFilled (fieldOf (a .body .cells) (fieldNo w))) (inFile (fieldPart (labelAt Market (fieldNo w)) file)) (inSheet (sheetPart w sheet)))
+    (cond (isMarket (a .content .layout))
+    (cond (isFor (unitOf (a .content)) sheet)
+    (cond (isFilled (fieldOf (a .content .cells) (fieldNo w))) (inFile (fieldPart (labelAt Market (fieldNo w)) file)) (inSheet (sheetPart w sheet)))
     (Refused 14 0))
     (Refused 16 0))
     (Refused (a .number) (a .detail))
@@ -68,13 +68,13 @@ partIn (Sheet from to) file sheet = part from to sheet
 partIn (Refused n d) file sheet = []
 
 -- it lies in them
-abbrev pub Within : List ℕ → List ℕ → Time → Type 0
-Within file sheet (File from to) = (from ≤ to) × (to ≤ length file)
-Within file sheet (Sheet from to) = (from ≤ to) × (to ≤ length sheet)
-Within file sheet (Refused n d) = 0 ≤ 0
+abbrev pub StandsIn : List ℕ → List ℕ → Time → Type 0
+StandsIn file sheet (File from to) = (from ≤ to) × (to ≤ length file)
+StandsIn file sheet (Sheet from to) = (from ≤ to) × (to ≤ length sheet)
+StandsIn file sheet (Refused n d) = 0 ≤ 0
 
 -- its refusal: 0 and 0 where there is none
-abbrev pub refusalIn : Time → Refusal
-refusalIn (File from to) = record { number = 0; detail = 0 }
-refusalIn (Sheet from to) = record { number = 0; detail = 0 }
-refusalIn (Refused n d) = record { number = n; detail = d }
+abbrev pub timeRefusal : Time → Refusal
+timeRefusal (File from to) = record { number = 0; detail = 0 }
+timeRefusal (Sheet from to) = record { number = 0; detail = 0 }
+timeRefusal (Refused n d) = record { number = n; detail = d }

@@ -3,7 +3,7 @@ mod place;
 
 use layout::Layout;
 use times_sheet::Which;
-ghost use Rattle.times.specs.Times.{fieldNo, isMarket, timeOf, partIn, Within, refusalIn};
+ghost use Rattle.times.specs.Times.{fieldNo, isMarket, timeOf, partIn, StandsIn, timeRefusal};
 ghost use mathlib.Core.Path.{_≡_};
 
 // Where the time stands: in the file or in the sheet, from and up to; or a refusal's number and detail.
@@ -66,7 +66,7 @@ pub fn locate(w: Which, ca: u32, ioa: u32, plan: &[u8], file: &[u8], sheet: &[u8
 
 // That part of the file or of the sheet; an empty part on refusal.
 fn part_at<'a>(t: Time, file: &'a [u8], sheet: &'a [u8]) -> &'a [u8]
-    requires { ⌜ Within (now file) (now sheet) t ⌝ }
+    requires { ⌜ StandsIn (now file) (now sheet) t ⌝ }
     ensures { λ r. ⌜ now r ≡ partIn t (now (file .entry)) (now (sheet .entry)) ⌝ }
 {
     match t {
@@ -96,7 +96,7 @@ pub fn ramp<'a>(ca: u32, ioa: u32, plan: &[u8], file: &'a [u8], sheet: &'a [u8])
 
 // The companion of both: why a part is empty. No refusal depends on which time is asked for.
 pub fn refusal_of(ca: u32, ioa: u32, plan: &[u8], file: &[u8], sheet: &[u8]) -> Refusal
-    ensures { λ r. ⌜ r ≡ refusalIn (timeOf Which.StartUp ca ioa (now (plan .entry)) (now (file .entry)) (now (sheet .entry))) ⌝ }
+    ensures { λ r. ⌜ r ≡ timeRefusal (timeOf Which.StartUp ca ioa (now (plan .entry)) (now (file .entry)) (now (sheet .entry))) ⌝ }
 {
     match locate(Which::StartUp, ca, ioa, plan, file, sheet) {
         Time::Refused(number, detail) => Refusal { number, detail },

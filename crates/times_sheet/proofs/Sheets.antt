@@ -3,7 +3,7 @@ use Prim.Native.Nat.{ℕ, _+_, _-_, _≤_, _<_}
 use Rattle.text_keyline.specs.Keylines.{lineOf, valueIn, below}
 use Rattle.text_keyline.specs.declared.Line.the-variants.{Ends, Bad}
 use Rattle.text_keyline.specs.declared.Line.{Line}
-use Rattle.value_number.specs.Number.{plus, unsignedOf, joined, fractionOf, numberOf}
+use Rattle.value_number.specs.Number.{plus, unsignedOf, joinedDigits, fractionOf, numberOf}
 use Rattle.value_number.specs.declared.Number.the-variants.{Is as IsNumber, Bad as NoNumber}
 use Rattle.value_number.specs.declared.Number.{Number}
 use Rattle.times_sheet.proofs.Rests.{Rest, rest-all, rest-below}
@@ -35,7 +35,7 @@ module _ (s : List ℕ) (n : Number) (told : n ≡ numberOf s) where
 
 -- no number is empty
 number-some : (s : List ℕ) → isNumber s ≡ true → 1 ≤ length s
-unfolding numberOf unsignedOf joined fractionOf digitsOf plus upto
+unfolding numberOf unsignedOf joinedDigits fractionOf digitsOf plus upto
 number-some [] e = absurd (false≢true e)
 number-some (b ∷ s) e = omega arith
 

@@ -7,14 +7,14 @@ use Rattle.value_list.proofs.Texts.{numbers-some, gradients-some}
 use Rattle.value_name.proofs.RoundTrip.{identifier-back, identifier-length, sequence-back, unit-size}
 use Rattle.value_name.specs.declared.MessageType.{MessageType}
 use Rattle.value_number.proofs.RoundTrip.{number-back, number-some, number-empty}
-use Rattle.value_number.specs.Number.{scaled, fractionOf, joined, unsignedOf, plus, minus, numberOf, numberText}
+use Rattle.value_number.specs.Number.{scaled, fractionOf, joinedDigits, unsignedOf, plus, minus, numberOf, numberText}
 use Rattle.value_number.specs.declared.Number.{Number}
 use Rattle.value_number.specs.declared.Number.the-variants.{Is as IsNumber, Bad as NoNumber}
 use Rattle.text.proofs.Numerals.{whole-some}
 use Rattle.text.proofs.Tables.{all-at}
 use Rattle.text.specs.Bytes.{all, upto}
 use Rattle.text.specs.Digits.{numberFrom, digitsOf}
-use Rattle.value.specs.Kinds.{idFrom, countFrom, dateFrom, amountFrom, wordFrom, listFrom, triplesFrom, settingFrom, voltage, regulator, change, reactive, shapeOf, valueOf}
+use Rattle.value.specs.Kinds.{idFrom, countFrom, dateFrom, amountFrom, gotWord, listFrom, triplesFrom, settingFrom, voltage, regulator, change, reactive, shapeOf, valueOf}
 use Rattle.value.specs.Texts.{Rooms, valueText}
 use Rattle.value.specs.Valid.{Kept, Fits, Holds}
 use Rattle.value.specs.Valid.Fits.{id, unit, when, amount, count, reason, note, chosen, profile, bands, triples, in-kv, kv-word, in-rat, rat-word, in-change, in-mvar, mvar-word}
@@ -46,7 +46,7 @@ none-is (IsNumber v) e = let z : _≡_ {A = ℕ} 0 1 = cc in absurd (omega arith
 none-is NoNumber e = refl
 
 no-numbers : all (λ (s : List ℕ). isNone (numberOf s)) words ≡ true
-unfolding all words commandWords modeWords settingWords numberOf unsignedOf joined plus minus fractionOf scaled digitsOf numberFrom upto
+unfolding all words commandWords modeWords settingWords numberOf unsignedOf joinedDigits plus minus fractionOf scaled digitsOf numberFrom upto
 no-numbers = refl
 
 word-no-number : (w : ℕ) → numberOf (word w) ≡ NoNumber
@@ -61,10 +61,10 @@ module _ (t : MessageType) (r : Rooms) where
 
   -- a word beside a number of its own quantity
   word-setting : (make : ℤ → Value) (first last w : ℕ) → 1 ≤ first → first ≤ w → w ≤ last → last ≤ 31
-      → settingFrom make (numberOf (word w)) (wordFrom (wordIn first last (word w))) ≡ Read (Value.Word w)
+      → settingFrom make (numberOf (word w)) (gotWord (wordIn first last (word w))) ≡ Read (Value.Word w)
   word-setting make first last w a b c d =
-      ap (λ (n : Number). settingFrom make n (wordFrom (wordIn first last (word w)))) (word-no-number w)
-      ∙ ap wordFrom (word-back first last w a b c d)
+      ap (λ (n : Number). settingFrom make n (gotWord (wordIn first last (word w)))) (word-no-number w)
+      ∙ ap gotWord (word-back first last w a b c d)
 
   pub back : (s : Shape) (v : Value) → Fits t r s v → shapeOf s (valueText t r v) ≡ Read v
   unfolding shapeOf valueText
@@ -75,16 +75,16 @@ module _ (t : MessageType) (r : Rooms) where
   back s v (count {n} h) = ap countFrom (sequence-back n h)
   back s v (reason {n} k) = rw (kept-length 128 n (r .reason) k, le-leb n 128 (k .few))
   back s v (note {n} k) = rw (kept-length 256 n (r .note) k, le-leb n 256 (k .few))
-  back s v (chosen {first = a} {last = b} {w} p q u d) = ap wordFrom (word-back a b w p q u d)
+  back s v (chosen {first = a} {last = b} {w} p q u d) = ap gotWord (word-back a b w p q u d)
   back s v (profile {x} f) = ap listFrom (numbers-back 4 4 x (omega arith) (omega arith) f)
   back s v (bands {x} f) = ap listFrom (numbers-back 2 2 x (omega arith) (omega arith) f)
   back s v (triples {n} f) = ap triplesFrom (gradients-back (r .gradients) n f)
-  back s v (in-kv {v = x} h) = ap (λ (n : Number). settingFrom voltage n (wordFrom (wordIn 23 24 (numberText x)))) (number-back x h)
+  back s v (in-kv {v = x} h) = ap (λ (n : Number). settingFrom voltage n (gotWord (wordIn 23 24 (numberText x)))) (number-back x h)
   back s v (kv-word {w} a b) = word-setting voltage 23 24 w (omega arith) a b (omega arith)
-  back s v (in-rat {v = x} h) = ap (λ (n : Number). settingFrom regulator n (wordFrom (wordIn 23 24 (numberText x)))) (number-back x h)
+  back s v (in-rat {v = x} h) = ap (λ (n : Number). settingFrom regulator n (gotWord (wordIn 23 24 (numberText x)))) (number-back x h)
   back s v (rat-word {w} a b) = word-setting regulator 23 24 w (omega arith) a b (omega arith)
   back s v (in-change {v = x} h) = ap (λ (n : Number). settingFrom change n Bad) (number-back x h)
-  back s v (in-mvar {v = x} h) = ap (λ (n : Number). settingFrom reactive n (wordFrom (wordIn 25 27 (numberText x)))) (number-back x h)
+  back s v (in-mvar {v = x} h) = ap (λ (n : Number). settingFrom reactive n (gotWord (wordIn 25 27 (numberText x)))) (number-back x h)
   back s v (mvar-word {w} a b) = word-setting reactive 25 27 w (omega arith) a b (omega arith)
 
   -- it is never empty, so it is not taken for a blank

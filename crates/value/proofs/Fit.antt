@@ -23,7 +23,7 @@ use Rattle.text.specs.Bytes.{tidy}
 use Rattle.text.specs.Puts.{roomOf}
 use Rattle.text.specs.declared.digits.Digits.{Digits}
 use Rattle.text.specs.declared.digits.Digits.the-variants.{Are, Not}
-use Rattle.value.specs.Kinds.{idFrom, countFrom, dateFrom, amountFrom, wordFrom, listFrom, settingFrom, voltage, regulator, change, reactive, shapeOf, valueOf}
+use Rattle.value.specs.Kinds.{idFrom, countFrom, dateFrom, amountFrom, gotWord, listFrom, settingFrom, voltage, regulator, change, reactive, shapeOf, valueOf}
 use Rattle.value.specs.Texts.{Rooms}
 use Rattle.value.specs.Valid.{Kept, Fits, Holds}
 use Rattle.value.specs.Valid.Fits.{id, unit, when, amount, count, reason, note, chosen, profile, bands, triples, in-kv, kv-word, in-rat, rat-word, in-change, in-mvar, mvar-word}
@@ -114,7 +114,7 @@ module _ (P : Value → Type 0) (v : Value) where
   from-amount (IsNumber n) e f = subst P (read-is e) (f n refl)
   from-amount NoNumber e f = absurd (not-read e)
 
-  from-word : (d : WordRead) → wordFrom d ≡ Read v → ((w : ℕ) → d ≡ IsText w → P (Word w)) → P v
+  from-word : (d : WordRead) → gotWord d ≡ Read v → ((w : ℕ) → d ≡ IsText w → P (Word w)) → P v
   from-word (IsText w) e f = subst P (read-is e) (f w refl)
   from-word NoText e f = absurd (not-read e)
 
@@ -163,15 +163,15 @@ module _ (t : MessageType) (r : Rooms) (b : Bool) (s : List ℕ) (v : Value) (d 
       from-test (Fits t r IsTriples) v (gradientsIn s .good) (Triples (gradientsIn s .list .count)) e
       (λ q. triples (subst (λ (l : List Triple). ValidGradients l (gradientsIn s .list .count)) (sym h) (gradients-valid s q)))
   shape-fits IsVoltage e h =
-      from-setting (Fits t r IsVoltage) v voltage (numberOf s) (wordFrom (wordIn 23 24 s)) e (λ n q. in-kv (number-range s n q))
+      from-setting (Fits t r IsVoltage) v voltage (numberOf s) (gotWord (wordIn 23 24 s)) e (λ n q. in-kv (number-range s n q))
       (λ o. from-word (Fits t r IsVoltage) v (wordIn 23 24 s) o (λ w q. let z = word-range 23 24 s w q in kv-word (z .0) (z .1)))
   shape-fits IsRegulator e h =
-      from-setting (Fits t r IsRegulator) v regulator (numberOf s) (wordFrom (wordIn 23 24 s)) e (λ n q. in-rat (number-range s n q))
+      from-setting (Fits t r IsRegulator) v regulator (numberOf s) (gotWord (wordIn 23 24 s)) e (λ n q. in-rat (number-range s n q))
       (λ o. from-word (Fits t r IsRegulator) v (wordIn 23 24 s) o (λ w q. let z = word-range 23 24 s w q in rat-word (z .0) (z .1)))
   shape-fits IsChange e h =
       from-setting (Fits t r IsChange) v change (numberOf s) Bad e (λ n q. in-change (number-range s n q)) (λ o. absurd (not-read o))
   shape-fits IsReactive e h =
-      from-setting (Fits t r IsReactive) v reactive (numberOf s) (wordFrom (wordIn 25 27 s)) e (λ n q. in-mvar (number-range s n q))
+      from-setting (Fits t r IsReactive) v reactive (numberOf s) (gotWord (wordIn 25 27 s)) e (λ n q. in-mvar (number-range s n q))
       (λ o. from-word (Fits t r IsReactive) v (wordIn 25 27 s) o (λ w q. let z = word-range 25 27 s w q in mvar-word (z .0) (z .1)))
 
 -- ---- a text that was read as a kind is held by it

@@ -20,7 +20,7 @@ use Rattle.value_number.specs.declared.Number.the-variants.{Is as IsNumber, Bad
 use Rattle.text.proofs.Tests.{by-test, and-parts}
 use Rattle.text.specs.declared.digits.Digits.{Digits}
 use Rattle.text.specs.declared.digits.Digits.the-variants.{Are, Not}
-use Rattle.value.specs.Kinds.{idFrom, countFrom, dateFrom, amountFrom, wordFrom, listFrom, settingFrom, shapeOf, valueOf}
+use Rattle.value.specs.Kinds.{idFrom, countFrom, dateFrom, amountFrom, gotWord, listFrom, settingFrom, shapeOf, valueOf}
 use Rattle.value.specs.Kinds.{voltage, regulator, change, reactive}
 use Rattle.value.specs.Texts.{Rooms, valueText, isNumeric, isWritten}
 use Rattle.value.specs.declared.Got.{Got}
@@ -92,7 +92,7 @@ module _ (t : MessageType) (r : Rooms) (s : List ℕ) (v : Value) where
       rw i (shown (length s) ∙ ap (take (length s)) b ∙ take-all (length s) s (le-refl (length s)))
   text-own make room false shown b e = let z : _≡_ {A = ℕ} 0 1 = cc in absurd (omega arith)
 
-  word-own : (first last : ℕ) (w : WordRead) → wordIn first last s ≡ w → wordFrom w ≡ Read v → valueText t r v ≡ s
+  word-own : (first last : ℕ) (w : WordRead) → wordIn first last s ≡ w → gotWord w ≡ Read v → valueText t r v ≡ s
   unfolding valueText
   word-own first last (IsText w) f e = let i : v ≡ Value.Word w = cc in rw i (word-is first last s w f)
   word-own first last NoText f e = let z : _≡_ {A = ℕ} 0 1 = cc in absurd (omega arith)

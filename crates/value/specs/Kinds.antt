@@ -47,9 +47,9 @@ abbrev pub amountFrom : Number → Got
 amountFrom (IsNumber n) = Read (Amount n)
 amountFrom NoNumber = Bad
 
-abbrev pub wordFrom : WordRead → Got
-wordFrom (IsText w) = Read (Word w)
-wordFrom NoText = Bad
+abbrev pub gotWord : WordRead → Got
+gotWord (IsText w) = Read (Word w)
+gotWord NoText = Bad
 
 abbrev pub listFrom : Listed → Got
 listFrom (AreNumbers x) = Read (Numbers x)
@@ -91,14 +91,14 @@ shapeOf IsAmount s = amountFrom (numberOf s)
 shapeOf IsCount s = countFrom (sequenceOf s)
 shapeOf IsReason s = textFrom Reason 128 s
 shapeOf IsNote s = textFrom Note 256 s
-shapeOf (IsWord first last) s = wordFrom (wordIn first last s)
+shapeOf (IsWord first last) s = gotWord (wordIn first last s)
 shapeOf IsProfile s = listFrom (profileOf s)
 shapeOf IsBands s = listFrom (bandsOf s)
 shapeOf IsTriples s = triplesFrom (gradientsIn s)
-shapeOf IsVoltage s = settingFrom voltage (numberOf s) (wordFrom (wordIn 23 24 s))
-shapeOf IsRegulator s = settingFrom regulator (numberOf s) (wordFrom (wordIn 23 24 s))
+shapeOf IsVoltage s = settingFrom voltage (numberOf s) (gotWord (wordIn 23 24 s))
+shapeOf IsRegulator s = settingFrom regulator (numberOf s) (gotWord (wordIn 23 24 s))
 shapeOf IsChange s = settingFrom change (numberOf s) Bad
-shapeOf IsReactive s = settingFrom reactive (numberOf s) (wordFrom (wordIn 25 27 s))
+shapeOf IsReactive s = settingFrom reactive (numberOf s) (gotWord (wordIn 25 27 s))
 
 -- THE DEFINITION: a trimmed text of a kind. Where the kind lets a blank stand, the empty text is one.
 unfoldable pub valueOf : Kind → List ℕ → Got

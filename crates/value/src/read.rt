@@ -22,7 +22,7 @@ ghost use Rattle.value_date.specs.Date.{dateOf};
 ghost use Rattle.value_list.specs.Forms.{gradientsIn};
 ghost use Rattle.value_name.specs.Names.{identifierOf, sequenceOf};
 ghost use Rattle.value_number.specs.Number.{numberOf};
-ghost use Rattle.value.specs.Kinds.{idFrom, countFrom, dateFrom, amountFrom, wordFrom, listFrom, triplesFrom, settingFrom, voltage, regulator, change, reactive, shapeOf, valueOf};
+ghost use Rattle.value.specs.Kinds.{idFrom, countFrom, dateFrom, amountFrom, gotWord, listFrom, triplesFrom, settingFrom, voltage, regulator, change, reactive, shapeOf, valueOf};
 ghost use Rattle.value_word.specs.Words.{wordIn};
 ghost use mathlib.Core.Path.{_≡_};
 
@@ -63,7 +63,7 @@ fn read_amount(s: &[u8]) -> Got
 }
 
 fn read_word(first: u8, last: u8, s: &[u8]) -> Got
-    ensures { λ r. ⌜ r ≡ wordFrom (wordIn first last (now (s .entry))) ⌝ }
+    ensures { λ r. ⌜ r ≡ gotWord (wordIn first last (now (s .entry))) ⌝ }
 {
     match value_word::read(first, last, s) {
         Word::Is(w) => Got::Read(Value::Word(w)),
@@ -95,7 +95,7 @@ fn read_triples(s: &[u8]) -> Got
 
 // `Impostazione Sart/Report`: kV, `V MAX` or `V MIN`.
 fn read_voltage(s: &[u8]) -> Got
-    ensures { λ r. ⌜ r ≡ settingFrom voltage (numberOf (now (s .entry))) (wordFrom (wordIn 23 24 (now (s .entry)))) ⌝ }
+    ensures { λ r. ⌜ r ≡ settingFrom voltage (numberOf (now (s .entry))) (gotWord (wordIn 23 24 (now (s .entry)))) ⌝ }
 {
     match value_number::read(s) {
         Number::Is(n) => Got::Read(Value::Voltage(Kv(n))),
@@ -105,7 +105,7 @@ fn read_voltage(s: &[u8]) -> Got
 
 // `Impostazione RAT`: per cent of the RAT, `V MAX` or `V MIN`.
 fn read_regulator(s: &[u8]) -> Got
-    ensures { λ r. ⌜ r ≡ settingFrom regulator (numberOf (now (s .entry))) (wordFrom (wordIn 23 24 (now (s .entry)))) ⌝ }
+    ensures { λ r. ⌜ r ≡ settingFrom regulator (numberOf (now (s .entry))) (gotWord (wordIn 23 24 (now (s .entry)))) ⌝ }
 {
     match value_number::read(s) {
         Number::Is(n) => Got::Read(Value::Regulator(RatPercent(n))),
@@ -125,7 +125,7 @@ fn read_change(s: &[u8]) -> Got
 
 // `Potenza reattiva`: MVar, `Q=0`, or one of the two extremes.
 fn read_reactive(s: &[u8]) -> Got
-    ensures { λ r. ⌜ r ≡ settingFrom reactive (numberOf (now (s .entry))) (wordFrom (wordIn 25 27 (now (s .entry)))) ⌝ }
+    ensures { λ r. ⌜ r ≡ settingFrom reactive (numberOf (now (s .entry))) (gotWord (wordIn 25 27 (now (s .entry)))) ⌝ }
 {
     match value_number::read(s) {
         Number::Is(n) => Got::Read(Value::Reactive(MVar(n))),

@@ -2,7 +2,7 @@
 -- Assumes nothing.
 use Prim.Native.Nat.{ℕ, _+_, _/_, _%_, _^_}
 use Rattle.value_date.proofs.Laws.{real-tells, date-is, days-low}
-use Rattle.value_date.specs.Date.{fitsByte, shaped, dateShape, fieldsOf, isReal, Real, dateOf, dayText, timeText, letter, letterText, dateText}
+use Rattle.value_date.specs.Date.{fitsByte, shaped, dateShape, dateParts, isReal, Real, dateOf, dayText, timeText, letter, letterText, dateText}
 use Rattle.value_date.specs.declared.Date.{Date}
 use Rattle.value_date.specs.declared.Dated.the-variants.{Is, Bad}
 use Rattle.text.proofs.Cuts.{same-refl}
@@ -67,8 +67,8 @@ shape-back : (d : Date) → shaped dateShape (dateText d) ≡ true
 unfolding shaped fitsByte dateText dayText timeText letterText digitsText
 shape-back d = simp (written, letter-fits)
 
-fields-back : (d : Date) → Real d → fieldsOf (dateText d) ≡ d
-unfolding fieldsOf dateText dayText timeText letterText digitsText
+fields-back : (d : Date) → Real d → dateParts (dateText d) ≡ d
+unfolding dateParts dateText dayText timeText letterText digitsText
 fields-back d r =
     let day-is = number-back 2 (d .day) (omega (arith, days-low (d .year) (d .month))) in
     let month-is = number-back 2 (d .month) (omega arith) in
@@ -93,11 +93,11 @@ date-back d e =
     sym (date-is (dateText d) (shape-back d) (ap isReal f ∙ e)) ∙ ap Is f
 
 -- what is read is of the shape, and real
-pub date-tells : (s : List ℕ) (d : Date) → dateOf s ≡ Is d → (shaped dateShape s ≡ true) × ((isReal (fieldsOf s) ≡ true) × (fieldsOf s ≡ d))
+pub date-tells : (s : List ℕ) (d : Date) → dateOf s ≡ Is d → (shaped dateShape s ≡ true) × ((isReal (dateParts s) ≡ true) × (dateParts s ≡ d))
 unfolding dateOf
 date-tells s d e =
-    let y = taken-is (shaped dateShape s && isReal (fieldsOf s)) (fieldsOf s) e in
-    let p = and-parts (shaped dateShape s) (isReal (fieldsOf s)) (y .0) in
+    let y = taken-is (shaped dateShape s && isReal (dateParts s)) (dateParts s) e in
+    let p = and-parts (shaped dateShape s) (isReal (dateParts s)) (y .0) in
     (p .0, (p .1, y .1))
   where
     taken-is : (t : Bool) (f : Date) → cond t (Is f) Bad ≡ Is d → (t ≡ true) × (f ≡ d)

@@ -1,7 +1,7 @@
 -- Laws of the definitions of `specs/Date.antt`: the shape along the bytes, the fields that it makes digits, and the calendar.
 -- Assumes nothing.
 use Prim.Native.Nat.{ℕ, zero, suc, _+_, _-_, _*_, _%_, _^_, _≤_, _<_}
-use Rattle.value_date.specs.Date.{fitsByte, shaped, dateShape, fieldAt, fieldsOf, leap, daysIn, isReal, Real, dateOf, daysOf, ahead, dayText, timeText, letter, letterText, dateText}
+use Rattle.value_date.specs.Date.{fitsByte, shaped, dateShape, fieldAt, dateParts, leap, daysIn, isReal, Real, dateOf, daysOf, hoursAhead, dayText, timeText, letter, letterText, dateText}
 use Rattle.value_date.specs.declared.Date.{Date}
 use Rattle.value_date.specs.declared.Dated.the-variants.{Is, Bad}
 use Rattle.text.proofs.Cuts.{drop-step}
@@ -219,11 +219,11 @@ pub days-sum : (y m a b : ℕ) → a ≡ daysOf 2001 m → daysOf y m ≡ daysOf
 days-sum y m a b e d = (omega arith, omega (arith, days-upto y m))
 
 -- how far a clock is ahead of UTC: one hour or two
-pub ahead-low : (z : Bool) → ahead z ≤ 7200
+pub ahead-low : (z : Bool) → hoursAhead z ≤ 7200
 ahead-low true = lit≤ tt
 ahead-low false = lit≤ tt
 
-pub ahead-least : (z : Bool) → 3600 ≤ ahead z
+pub ahead-least : (z : Bool) → 3600 ≤ hoursAhead z
 ahead-least true = lit≤ tt
 ahead-least false = lit≤ tt
 
@@ -248,11 +248,11 @@ module _ (s : List ℕ) where
   unfolding dateOf
   date-misshapen e = rw e
 
-  pub date-unreal : shaped dateShape s ≡ true → isReal (fieldsOf s) ≡ false → Bad ≡ dateOf s
+  pub date-unreal : shaped dateShape s ≡ true → isReal (dateParts s) ≡ false → Bad ≡ dateOf s
   unfolding dateOf
   date-unreal e r = rw (e, r)
 
-  pub date-is : shaped dateShape s ≡ true → isReal (fieldsOf s) ≡ true → Is (fieldsOf s) ≡ dateOf s
+  pub date-is : shaped dateShape s ≡ true → isReal (dateParts s) ≡ true → Is (dateParts s) ≡ dateOf s
   unfolding dateOf
   date-is e r = rw (e, r)
 

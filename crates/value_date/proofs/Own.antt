@@ -2,7 +2,7 @@
 use Prim.Native.Nat.{ℕ, _+_, _≤_}
 use Rattle.value_date.proofs.Back.{date-tells}
 use Rattle.value_date.proofs.Laws.{shape-drop, shape-asks, zeros}
-use Rattle.value_date.specs.Date.{fitsByte, shaped, dateShape, fieldAt, fieldsOf, dateOf, dayText, timeText, letter, letterText, dateText}
+use Rattle.value_date.specs.Date.{fitsByte, shaped, dateShape, fieldAt, dateParts, dateOf, dayText, timeText, letter, letterText, dateText}
 use Rattle.value_date.specs.declared.Date.{Date}
 use Rattle.value_date.specs.declared.Dated.the-variants.{Is}
 use Rattle.text.proofs.Backs.{digits-back}
@@ -58,8 +58,8 @@ module _ (s : List ℕ) (e : shaped dateShape s ≡ true) where
       → zeros n (drop (at + 1) dateShape) ≡ true → (p ∷ digitsText n (fieldAt s (at + 1) n)) ++ drop (at + 1 + n) s ≡ drop at s
   marked-own at n p ps f x y h z = ap (λ (t : List ℕ). p ∷ t) (digits-own (at + 1) n h z) ∙ mark-own at p ps f x y
 
-  day-own : dayText (fieldsOf s) ++ drop 10 s ≡ s
-  unfolding dayText fieldsOf digitsText
+  day-own : dayText (dateParts s) ++ drop 10 s ≡ s
+  unfolding dayText dateParts digitsText
   day-own =
       let day : List ℕ = digitsText 2 (fieldAt s 0 2) in
       let month : List ℕ = 45 ∷ digitsText 2 (fieldAt s 3 2) in
@@ -67,8 +67,8 @@ module _ (s : List ℕ) (e : shaped dateShape s ≡ true) where
       ∙ ap (λ (t : List ℕ). day ++ t) (marked-own 2 2 45 _ refl refl refl (omega arith) refl)
       ∙ digits-own 0 2 (omega arith) refl
 
-  time-own : timeText (fieldsOf s) ++ drop 19 s ≡ drop 10 s
-  unfolding timeText fieldsOf digitsText
+  time-own : timeText (dateParts s) ++ drop 19 s ≡ drop 10 s
+  unfolding timeText dateParts digitsText
   time-own =
       let hour : List ℕ = 32 ∷ digitsText 2 (fieldAt s 11 2) in
       let minute : List ℕ = 58 ∷ digitsText 2 (fieldAt s 14 2) in
@@ -76,19 +76,19 @@ module _ (s : List ℕ) (e : shaped dateShape s ≡ true) where
       ∙ ap (λ (t : List ℕ). hour ++ t) (marked-own 13 2 58 _ refl refl refl (omega arith) refl)
       ∙ marked-own 10 2 32 _ refl refl refl (omega arith) refl
 
-  letter-own : letterText (fieldsOf s .legal) ≡ drop 19 s
-  unfolding letterText fieldsOf
+  letter-own : letterText (dateParts s .legal) ≡ drop 19 s
+  unfolding letterText dateParts
   letter-own =
       let last = letter-first (drop 20 s) (shape-drop 20 dateShape s e) in
       let byte = getD-drop 20 s 0 0 in
       ap (λ (b : ℕ). 32 ∷ letter (eqb b 76) ∷ []) (sym byte) ∙ ap (λ (t : List ℕ). 32 ∷ t) last ∙ mark-own 19 32 _ refl refl refl
 
-  fields-own : dateText (fieldsOf s) ≡ s
+  fields-own : dateText (dateParts s) ≡ s
   unfolding dateText
   fields-own =
-      ap (λ (t : List ℕ). dayText (fieldsOf s) ++ timeText (fieldsOf s) ++ t) letter-own
-      ∙ append-assoc (dayText (fieldsOf s)) (timeText (fieldsOf s)) (drop 19 s)
-      ∙ ap (λ (t : List ℕ). dayText (fieldsOf s) ++ t) time-own
+      ap (λ (t : List ℕ). dayText (dateParts s) ++ timeText (dateParts s) ++ t) letter-own
+      ∙ append-assoc (dayText (dateParts s)) (timeText (dateParts s)) (drop 19 s)
+      ∙ ap (λ (t : List ℕ). dayText (dateParts s) ++ t) time-own
       ∙ day-own
 
 pub date-own : (s : List ℕ) (d : Date) → dateOf s ≡ Is d → dateText d ≡ s

@@ -30,8 +30,8 @@ dateShape = bytes "00-00-0000 00:00:00 L"
 abbrev pub fieldAt : List ℕ → ℕ → ℕ → ℕ
 fieldAt s at n = numberIn (take n (drop at s))
 
-unfoldable pub fieldsOf : List ℕ → Date
-fieldsOf s = record {
+unfoldable pub dateParts : List ℕ → Date
+dateParts s = record {
   year = fieldAt s 6 4;
   month = fieldAt s 3 2;
   day = fieldAt s 0 2;
@@ -68,7 +68,7 @@ pub record Real (d : Date) : Type 0 where
   pub second-to : d .second ≤ 59
 
 unfoldable pub dateOf : List ℕ → Dated
-dateOf s = cond (shaped dateShape s && isReal (fieldsOf s)) (Is (fieldsOf s)) Bad
+dateOf s = cond (shaped dateShape s && isReal (dateParts s)) (Is (dateParts s)) Bad
 
 -- ---- the instant: seconds since 2000 began in UTC
 
@@ -82,9 +82,9 @@ unfoldable pub passed : Date → ℕ
 passed d = daysOf (d .year) (d .month - 1) + (d .day - 1)
 
 -- L is two hours ahead of UTC, S one
-abbrev pub ahead : Bool → ℕ
-ahead true = 7200
-ahead false = 3600
+abbrev pub hoursAhead : Bool → ℕ
+hoursAhead true = 7200
+hoursAhead false = 3600
 
 -- seconds that the clock has shown since its 2000 began, whatever its letter
 unfoldable pub clockOf : Date → ℕ
@@ -92,7 +92,7 @@ clockOf d =
     86400 * (365 * (d .year - 2000) + (d .year - 1997) / 4 + passed d) + (3600 * d .hour + 60 * d .minute + d .second)
 
 unfoldable pub instantOf : Date → ℕ
-instantOf d = clockOf d - ahead (d .legal)
+instantOf d = clockOf d - hoursAhead (d .legal)
 
 -- dates are ordered by their instants, never by their digits
 abbrev pub before : Date → Date → Bool

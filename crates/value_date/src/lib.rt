@@ -3,7 +3,7 @@ use text::digits;
 use text::digits::Digits;
 use text::put;
 ghost use Prim.Native.Nat.{_+_, _-_, _*_, _≤_, _<_};
-ghost use Rattle.value_date.specs.Date.{fitsByte, shaped, dateShape, fieldAt, fieldsOf, daysIn, isReal, dateOf, daysOf, ahead, clockOf, instantOf, before, dayText, timeText, letter, letterText, dateText};
+ghost use Rattle.value_date.specs.Date.{fitsByte, shaped, dateShape, fieldAt, dateParts, daysIn, isReal, dateOf, daysOf, hoursAhead, clockOf, instantOf, before, dayText, timeText, letter, letterText, dateText};
 ghost use Rattle.text.specs.Bytes.{all, isDigit};
 ghost use Rattle.text.specs.Digits.{digitsText};
 ghost use Rattle.text.specs.Puts.{limit};
@@ -85,7 +85,7 @@ fn pair(s: &[u8], at: usize) -> u8
 
 fn fields(s: &[u8]) -> Date
     requires { ⌜ shaped dateShape (now s) ≡ true ⌝ }
-    ensures { λ r. ⌜ r ≡ fieldsOf (now (s .entry)) ⌝ }
+    ensures { λ r. ⌜ r ≡ dateParts (now (s .entry)) ⌝ }
 {
     let day = pair(s, 0);
     let month = pair(s, 3);
@@ -195,7 +195,7 @@ fn months_before(month: u8) -> u8
 
 // How far a letter's clock is ahead of UTC, in seconds.
 fn ahead_of(legal: bool) -> u64
-    ensures { λ r. ⌜ r ≡ ahead legal ⌝ }
+    ensures { λ r. ⌜ r ≡ hoursAhead legal ⌝ }
 {
     if legal { 7200 } else { 3600 }
 }

@@ -1,6 +1,6 @@
 -- A shape is known by its number, but for the words that it takes; and what the arm `_` of a question on shapes says. Assumes nothing.
 use Prim.Native.Nat.{ℕ, _-_}
-use Rattle.value_fits.specs.Fits.{typeNumber, shapeNumber, firstWord, lastWord, countIn}
+use Rattle.value_fits.specs.Fits.{typeNumber, shapeNumber, firstWord, lastWord, numbersMost}
 use Rattle.value_name.specs.declared.MessageType.{MessageType}
 use Rattle.value_name.specs.declared.MessageType.the-variants.{Cb, Rc, Mg, Eb, Lb, Sr, Vq, Ri, Qr}
 use Rattle.value.proofs.Shape.{the-type}
@@ -88,7 +88,7 @@ no-words IsChange h = (refl, refl)
 no-words IsReactive h = absurd (miss notWord 14 tt h)
 
 -- any shape but a profile and half-bands takes no list of numbers
-pub no-numbers : (s : Shape) → OneOf notListed (tagOf the-type s) → 0 ≡ countIn s
+pub no-numbers : (s : Shape) → OneOf notListed (tagOf the-type s) → 0 ≡ numbersMost s
 no-numbers (IsId t) h = refl
 no-numbers IsUnit h = refl
 no-numbers IsWhen h = refl

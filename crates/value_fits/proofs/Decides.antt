@@ -6,7 +6,7 @@ use Rattle.value_fits.proofs.Blanks.{blank-is}
 use Rattle.value_fits.proofs.ByNumber.{shapeAt, type-back, shape-is}
 use Rattle.value_fits.proofs.Gradients.{triples-tell}
 use Rattle.value_fits.proofs.Ranges.{range-tells, listed-tells}
-use Rattle.value_fits.specs.Fits.{typeNumber, shapeNumber, isAmong, areListed, countIn, isKept, isNamed, inRange, areTriples, fits, holds}
+use Rattle.value_fits.specs.Fits.{typeNumber, shapeNumber, isAmong, areListed, numbersMost, isKept, isNamed, inRange, areTriples, fits, holds}
 use Rattle.value_list.specs.declared.Numbers.{Numbers as Few}
 use Rattle.value_name.specs.Names.{isUnit}
 use Rattle.value_name.specs.declared.MessageType.{MessageType}
@@ -79,7 +79,7 @@ module _ (t : MessageType) (r : Rooms) where
   to-word IsChange w e = absurd (none-among w e)
   to-word IsReactive w e = let p = among 25 27 w .0 e in mvar-word (p .0 .0 .1) (p .0 .1)
 
-  to-numbers : (s : Shape) (x : Few) → areListed (countIn s) x ≡ true → Fits t r s (Numbers x)
+  to-numbers : (s : Shape) (x : Few) → areListed (numbersMost s) x ≡ true → Fits t r s (Numbers x)
   to-numbers (IsId u) x e = absurd (none-listed x e)
   to-numbers IsUnit x e = absurd (none-listed x e)
   to-numbers IsWhen x e = absurd (none-listed x e)

@@ -89,22 +89,22 @@ lastWord IsChange = 0
 lastWord IsReactive = 27
 
 -- how many numbers: 0 where it takes no list of them
-abbrev pub countIn : Shape → ℕ
-countIn (IsId t) = 0
-countIn IsUnit = 0
-countIn IsWhen = 0
-countIn IsAmount = 0
-countIn IsCount = 0
-countIn IsReason = 0
-countIn IsNote = 0
-countIn (IsWord first last) = 0
-countIn IsProfile = 4
-countIn IsBands = 2
-countIn IsTriples = 0
-countIn IsVoltage = 0
-countIn IsRegulator = 0
-countIn IsChange = 0
-countIn IsReactive = 0
+abbrev pub numbersMost : Shape → ℕ
+numbersMost (IsId t) = 0
+numbersMost IsUnit = 0
+numbersMost IsWhen = 0
+numbersMost IsAmount = 0
+numbersMost IsCount = 0
+numbersMost IsReason = 0
+numbersMost IsNote = 0
+numbersMost (IsWord first last) = 0
+numbersMost IsProfile = 4
+numbersMost IsBands = 2
+numbersMost IsTriples = 0
+numbersMost IsVoltage = 0
+numbersMost IsRegulator = 0
+numbersMost IsChange = 0
+numbersMost IsReactive = 0
 
 unfoldable pub isAmong : Shape → ℕ → Bool
 isAmong s w = leb 1 (firstWord s) && leb (firstWord s) w && leb w (lastWord s) && leb (lastWord s) 31
@@ -154,7 +154,7 @@ fits t r s (Count n) = eqb (shapeNumber s) 4 && ltb n (10 ^ 10)
 fits t r s (Reason n) = eqb (shapeNumber s) 5 && isKept 128 (r .reason) n
 fits t r s (Note n) = eqb (shapeNumber s) 6 && isKept 256 (r .note) n
 fits t r s (Word w) = isAmong s w
-fits t r s (Numbers x) = areListed (countIn s) x
+fits t r s (Numbers x) = areListed (numbersMost s) x
 fits t r s (Triples n) = eqb (shapeNumber s) 10 && areTriples (r .gradients) n
 fits t r s (Voltage v) = eqb (shapeNumber s) 11 && inRange (v .0)
 fits t r s (Regulator v) = eqb (shapeNumber s) 12 && inRange (v .0)

@@ -1,7 +1,7 @@
 // What a shape takes: its own number, which words, and how many numbers.
 use value::Shape;
 use value_name::MessageType;
-ghost use Rattle.value_fits.specs.Fits.{typeNumber, shapeNumber, firstWord, lastWord, countIn, isAmong};
+ghost use Rattle.value_fits.specs.Fits.{typeNumber, shapeNumber, firstWord, lastWord, numbersMost, isAmong};
 ghost use mathlib.Core.Path.{_≡_};
 
 // An identifier's shape has the number of its type, from 21; every other shape has a number below.
@@ -78,7 +78,7 @@ pub fn is_among(s: Shape, w: u8) -> bool
 
 // How many numbers a shape takes: 0 where it takes no list of them.
 pub fn count(s: Shape) -> u8
-    ensures { λ r. ⌜ r ≡ countIn s ⌝ }
+    ensures { λ r. ⌜ r ≡ numbersMost s ⌝ }
 {
     match s {
         Shape::IsProfile => 4,

@@ -2,7 +2,7 @@
 -- Assumes nothing.
 use Prim.Native.Nat.{ℕ, suc, _+_, _-_, _*_, _/_, _%_, _≤_, _<_}
 use Rattle.value_date.proofs.Laws.{real-tells, days-more, ahead-low, ahead-least}
-use Rattle.value_date.specs.Date.{daysIn, isReal, Real, daysOf, passed, ahead, clockOf, instantOf}
+use Rattle.value_date.specs.Date.{daysIn, isReal, Real, daysOf, passed, hoursAhead, clockOf, instantOf}
 use Rattle.value_date.specs.declared.Date.{Date}
 use Rattle.value_instants.proofs.Days.{year-length, year-from, year-to, year-is, months-most, months-low, months-high, months-is, days-rise}
 use Rattle.value_instants.specs.Instants.{yearOn, firstDay, monthsIn, dayDate, clockDate, Gives}
@@ -18,7 +18,7 @@ use native.Mathlib.Omega.{arith}
 
 -- what clocks show at a date, in seconds since their 2000 began
 abbrev pub clock : Date → ℕ
-clock d = instantOf d + ahead (d .legal)
+clock d = instantOf d + hoursAhead (d .legal)
 
 -- the day, of those since 2000, and the second of the day
 abbrev pub dayNumber : Date → ℕ
@@ -114,9 +114,9 @@ module _ (u : ℕ) (l : Bool) (from : 31622400 ≤ u) (to : u < 3155760000) wher
   unfolding clockDate dayDate
   clock-legal = refl
 
-  pub clock-reached : Gives isReal (u - ahead l)
+  pub clock-reached : Gives isReal (u - hoursAhead l)
   clock-reached =
-      record { date = clockDate u l; passes = real-tells (clockDate u l) .1 clock-real; gives = omega (arith, clock-clock, ap ahead clock-legal) }
+      record { date = clockDate u l; passes = real-tells (clockDate u l) .1 clock-real; gives = omega (arith, clock-clock, ap hoursAhead clock-legal) }
 
 -- the L of the first hour that only L reaches, and S after it
 pub reached : (t : ℕ) → 31615200 ≤ t → t ≤ 3155756399 → Gives isReal t
@@ -162,7 +162,7 @@ module _ (d : Date) (r : Real d) where
 -- two real dates that give one instant differ in nothing if they agree in the letter
 pub real-injective : (d e : Date) → Real d → Real e → d .legal ≡ e .legal → instantOf d ≡ instantOf e → d ≡ e
 real-injective d e r q l i =
-    sym (clock-back d r) ∙ (λ j. clockDate (i j + ahead (l j)) (l j)) ∙ clock-back e q
+    sym (clock-back d r) ∙ (λ j. clockDate (i j + hoursAhead (l j)) (l j)) ∙ clock-back e q
 
 -- the instants that real dates give, exactly: what no real date gives is outside these
 pub real-exactly : (t : ℕ) → Gives isReal t ↔ ((31615200 ≤ t) × (t ≤ 3155756399))

@@ -3,7 +3,7 @@
 use Prim.Native.Nat.{ℕ, zero, suc, _≤_}
 use Rattle.value_list.proofs.Cuts.{cut-none, cut-some}
 use Rattle.value_list.specs.Forms.{Each}
-use Rattle.value_list.specs.Lists.{cutAt, before, everyOf, counted, someOf, runText, listText}
+use Rattle.value_list.specs.Lists.{cutAt, consRead, everyOf, counted, someOf, runText, listText}
 use Rattle.text.proofs.Cuts.{upto-seam, past-seam, any-seam, all-none, all-append}
 use Rattle.text.proofs.Tests.{and-parts}
 use Rattle.text.proofs.Trims.{trim-none}
@@ -50,7 +50,7 @@ module _ {A : Type 0} (read : List ℕ → Option A) (text : A → List ℕ) (Go
       ∙ rw (upto-seam (is sep) (text a) sep t n y, past-seam (is sep) (text a) sep t n y)
 
   rest-back : (a : A) (l : List A) → Good a → Each Good l → everyOf read (cutAt sep (text a ++ runText text sep l)) ≡ some (a ∷ l)
-  unfolding Each everyOf before runText
+  unfolding Each everyOf consRead runText
   rest-back a [] g gs = rw (append-nil (text a), cut-none sep (text a) (none-of sep no-sep a), trim-back a g)
   rest-back a (b ∷ l) g gs =
       rw (cut-seam a (text b ++ runText text sep l), trim-back a g, rest-back b l (gs .0) (gs .1))
@@ -105,11 +105,11 @@ list-counted {A} read sep least most s l e = go (everyOf read (cutAt sep s)) ref
 
 module _ {A : Type 0} (read : List ℕ → Option A) (Good : A → Type 0) (good : (t : List ℕ) (a : A) → read t ≡ some a → Good a) where
   every-good : (ps : List (List ℕ)) (l : List A) → everyOf read ps ≡ some l → Each Good l
-  unfolding everyOf Each before
+  unfolding everyOf Each consRead
   every-good [] l e = let n : l ≡ [] = cc in rw n tt
   every-good (p ∷ ps) l e = go (read (trim p)) (everyOf read ps) refl (every-good ps) l e
     where
-      go : (o : Option A) (r : Option (List A)) → read (trim p) ≡ o → ((m : List A) → r ≡ some m → Each Good m) → (l : List A) → before o r ≡ some l → Each Good l
+      go : (o : Option A) (r : Option (List A)) → read (trim p) ≡ o → ((m : List A) → r ≡ some m → Each Good m) → (l : List A) → consRead o r ≡ some l → Each Good l
       go none r f g l e = let z : _≡_ {A = ℕ} 0 1 = cc in absurd (omega arith)
       go (some a) none f g l e = let z : _≡_ {A = ℕ} 0 1 = cc in absurd (omega arith)
       go (some a) (some m) f g l e = let n : l ≡ a ∷ m = cc in rw n (good (trim p) a f, g m refl)

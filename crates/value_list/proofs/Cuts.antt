@@ -1,7 +1,7 @@
 -- Reading a list part by part, for any element, any reader of one, any room.
 -- Assumes nothing.
 use Prim.Native.Nat.{ℕ, suc, _+_, _-_, _≤_, _<_}
-use Rattle.value_list.specs.Lists.{cutAt, before, everyOf, counted, someOf}
+use Rattle.value_list.specs.Lists.{cutAt, consRead, everyOf, counted, someOf}
 use Rattle.text.proofs.Cuts.{upto-take, past-drop, upto-length, upto-all}
 use Rattle.text.proofs.Tests.{by-test, or-parts}
 use Rattle.text.specs.Bytes.{part, upto, past, any, is, firstOf, trim}
@@ -82,18 +82,18 @@ unfolding onto
 onto-nil none = refl
 onto-nil (some l) = refl
 
-onto-one : {A : Type 0} (done : List A) (a : A) (r : Option (List A)) → onto done (before (some a) r) ≡ onto (done ++ (a ∷ [])) r
-unfolding before onto
+onto-one : {A : Type 0} (done : List A) (a : A) (r : Option (List A)) → onto done (consRead (some a) r) ≡ onto (done ++ (a ∷ [])) r
+unfolding consRead onto
 onto-one done a none = refl
 onto-one done a (some l) = ap some (sym (append-assoc done (a ∷ []) l))
 
-onto-end : {A : Type 0} (done : List A) (a : A) → onto done (before (some a) (some [])) ≡ some (done ++ (a ∷ []))
-unfolding before onto
+onto-end : {A : Type 0} (done : List A) (a : A) → onto done (consRead (some a) (some [])) ≡ some (done ++ (a ∷ []))
+unfolding consRead onto
 onto-end done a = refl
 
 -- what is read of a text is never nothing
-more-than : {A : Type 0} (done : List A) (first : Option A) (r : Option (List A)) (least most : ℕ) → most ≤ length done → counted least most (onto done (before first r)) ≡ none
-unfolding before onto counted
+more-than : {A : Type 0} (done : List A) (first : Option A) (r : Option (List A)) (least most : ℕ) → most ≤ length done → counted least most (onto done (consRead first r)) ≡ none
+unfolding consRead onto counted
 more-than done none r least most h = refl
 more-than done (some a) none least most h = refl
 more-than done (some a) (some l) least most h =
@@ -132,7 +132,7 @@ module _ {A : Type 0} (read : List ℕ → Option A) (sep : ℕ) (z : A) where
 
     -- a part that cannot be read
     pub bad-part : (least most : ℕ) → read (trim (part at e s)) ≡ none → someOf read sep least most s ≡ none
-    unfolding someOf everyOf before onto counted
+    unfolding someOf everyOf consRead onto counted
     bad-part least most h =
         let b : everyOf read (cutAt sep s) ≡ none = f .all-parts ∙ rw (part-first sep s at e (f .inside) ee .1, h) in
         ap (counted least most) b

@@ -4,9 +4,9 @@ use Prim.Native.Nat.{ℕ, _-_, _≤_}
 use Rattle.value_list.proofs.Back.{list-counted}
 use Rattle.value_list.proofs.Cuts.{cut-first}
 use Rattle.value_list.proofs.RoundTrip.{number-read, room-list}
-use Rattle.value_list.specs.Forms.{numberIn, numbersOf, listOf, listed, numbersIn, numbersText, tripleOf, oneOf, oneIn, tripleIs, tripleIn, noTriple}
-use Rattle.value_list.specs.Forms.{gradientsOf, readOf, gradientsIn, tripleText, gradientsText}
-use Rattle.value_list.specs.Lists.{onFirst, cutAt, before, everyOf, someOf, runText, listText}
+use Rattle.value_list.specs.Forms.{amountOf, numbersOf, listOf, listed, numbersIn, numbersText, tripleOf, oneOf, oneIn, tripleIs, tripleIn, noTriple}
+use Rattle.value_list.specs.Forms.{gradientsOf, gradientsRead, gradientsIn, tripleText, gradientsText}
+use Rattle.value_list.specs.Lists.{onFirst, cutAt, consRead, everyOf, someOf, runText, listText}
 use Rattle.value_list.specs.declared.Listed.the-variants.{Are}
 use Rattle.value_list.specs.declared.Numbers.{Numbers}
 use Rattle.value_list.specs.declared.Triple.{Triple}
@@ -58,20 +58,20 @@ module _ {A : Type 0} (read : List ℕ → Option A) (text : A → List ℕ) (se
 
   -- of one part at least there is one element at least
   run-some : (q : List ℕ) (qs : List (List ℕ)) (l : List A) → everyOf read (q ∷ qs) ≡ some l → runText text sep l ≡ sep ∷ listText text sep l
-  unfolding everyOf before runText listText
+  unfolding everyOf consRead runText listText
   run-some q qs l e = go (read (trim q)) (everyOf read qs) e
     where
-      go : (o : Option A) (r : Option (List A)) → before o r ≡ some l → runText text sep l ≡ sep ∷ listText text sep l
+      go : (o : Option A) (r : Option (List A)) → consRead o r ≡ some l → runText text sep l ≡ sep ∷ listText text sep l
       go none r e = let z : _≡_ {A = ℕ} 0 1 = cc in absurd (omega arith)
       go (some a) none e = let z : _≡_ {A = ℕ} 0 1 = cc in absurd (omega arith)
       go (some a) (some m) e = let n : l ≡ a ∷ m = cc in rw n
 
   parts-own : (p : ℕ) (q : List ℕ) (qs : List (List ℕ)) (l : List A) → isDigit p ≡ false → shortFrom p false (partsText sep (q ∷ qs)) ≡ true
       → everyOf read (q ∷ qs) ≡ some l → listText text sep l ≡ partsText sep (q ∷ qs)
-  unfolding everyOf before runText listText
+  unfolding everyOf consRead runText listText
   parts-own p q [] l o h e = go (read (trim q)) refl e
     where
-      go : (x : Option A) → read (trim q) ≡ x → before x (some []) ≡ some l → listText text sep l ≡ q ++ []
+      go : (x : Option A) → read (trim q) ≡ x → consRead x (some []) ≡ some l → listText text sep l ≡ q ++ []
       go none f e = let z : _≡_ {A = ℕ} 0 1 = cc in absurd (omega arith)
       go (some a) f e =
           let n : l ≡ a ∷ [] = cc in
@@ -83,7 +83,7 @@ module _ {A : Type 0} (read : List ℕ → Option A) (text : A → List ℕ) (se
 
       go : (x : Option A) (y : Option (List A)) → read (trim q) ≡ x → everyOf read (r ∷ rs) ≡ y
           → ((m : List A) → isDigit sep ≡ false → shortFrom sep false rest ≡ true → everyOf read (r ∷ rs) ≡ some m → listText text sep m ≡ rest)
-          → before x y ≡ some l → listText text sep l ≡ q ++ sep ∷ rest
+          → consRead x y ≡ some l → listText text sep l ≡ q ++ sep ∷ rest
       go none y f g on e = let z : _≡_ {A = ℕ} 0 1 = cc in absurd (omega arith)
       go (some a) none f g on e = let z : _≡_ {A = ℕ} 0 1 = cc in absurd (omega arith)
       go (some a) (some m) f g on e =
@@ -103,24 +103,24 @@ module _ {A : Type 0} (read : List ℕ → Option A) (text : A → List ℕ) (se
 
 -- ---- numbers, and triples of them
 
-number-past : (p : ℕ) (s : List ℕ) (v : ℤ) → isDigit p ≡ false → numberIn s ≡ some v → shortFrom p false s ≡ true → numberText v ≡ s
+number-past : (p : ℕ) (s : List ℕ) (v : ℤ) → isDigit p ≡ false → amountOf s ≡ some v → shortFrom p false s ≡ true → numberText v ≡ s
 number-past p s v o e h = own-past p s v o (number-read s v e) h
 
 pub numbers-own : (least most : ℕ) (s : List ℕ) (x : Numbers) → most ≤ 4 → numbersIn 59 least most s ≡ Are x → areShort s ≡ true → numbersText 59 x ≡ s
 unfolding numbersIn numbersText areShort
-numbers-own least most s x k e h = go (someOf numberIn 59 least most s) refl e
+numbers-own least most s x k e h = go (someOf amountOf 59 least most s) refl e
   where
-    go : (o : Option (List ℤ)) → someOf numberIn 59 least most s ≡ o → listed o ≡ Are x → listText numberText 59 (listOf x) ≡ s
+    go : (o : Option (List ℤ)) → someOf amountOf 59 least most s ≡ o → listed o ≡ Are x → listText numberText 59 (listOf x) ≡ s
     go none f e = let z : _≡_ {A = ℕ} 0 1 = cc in absurd (omega arith)
     go (some l) f e =
         let q : numbersOf l ≡ x = cc in
-        let four = list-counted numberIn 59 least most s l f .few in
+        let four = list-counted amountOf 59 least most s l f .few in
         rw (← q) (ap (listText numberText 59) (room-list l (omega arith))
-        ∙ list-own numberIn numberText 59 refl refl (λ d. mark-ends d .0) number-past 0 least most s l refl h f)
+        ∙ list-own amountOf numberText 59 refl refl (λ d. mark-ends d .0) number-past 0 least most s l refl h f)
 
 triple-past : (p : ℕ) (s : List ℕ) (t : Triple) → isDigit p ≡ false → tripleIn s ≡ some t → shortFrom p false s ≡ true → tripleText t ≡ s
 unfolding oneIn tripleText tripleOf
-triple-past p s t o e h = go (someOf numberIn 44 3 3 s) refl e
+triple-past p s t o e h = go (someOf amountOf 44 3 3 s) refl e
   where
     three : (l : List ℤ) → 3 ≤ length l → length l ≤ 3 → tripleOf l .low ∷ tripleOf l .high ∷ tripleOf l .gradient ∷ [] ≡ l
     three [] a b = absurd (omega arith)
@@ -129,22 +129,22 @@ triple-past p s t o e h = go (someOf numberIn 44 3 3 s) refl e
     three (x ∷ y ∷ z ∷ []) a b = refl
     three (x ∷ y ∷ z ∷ w ∷ l) a b = absurd (omega arith)
 
-    go : (x : Option (List ℤ)) → someOf numberIn 44 3 3 s ≡ x → tripleIs (oneOf x) ≡ some t
+    go : (x : Option (List ℤ)) → someOf amountOf 44 3 3 s ≡ x → tripleIs (oneOf x) ≡ some t
         → listText numberText 44 (t .low ∷ t .high ∷ t .gradient ∷ []) ≡ s
     go none f e = let z : _≡_ {A = ℕ} 0 1 = cc in absurd (omega arith)
     go (some l) f e =
         let q : tripleOf l ≡ t = cc in
-        let c = list-counted numberIn 44 3 3 s l f in
+        let c = list-counted amountOf 44 3 3 s l f in
         rw (← q) (ap (listText numberText 44) (three l (c .enough) (c .few))
-        ∙ list-own numberIn numberText 44 refl refl (λ d. mark-ends d .1) number-past p 3 3 s l o h f)
+        ∙ list-own amountOf numberText 44 refl refl (λ d. mark-ends d .1) number-past p 3 3 s l o h f)
 
 pub gradients-own : (s : List ℕ) → gradientsIn s .good ≡ true → areShort s ≡ true
     → gradientsText (gradientsIn s .list .values) (gradientsIn s .list .count) ≡ s
-unfolding gradientsIn gradientsText readOf gradientsOf areShort
+unfolding gradientsIn gradientsText gradientsRead gradientsOf areShort
 gradients-own s e h = go (someOf tripleIn 59 1 16 s) refl e
   where
-    go : (o : Option (List Triple)) → someOf tripleIn 59 1 16 s ≡ o → readOf o .good ≡ true
-        → listText tripleText 59 (take (readOf o .list .count) (readOf o .list .values)) ≡ s
+    go : (o : Option (List Triple)) → someOf tripleIn 59 1 16 s ≡ o → gradientsRead o .good ≡ true
+        → listText tripleText 59 (take (gradientsRead o .list .count) (gradientsRead o .list .values)) ≡ s
     go none f e = absurd (false≢true e)
     go (some l) f e =
         ap (listText tripleText 59) (take-append-seam l (replicate (16 - length l) noTriple))

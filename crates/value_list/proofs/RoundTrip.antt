@@ -4,7 +4,7 @@ use Prim.Native.Nat.{ℕ, _-_, _≤_}
 use Rattle.value_list.proofs.Back.{list-back, each-take, each-at, Known, list-known}
 use Rattle.value_list.proofs.Lines.{placesOf}
 use Rattle.value_list.proofs.Texts.{triple-bytes}
-use Rattle.value_list.specs.Forms.{valueIn, numberIn, numbersOf, listOf, listed, numbersIn, numbersText, tripleOf, oneOf, oneIn, tripleIs, tripleIn, noTriple, gradientsOf, readOf, gradientsIn, tripleText, gradientsText, InRange, ValidNumbers, TripleRange, Each, ValidGradients}
+use Rattle.value_list.specs.Forms.{amountRead, amountOf, numbersOf, listOf, listed, numbersIn, numbersText, tripleOf, oneOf, oneIn, tripleIs, tripleIn, noTriple, gradientsOf, gradientsRead, gradientsIn, tripleText, gradientsText, InRange, ValidNumbers, TripleRange, Each, ValidGradients}
 use Rattle.value_list.specs.Lists.{someOf, listText}
 use Rattle.value_list.specs.declared.Listed.the-variants.{Are}
 use Rattle.value_list.specs.declared.Numbers.{Numbers}
@@ -27,9 +27,9 @@ use native.Mathlib.Omega.{arith}
 -- ---- numbers
 
 numbers-read : (sep least most : ℕ) (l : List ℤ) → within 45 57 sep ≡ false → 1 ≤ length l → least ≤ length l → length l ≤ most → Each InRange l
-    → someOf numberIn sep least most (listText numberText sep l) ≡ some l
+    → someOf amountOf sep least most (listText numberText sep l) ≡ some l
 numbers-read sep least most l ns h lo hi g =
-    list-back numberIn numberText InRange (within 45 57) sep ns refl number-bytes (λ v r. ap valueIn (number-back v r)) least most l h lo hi g
+    list-back amountOf numberText InRange (within 45 57) sep ns refl number-bytes (λ v r. ap amountRead (number-back v r)) least most l h lo hi g
 
 pub numbers-back : (least most : ℕ) (x : Numbers) → 1 ≤ least → most ≤ 4 → ValidNumbers least most x → numbersIn 59 least most (numbersText 59 x) ≡ Are x
 unfolding numbersIn numbersText Each
@@ -48,22 +48,22 @@ triple-back t r =
     (numbers-read 44 3 3 (t .low ∷ t .high ∷ t .gradient ∷ []) refl (lit≤ tt) (lit≤ tt) (lit≤ tt) (r .low-range, (r .high-range, (r .gradient-range, tt))))
 
 pub gradients-back : (values : List Triple) (n : ℕ) → ValidGradients values n → gradientsIn (gradientsText values n) ≡ record { good = true; list = record { count = n; values = values } }
-unfolding gradientsIn gradientsText readOf gradientsOf
+unfolding gradientsIn gradientsText gradientsRead gradientsOf
 gradients-back values n v =
     let m : length (take n values) ≡ n = length-take-le n values (omega (arith, v .few, v .sixteen)) in
-    ap readOf (list-back tripleIn tripleText TripleRange (within 44 57) 59 refl refl triple-bytes triple-back 1 16 (take n values) (omega (arith, v .enough)) (omega (arith, v .enough)) (omega (arith, v .few)) (v .ranged))
+    ap gradientsRead (list-back tripleIn tripleText TripleRange (within 44 57) 59 refl refl triple-bytes triple-back 1 16 (take n values) (omega (arith, v .enough)) (omega (arith, v .enough)) (omega (arith, v .few)) (v .ranged))
     ∙ rw m (λ i. record { good = true; list = record { count = n; values = sym (v .zero-room) i } })
 
 -- ---- what is read is valid
 
-pub number-read : (t : List ℕ) (v : ℤ) → numberIn t ≡ some v → numberOf t ≡ IsNumber v
+pub number-read : (t : List ℕ) (v : ℤ) → amountOf t ≡ some v → numberOf t ≡ IsNumber v
 number-read t v e = go (numberOf t) e
   where
-    go : (n : Number) → valueIn n ≡ some v → n ≡ IsNumber v
+    go : (n : Number) → amountRead n ≡ some v → n ≡ IsNumber v
     go (IsNumber w) e = let q : w ≡ v = cc in ap IsNumber q
     go NoNumber e = let z : _≡_ {A = ℕ} 0 1 = cc in absurd (omega arith)
 
-number-good : (t : List ℕ) (v : ℤ) → numberIn t ≡ some v → InRange v
+number-good : (t : List ℕ) (v : ℤ) → amountOf t ≡ some v → InRange v
 number-good t v e = number-range t v (number-read t v e)
 
 -- a list in a room is the list that the room holds
@@ -79,7 +79,7 @@ room-list (a ∷ b ∷ c ∷ d ∷ e ∷ l) h = absurd (omega arith)
 zero-range : InRange (pos 0)
 zero-range = lit< tt
 
-room-valid : (least most : ℕ) (l : List ℤ) → most ≤ 4 → Known numberIn InRange number-good least most l → ValidNumbers least most (numbersOf l)
+room-valid : (least most : ℕ) (l : List ℤ) → most ≤ 4 → Known amountOf InRange number-good least most l → ValidNumbers least most (numbersOf l)
 unfolding numbersOf
 room-valid least most l h k =
     record {
@@ -94,17 +94,17 @@ room-valid least most l h k =
 
 pub numbers-valid : (sep least most : ℕ) (s : List ℕ) (x : Numbers) → most ≤ 4 → numbersIn sep least most s ≡ Are x → ValidNumbers least most x
 unfolding numbersIn
-numbers-valid sep least most s x h e = go (someOf numberIn sep least most s) refl e
+numbers-valid sep least most s x h e = go (someOf amountOf sep least most s) refl e
   where
-    go : (o : Option (List ℤ)) → someOf numberIn sep least most s ≡ o → listed o ≡ Are x → ValidNumbers least most x
+    go : (o : Option (List ℤ)) → someOf amountOf sep least most s ≡ o → listed o ≡ Are x → ValidNumbers least most x
     go none f e = let z : _≡_ {A = ℕ} 0 1 = cc in absurd (omega arith)
     go (some l) f e =
         let q : numbersOf l ≡ x = cc in
-        rw (← q) (room-valid least most l h (list-known numberIn InRange number-good sep least most s l f))
+        rw (← q) (room-valid least most l h (list-known amountOf InRange number-good sep least most s l f))
 
 triple-good : (t : List ℕ) (v : Triple) → tripleIn t ≡ some v → TripleRange v
 unfolding oneIn tripleOf
-triple-good t v e = go (someOf numberIn 44 3 3 t) refl e
+triple-good t v e = go (someOf amountOf 44 3 3 t) refl e
   where
     ranged : (l : List ℤ) → Each InRange l → TripleRange (tripleOf l)
     ranged l g = record {
@@ -113,17 +113,17 @@ triple-good t v e = go (someOf numberIn 44 3 3 t) refl e
       gradient-range = each-at InRange l 2 (pos 0) g zero-range;
     }
 
-    go : (o : Option (List ℤ)) → someOf numberIn 44 3 3 t ≡ o → tripleIs (oneOf o) ≡ some v → TripleRange v
+    go : (o : Option (List ℤ)) → someOf amountOf 44 3 3 t ≡ o → tripleIs (oneOf o) ≡ some v → TripleRange v
     go none f e = let z : _≡_ {A = ℕ} 0 1 = cc in absurd (omega arith)
     go (some l) f e =
         let q : tripleOf l ≡ v = cc in
-        rw (← q) (ranged l (list-known numberIn InRange number-good 44 3 3 t l f .each-good))
+        rw (← q) (ranged l (list-known amountOf InRange number-good 44 3 3 t l f .each-good))
 
 pub gradients-valid : (s : List ℕ) → gradientsIn s .good ≡ true → ValidGradients (gradientsIn s .list .values) (gradientsIn s .list .count)
-unfolding gradientsIn readOf gradientsOf
+unfolding gradientsIn gradientsRead gradientsOf
 gradients-valid s e = go (someOf tripleIn 59 1 16 s) refl e
   where
-    go : (o : Option (List Triple)) → someOf tripleIn 59 1 16 s ≡ o → readOf o .good ≡ true → ValidGradients (readOf o .list .values) (readOf o .list .count)
+    go : (o : Option (List Triple)) → someOf tripleIn 59 1 16 s ≡ o → gradientsRead o .good ≡ true → ValidGradients (gradientsRead o .list .values) (gradientsRead o .list .count)
     go none f e = absurd (false≢true e)
     go (some l) f e =
         let k = list-known tripleIn TripleRange triple-good 59 1 16 s l f in

@@ -22,12 +22,12 @@ use mathlib.Core.Path.{_≡_}
 
 -- ---- up to four numbers
 
-abbrev pub valueIn : Number → Option ℤ
-valueIn (IsNumber v) = some v
-valueIn NoNumber = none
+abbrev pub amountRead : Number → Option ℤ
+amountRead (IsNumber v) = some v
+amountRead NoNumber = none
 
-abbrev pub numberIn : List ℕ → Option ℤ
-numberIn s = valueIn (numberOf s)
+abbrev pub amountOf : List ℕ → Option ℤ
+amountOf s = amountRead (numberOf s)
 
 -- a list in a record's room: how many, and the unused room zero
 unfoldable pub numbersOf : List ℤ → Numbers
@@ -49,7 +49,7 @@ listed none = Bad
 
 -- least to most numbers between separators
 unfoldable pub numbersIn : ℕ → ℕ → ℕ → List ℕ → Listed
-numbersIn sep least most s = listed (someOf numberIn sep least most s)
+numbersIn sep least most s = listed (someOf amountOf sep least most s)
 
 -- a profile line: four numbers
 abbrev pub profileOf : List ℕ → Listed
@@ -72,7 +72,7 @@ oneOf (some l) = It (tripleOf l)
 oneOf none = No
 
 unfoldable pub oneIn : List ℕ → One
-oneIn s = oneOf (someOf numberIn 44 3 3 s)
+oneIn s = oneOf (someOf amountOf 44 3 3 s)
 
 abbrev pub tripleIs : One → Option Triple
 tripleIs (It t) = some t
@@ -88,12 +88,12 @@ noTriple = record { low = pos 0; high = pos 0; gradient = pos 0 }
 unfoldable pub gradientsOf : List Triple → Gradients
 gradientsOf l = record { count = length l; values = l ++ replicate (16 - length l) noTriple }
 
-unfoldable pub readOf : Option (List Triple) → GradientsRead
-readOf (some l) = record { good = true; list = gradientsOf l }
-readOf none = record { good = false; list = gradientsOf [] }
+unfoldable pub gradientsRead : Option (List Triple) → GradientsRead
+gradientsRead (some l) = record { good = true; list = gradientsOf l }
+gradientsRead none = record { good = false; list = gradientsOf [] }
 
 unfoldable pub gradientsIn : List ℕ → GradientsRead
-gradientsIn s = readOf (someOf tripleIn 59 1 16 s)
+gradientsIn s = gradientsRead (someOf tripleIn 59 1 16 s)
 
 unfoldable pub tripleText : Triple → List ℕ
 tripleText t = listText numberText 44 (t .low ∷ t .high ∷ t .gradient ∷ [])

@@ -18,15 +18,15 @@ unfoldable pub cutAt : ℕ → List ℕ → List (List ℕ)
 cutAt sep [] = [] ∷ []
 cutAt sep (b ∷ s) = cond (eqb b sep) ([] ∷ cutAt sep s) (onFirst b (cutAt sep s))
 
-unfoldable pub before : {A : Type 0} → Option A → Option (List A) → Option (List A)
-before (some a) (some l) = some (a ∷ l)
-before (some a) none = none
-before none l = none
+unfoldable pub consRead : {A : Type 0} → Option A → Option (List A) → Option (List A)
+consRead (some a) (some l) = some (a ∷ l)
+consRead (some a) none = none
+consRead none l = none
 
 -- each part trimmed and read: none where one cannot be
 unfoldable pub everyOf : {A : Type 0} → (List ℕ → Option A) → List (List ℕ) → Option (List A)
 everyOf read [] = some []
-everyOf read (p ∷ ps) = before (read (trim p)) (everyOf read ps)
+everyOf read (p ∷ ps) = consRead (read (trim p)) (everyOf read ps)
 
 -- least to most of them
 unfoldable pub counted : {A : Type 0} → ℕ → ℕ → Option (List A) → Option (List A)

@@ -1,7 +1,7 @@
 -- Reading: what each definition of `specs/Number.antt` is at each way through the code, and the range of what is read.
 -- Assumes nothing.
 use Prim.Native.Nat.{ℕ, _+_, _-_, _*_, _^_, _≤_, _<_}
-use Rattle.value_number.specs.Number.{scaled, fractionOf, joined, unsignedOf, plus, minus, numberOf}
+use Rattle.value_number.specs.Number.{scaled, fractionOf, joinedDigits, unsignedOf, plus, minus, numberOf}
 use Rattle.value_number.specs.declared.Number.the-variants.{Bad}
 use Rattle.text.proofs.Cuts.{drop-step}
 use Rattle.text.proofs.Numerals.{told, below}
@@ -50,18 +50,18 @@ fraction-below (b ∷ t) f e = go (digitsOf 3 t) refl e
 
 -- ---- the number without its sign
 
-pub unsigned-at : (s : List ℕ) (p : ℕ) (d f : Digits) → p ≡ firstOf 46 s → d ≡ digitsOf 6 (take p s) → f ≡ fractionOf (drop p s) → joined d f ≡ unsignedOf s
+pub unsigned-at : (s : List ℕ) (p : ℕ) (d f : Digits) → p ≡ firstOf 46 s → d ≡ digitsOf 6 (take p s) → f ≡ fractionOf (drop p s) → joinedDigits d f ≡ unsignedOf s
 unfolding unsignedOf
 unsigned-at s p d f e hd hf = cc
 
 pub unsigned-below : (s : List ℕ) (n : ℕ) → unsignedOf s ≡ Are n → n < 1000000000
-unfolding unsignedOf joined
+unfolding unsignedOf joinedDigits
 unsigned-below s n e = go (digitsOf 6 (take p s)) (fractionOf (drop p s)) refl refl e
   where
     p : ℕ
     p = firstOf 46 s
 
-    go : (d f : Digits) → digitsOf 6 (take p s) ≡ d → fractionOf (drop p s) ≡ f → joined d f ≡ Are n → n < 1000000000
+    go : (d f : Digits) → digitsOf 6 (take p s) ≡ d → fractionOf (drop p s) ≡ f → joinedDigits d f ≡ Are n → n < 1000000000
     go (Are w) (Are f) hd hf k = let z : w * 1000 + f ≡ n = cc in omega (arith, below 6 _ w hd, fraction-below _ f hf)
     go (Are w) Not hd hf k = let z : _≡_ {A = ℕ} 0 1 = cc in absurd (omega arith)
     go Not f hd hf k = let z : _≡_ {A = ℕ} 0 1 = cc in absurd (omega arith)
@@ -69,7 +69,7 @@ unsigned-below s n e = go (digitsOf 6 (take p s)) (fractionOf (drop p s)) refl r
 -- ---- the number
 
 pub number-none : (s : List ℕ) → length s ≡ 0 → Bad ≡ numberOf s
-unfolding numberOf plus unsignedOf joined digitsOf upto
+unfolding numberOf plus unsignedOf joinedDigits digitsOf upto
 number-none [] e = refl
 number-none (b ∷ s) e = absurd (omega arith)
 

@@ -1,7 +1,7 @@
 -- The digits that a text begins with: as long as the part before the first point, or that part is no whole number. Assumes nothing.
 use Prim.Native.Nat.{ℕ, min, _≤_, _<_}
 use Rattle.value_number.proofs.Laws.{unsigned-at}
-use Rattle.value_number.specs.Number.{fractionOf, joined, unsignedOf}
+use Rattle.value_number.specs.Number.{fractionOf, joinedDigits, unsignedOf}
 use Rattle.text.proofs.Cuts.{upto-take, upto-length, upto-all}
 use Rattle.text.proofs.Fronts.{run-front, run-open, run-line, run-more}
 use Rattle.text.proofs.Numerals.{refused-empty, refused-long, refused-other, taken, below, first-past}
@@ -43,7 +43,7 @@ module _ (s : List ℕ) where
   lead-long h = refused-long 6 (upto (is 46) s) (omega (arith, run-before))
 
   refused : Not ≡ digitsOf 6 (upto (is 46) s) → Not ≡ unsignedOf s
-  unfolding joined
+  unfolding joinedDigits
   refused e = unsigned-at s (firstOf 46 s) Not (fractionOf (drop (firstOf 46 s) s)) refl (e ∙ ap (digitsOf 6) (upto-take (is 46) s)) refl
 
   -- what `lead` says of at most seven
@@ -91,5 +91,5 @@ module _ (s : List ℕ) where
             (λ h. omega (arith, ap length (upto-all (is 46) s (run-open isDigit 46 refl s (omega (arith, run-is, run-short)))), run-is, run-short))
             (λ h. omega (arith, ap length (run-line isDigit 46 refl (w .count) s run-is h (point h) .0), length-take-le (w .count) s count-short))
 
-        pub lead-taken : (f : Digits) → f ≡ fractionOf (drop (w .count) s) → joined (Are (w .value)) f ≡ unsignedOf s
+        pub lead-taken : (f : Digits) → f ≡ fractionOf (drop (w .count) s) → joinedDigits (Are (w .value)) f ≡ unsignedOf s
         lead-taken f e = unsigned-at s (w .count) (Are (w .value)) f at-point whole-read e

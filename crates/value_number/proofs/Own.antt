@@ -2,7 +2,7 @@
 use Prim.Native.Nat.{ℕ, zero, suc, _+_, _-_, _*_, _/_, _%_, _^_, _≤_, _<_}
 use Rattle.value_number.proofs.Laws.{fraction-below}
 use Rattle.value_number.proofs.Texts.{fraction-less, fraction-here, decimals-some}
-use Rattle.value_number.specs.Number.{scaled, fractionOf, joined, unsignedOf, plus, minus, numberOf}
+use Rattle.value_number.specs.Number.{scaled, fractionOf, joinedDigits, unsignedOf, plus, minus, numberOf}
 use Rattle.value_number.specs.Number.{fractionText, signText, numberText, zeroFits, decimalsPast, shortFrom, areShort}
 use Rattle.value_number.specs.declared.Number.the-variants.{Is}
 use Rattle.text.proofs.Backs.{digits-back, whole-own}
@@ -177,10 +177,10 @@ module _ (u : List ℕ) (p : ℕ) (other : isDigit p ≡ false) (short : shortFr
       go Not hm e = let z : _≡_ {A = ℕ} 0 1 = cc in absurd (omega arith)
 
   unsigned-own : (n : ℕ) → unsignedOf u ≡ Are n → thousandths n ≡ u
-  unfolding unsignedOf joined
+  unfolding unsignedOf joinedDigits
   unsigned-own n e = go (digitsOf 6 (take k u)) (fractionOf (drop k u)) refl refl e
     where
-      go : (d f : Digits) → digitsOf 6 (take k u) ≡ d → fractionOf (drop k u) ≡ f → joined d f ≡ Are n → thousandths n ≡ u
+      go : (d f : Digits) → digitsOf 6 (take k u) ≡ d → fractionOf (drop k u) ≡ f → joinedDigits d f ≡ Are n → thousandths n ≡ u
       go (Are w) (Are f) hw hf j = let z : n ≡ w * 1000 + f = cc in rw z (own w f (drop k u) hw refl hf)
       go (Are w) Not hw hf j = let z : _≡_ {A = ℕ} 0 1 = cc in absurd (omega arith)
       go Not f hw hf j = let z : _≡_ {A = ℕ} 0 1 = cc in absurd (omega arith)

@@ -4,7 +4,7 @@ use Prim.Native.Nat.{ℕ, zero, suc, _+_, _-_, _*_, _/_, _%_, _^_, _≤_, _<_}
 use Rattle.value_number.proofs.Laws.{number-none, number-minus, number-plus, unsigned-at, unsigned-below}
 use Rattle.value_number.proofs.Signs.{abs-neg}
 use Rattle.value_number.proofs.Texts.{sign-short, fraction-short}
-use Rattle.value_number.specs.Number.{scaled, fractionOf, joined, unsignedOf, plus, minus, numberOf, fractionText, signText, numberText}
+use Rattle.value_number.specs.Number.{scaled, fractionOf, joinedDigits, unsignedOf, plus, minus, numberOf, fractionText, signText, numberText}
 use Rattle.value_number.specs.declared.Number.the-variants.{Is, Bad}
 use Rattle.text.proofs.Cuts.{all-append, all-weaker}
 use Rattle.text.proofs.Numerals.{digit-range, length-text, all-text, text-back, first-past, whole-less, whole-back, whole-length, whole-digits, whole-some}
@@ -67,7 +67,7 @@ six-back n h =
     ap (digitsOf 6) (whole-less 6 (n / 1000) (lit< tt) low) ∙ whole-back 6 5 (n / 1000) (lit≤ tt) low
 
 unsigned-back : (n : ℕ) → n < 1000000000 → unsignedOf (plain n) ≡ Are n
-unfolding joined
+unfolding joinedDigits
 unsigned-back n h =
     let s = wholeText 6 (n / 1000) in
     let t = fractionText 3 (n % 1000) in

@@ -25,14 +25,14 @@ unfoldable pub fractionOf : List ℕ → Digits
 fractionOf [] = Are 0
 fractionOf (point ∷ f) = scaled f (digitsOf 3 f)
 
-unfoldable pub joined : Digits → Digits → Digits
-joined (Are w) (Are f) = Are (w * 1000 + f)
-joined (Are w) Not = Not
-joined Not f = Not
+unfoldable pub joinedDigits : Digits → Digits → Digits
+joinedDigits (Are w) (Are f) = Are (w * 1000 + f)
+joinedDigits (Are w) Not = Not
+joinedDigits Not f = Not
 
 -- a number without its sign, divided at the first point (46)
 unfoldable pub unsignedOf : List ℕ → Digits
-unsignedOf s = joined (digitsOf 6 (take (firstOf 46 s) s)) (fractionOf (drop (firstOf 46 s) s))
+unsignedOf s = joinedDigits (digitsOf 6 (take (firstOf 46 s) s)) (fractionOf (drop (firstOf 46 s) s))
 
 unfoldable pub plus : Digits → Number
 plus (Are n) = Is (pos n)

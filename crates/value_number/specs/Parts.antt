@@ -18,12 +18,12 @@ ended (Is v) e = IsAt v e
 ended Bad e = BadAt
 
 -- where the part that starts at a place ends: at the next separator, or with the text
-abbrev pub endOf : ℕ → List ℕ → ℕ → ℕ
-endOf sep s at = at + firstOf sep (drop at s)
+abbrev pub partEnd : ℕ → List ℕ → ℕ → ℕ
+partEnd sep s at = at + firstOf sep (drop at s)
 
 -- THE DEFINITION: the number of the part that starts at a place, trimmed, and where that part ends
 unfoldable pub partNumber : ℕ → List ℕ → ℕ → NumberAt
-partNumber sep s at = ended (numberOf (trim (upto (is sep) (drop at s)))) (endOf sep s at)
+partNumber sep s at = ended (numberOf (trim (upto (is sep) (drop at s)))) (partEnd sep s at)
 
 -- ---- how it is read where it stands
 
@@ -32,8 +32,8 @@ abbrev pub isOfNumber : ℕ → Bool
 isOfNumber b = isDigit b || eqb b 46 || eqb b 45 || isBlank b
 
 -- what a part has from here on, without the blanks that it ends with
-unfoldable pub bodyOf : ℕ → List ℕ → List ℕ
-bodyOf sep t = skipEnd isBlank (upto (is sep) t)
+unfoldable pub partBody : ℕ → List ℕ → List ℕ
+partBody sep t = skipEnd isBlank (upto (is sep) t)
 
 unfoldable pub withSign : Bool → Digits → Number
 withSign negative d = cond negative (minus d) (plus d)

@@ -4,8 +4,8 @@ use text::digits::Digits;
 use text::put;
 use text::scan;
 ghost use Prim.Native.Nat.{_+_, _-_, _^_, _≤_, _<_};
-ghost use Rattle.value_number.specs.Number.{fractionOf, joined, unsignedOf, numberOf, fractionText, decimalsText, signText, numberText, beforeAt, zeroFits, areShort};
-ghost use Rattle.value_number.specs.Parts.{ended, endOf, partNumber, isOfNumber, bodyOf, withSign};
+ghost use Rattle.value_number.specs.Number.{fractionOf, joinedDigits, unsignedOf, numberOf, fractionText, decimalsText, signText, numberText, beforeAt, zeroFits, areShort};
+ghost use Rattle.value_number.specs.Parts.{ended, partEnd, partNumber, isOfNumber, partBody, withSign};
 ghost use Rattle.text.specs.Bytes.{all, is, upto, isDigit, isBlank, runOf};
 ghost use Rattle.text.specs.Puts.{limit};
 ghost use Rattle.text.specs.declared.digits.Digits.the-variants.{Are};
@@ -146,7 +146,7 @@ fn past_blanks(s: &[u8], at: usize) -> usize
 // What must follow the number v: blanks, and then the separator or the end.
 fn close(s: &[u8], at: usize, sep: u8, v: i32) -> NumberAt
     requires { ⌜ (at ≤ length (now s)) × (isOfNumber sep ≡ false) ⌝ }
-    ensures { λ r. ⌜ r ≡ cond (all isBlank (upto (is sep) (drop at (now (s .entry))))) (NumberAt.Is v (endOf sep (now (s .entry)) at)) NumberAt.Bad ⌝ }
+    ensures { λ r. ⌜ r ≡ cond (all isBlank (upto (is sep) (drop at (now (s .entry))))) (NumberAt.Is v (partEnd sep (now (s .entry)) at)) NumberAt.Bad ⌝ }
 {
     let e = past_blanks(s, at);
     if e < s.len() {
@@ -160,7 +160,7 @@ fn close(s: &[u8], at: usize, sep: u8, v: i32) -> NumberAt
 // The decimals from a place on, behind a whole number and its point.
 fn decimals_part(s: &[u8], at: usize, sep: u8, minus: bool, whole: u64) -> NumberAt
     requires { ⌜ (at ≤ length (now s)) × (isOfNumber sep ≡ false) × (whole < 1000000) ⌝ }
-    ensures { λ r. ⌜ r ≡ ended (withSign minus (joined (Are whole) (fractionOf (46 ∷ bodyOf sep (drop at (now (s .entry))))))) (endOf sep (now (s .entry)) at) ⌝ }
+    ensures { λ r. ⌜ r ≡ ended (withSign minus (joinedDigits (Are whole) (fractionOf (46 ∷ partBody sep (drop at (now (s .entry))))))) (partEnd sep (now (s .entry)) at) ⌝ }
 {
     let f = digits::lead(&s[at..], 4);
     if (f.count == 0) | (f.count == 4) {
@@ -173,7 +173,7 @@ fn decimals_part(s: &[u8], at: usize, sep: u8, minus: bool, whole: u64) -> Numbe
 // A number without its sign from a place on.
 fn unsigned_part(s: &[u8], at: usize, sep: u8, minus: bool) -> NumberAt
     requires { ⌜ (at ≤ length (now s)) × (isOfNumber sep ≡ false) ⌝ }
-    ensures { λ r. ⌜ r ≡ ended (withSign minus (unsignedOf (bodyOf sep (drop at (now (s .entry)))))) (endOf sep (now (s .entry)) at) ⌝ }
+    ensures { λ r. ⌜ r ≡ ended (withSign minus (unsignedOf (partBody sep (drop at (now (s .entry)))))) (partEnd sep (now (s .entry)) at) ⌝ }
 {
     let whole = digits::lead(&s[at..], 7);
     if (whole.count == 0) | (whole.count == 7) {

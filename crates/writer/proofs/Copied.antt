@@ -11,7 +11,7 @@ use Rattle.value_list.specs.Forms.{gradientsIn}
 use Rattle.value_list.specs.declared.Triple.{Triple}
 use Rattle.value_name.specs.declared.MessageType.{MessageType}
 use Rattle.reader.proofs.Concluding.{concluded-yes}
-use Rattle.reader.specs.Messages.{valuesOf, goodOf, bodyOf}
+use Rattle.reader.specs.Messages.{valuesOf, goodOf, columnRecord}
 use Rattle.reader.specs.Reader.{readOf}
 use Rattle.reader.specs.State.{columnAt, Reads}
 use Rattle.reader.specs.declared.Answer.{Answer}
@@ -104,8 +104,8 @@ module _ (ca ioa : ℕ) (plan file : List ℕ) (x : Reading) (reads : Reads ca i
   values = goodOf (valuesOf (x .layout) column)
 
   body-is : recordWith (x .layout) column (x .cells) (x .gradients) ≡ recordOf (x .layout) column values
-  unfolding bodyOf
-  body-is = reads .body-is yes
+  unfolding columnRecord
+  content-is = reads .content-is yes
 
   cells-are : x .cells ≡ cellsOf values
   unfolding recordWith recordOf

@@ -3,7 +3,7 @@ use Prim.Native.Nat.{ℕ, _≤_}
 use Rattle.layout.specs.Layouts.{sizeOf}
 use Rattle.layout.specs.Rows.{rowOf}
 use Rattle.layout.specs.declared.Layout.{Layout}
-use Rattle.text_lines.specs.Places.{Holds, Placed, columnIn}
+use Rattle.text_lines.specs.Places.{HoldsText, Placed, columnIn}
 use Rattle.text_lines.specs.declared.Span.{Span}
 use Rattle.value.specs.Texts.{isWritten}
 use Rattle.value.specs.declared.Value.{Value}
@@ -22,5 +22,5 @@ allWritten (v ∷ vs) (s ∷ ss) = isWritten v s && allWritten vs ss
 pub record Copies (l : Layout) (file : List ℕ) (row : Span) (places : List Span) : Type 0 where
   pub placed : Placed (sizeOf l) file places
   pub not-long : length file ≤ 8192
-  pub own-row : Holds file row (rowOf l (columnIn (sizeOf l) file places))
+  pub own-row : HoldsText file row (rowOf l (columnIn (sizeOf l) file places))
   pub small : length (writtenOf l (columnIn (sizeOf l) file places)) ≤ 8192

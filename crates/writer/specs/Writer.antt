@@ -29,7 +29,7 @@ leftBy r out = cond (isValid r) (bufferOf out 0 (fileOf r)) out
 -- ---- the normaliser, by the reader's answer
 
 unfoldable pub normaliseOf : Answer → ℕ → Written
-normaliseOf a room = cond (eqb (a .number) 0) (fitted (fileOf (a .body)) room) (Refused (a .number) (a .detail))
+normaliseOf a room = cond (eqb (a .number) 0) (fitted (fileOf (a .content)) room) (Refused (a .number) (a .detail))
 
 unfoldable pub normalLeft : Answer → List ℕ → List ℕ
-normalLeft a out = cond (eqb (a .number) 0) (bufferOf out 0 (fileOf (a .body))) out
+normalLeft a out = cond (eqb (a .number) 0) (bufferOf out 0 (fileOf (a .content))) out

@@ -27,7 +27,7 @@ use Rattle.value.specs.declared.Shape.{Shape}
 use Rattle.value.specs.declared.Shape.the-variants.{IsId, IsUnit, IsWhen, IsAmount, IsCount, IsReason, IsNote, IsWord, IsProfile, IsBands, IsTriples, IsVoltage, IsRegulator, IsChange, IsReactive}
 use Rattle.value.specs.declared.Value.{Value}
 use Rattle.value_word.proofs.RoundTrip.{word-short}
-use Rattle.writer_form.specs.Written.{linesText, after, paramLine, paramLines, block, writtenOf, valuesIn, messageText}
+use Rattle.writer_form.specs.Written.{linesText, afterEquals, paramLine, paramLines, block, writtenOf, valuesIn, messageText}
 use borrow.Author.Tests.{leb-true}
 use lib.ListN.{length, getD, length-append, length-drop, length-take}
 use mathlib.Core.List.{List, [], _∷_, _++_, map}
@@ -141,8 +141,8 @@ module _ (t : MessageType) (r : Rooms) where
 bare : List ℕ → ℕ
 bare label = length (paramLine label [])
 
-after-short : (s : List ℕ) → length (after s) ≤ suc (length s)
-unfolding after
+after-short : (s : List ℕ) → length (afterEquals s) ≤ suc (length s)
+unfolding afterEquals
 after-short [] = omega arith
 after-short (b ∷ s) = omega arith
 
@@ -150,7 +150,7 @@ line-short : (label s : List ℕ) → length (paramLine label s) ≤ suc (bare l
 unfolding bare paramLine
 line-short label s =
     let p = padded label in
-    omega (arith, length-append p (61 ∷ after s), length-append p (61 ∷ after []), after-short s)
+    omega (arith, length-append p (61 ∷ afterEquals s), length-append p (61 ∷ afterEquals []), after-short s)
 
 lines-short : (ls col : List (List ℕ)) → weigh length (paramLines ls col) ≤ weigh bare ls + weigh length col
 unfolding weigh paramLines
@@ -213,7 +213,7 @@ budget : Layout → ℕ
 budget l = length (bannerOf l) + weigh bare (labelsOf l) + weigh capOf (kindsOf l) + weigh (capAt (kindsOf l)) (rowFields l) + capAt (kindsOf l) 6 + 16
 
 in-budget : (l : Layout) → budget l ≤ 8192
-unfolding budget weigh bare paramLine after padded cap capOf capAt bannerOf labelsOf kindsOf rowFields fieldsOf market command technical mfrr rc mg eb lb sr vq ri qr
+unfolding budget weigh bare paramLine afterEquals padded cap capOf capAt bannerOf labelsOf kindsOf rowFields fieldsOf market command technical mfrr rc mg eb lb sr vq ri qr
 in-budget Market = leb-true _ _ refl
 in-budget Mfrr = leb-true _ _ refl
 in-budget Revocation = leb-true _ _ refl

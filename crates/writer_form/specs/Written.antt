@@ -23,12 +23,12 @@ linesText (s ∷ ss) = s ++ (10 ∷ linesText ss)
 -- ---- parameter lines
 
 -- what stands after '=': nothing for a blank value, else a space and the value
-unfoldable pub after : List ℕ → List ℕ
-after [] = []
-after (b ∷ s) = 32 ∷ b ∷ s
+unfoldable pub afterEquals : List ℕ → List ℕ
+afterEquals [] = []
+afterEquals (b ∷ s) = 32 ∷ b ∷ s
 
 unfoldable pub paramLine : List ℕ → List ℕ → List ℕ
-paramLine label value = padded label ++ (61 ∷ after value)
+paramLine label value = padded label ++ (61 ∷ afterEquals value)
 
 -- a line for each label, with its value
 unfoldable pub paramLines : List (List ℕ) → List (List ℕ) → List (List ℕ)

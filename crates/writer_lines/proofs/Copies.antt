@@ -10,7 +10,7 @@ use Rattle.text_lines.proofs.Columns.{column-at, column-length}
 use Rattle.text_lines.specs.Places.{partOf, spanAt, Placed, columnIn}
 use Rattle.text_lines.specs.declared.Span.{Span}
 use Rattle.text.proofs.Cuts.{length-part}
-use Rattle.writer_form.specs.Written.{linesText, after, paramLine, paramLines}
+use Rattle.writer_form.specs.Written.{linesText, afterEquals, paramLine, paramLines}
 use lib.ListN.{length, getD, length-append}
 use mathlib.Core.List.{List, [], _∷_, _++_}
 use mathlib.Core.Path.{_≡_, sym, subst}
@@ -28,8 +28,8 @@ lines-bound (x ∷ ls) (s ∷ col) a b =
     omega (
       arith,
       more,
-      length-append (padded x ++ (61 ∷ after s)) (10 ∷ linesText (paramLines ls col)),
-      length-append (padded x) (61 ∷ after s),
+      length-append (padded x ++ (61 ∷ afterEquals s)) (10 ∷ linesText (paramLines ls col)),
+      length-append (padded x) (61 ∷ afterEquals s),
       padded-length x (a 0 (omega arith)),
       after-short s,
       b 0 (omega arith),

@@ -16,7 +16,7 @@ use Rattle.value.specs.declared.Value.the-variants.{Blank}
 use Rattle.writer_form.proofs.Columns.{columnOf, blank-text, column-length, text-at, field-short}
 use Rattle.writer_form.proofs.Joins.{Was, one-line-more, lines-short, first-lines}
 use Rattle.writer_form.specs.Held.{Spoken, Held}
-use Rattle.writer_form.specs.Written.{linesText, after, paramLine, paramLines}
+use Rattle.writer_form.specs.Written.{linesText, afterEquals, paramLine, paramLines}
 use lib.ListN.{length, getD, take, replicate, length-append, length-replicate}
 use lib.Seq.{sets, length-sets, take-all}
 use mathlib.Core.Bool.{true, false}
@@ -27,33 +27,33 @@ use native.Mathlib.Omega.{arith}
 
 -- ---- what stands after `=`
 
-after-is : (s : List ℕ) → 1 ≤ length s → (32 ∷ []) ++ s ≡ after s
-unfolding after
+after-is : (s : List ℕ) → 1 ≤ length s → (32 ∷ []) ++ s ≡ afterEquals s
+unfolding afterEquals
 after-is [] h = absurd (omega arith)
 after-is (b ∷ s) h = refl
 
-pub after-short : (s : List ℕ) → length (after s) ≤ length s + 1
-unfolding after
+pub after-short : (s : List ℕ) → length (afterEquals s) ≤ length s + 1
+unfolding afterEquals
 after-short [] = omega arith
 after-short (b ∷ s) = omega arith
 
 -- a text that is not empty, after a space; and none
 pub put-said : (s : List ℕ) → 1 ≤ length s → (l : List ℕ) (at a : ℕ) (l₁ : List ℕ) (b : ℕ) (m : List ℕ)
-    → (a ≡ at + 1) × (l₁ ≡ sets l at (32 ∷ [])) → Was l₁ a s b m → Was l at (after s) b m
-put-said s h l at a l₁ b m p q = same-puts (after s) (after-is s h) (then (puts-of {t = 32 ∷ []} 1 refl p) (puts {t = s} q))
+    → (a ≡ at + 1) × (l₁ ≡ sets l at (32 ∷ [])) → Was l₁ a s b m → Was l at (afterEquals s) b m
+put-said s h l at a l₁ b m p q = same-puts (afterEquals s) (after-is s h) (then (puts-of {t = 32 ∷ []} 1 refl p) (puts {t = s} q))
 
-pub put-empty : (s : List ℕ) → length s ≡ 0 → (l : List ℕ) (at : ℕ) → Was l at (after s) at l
-unfolding after
+pub put-empty : (s : List ℕ) → length s ≡ 0 → (l : List ℕ) (at : ℕ) → Was l at (afterEquals s) at l
+unfolding afterEquals
 put-empty [] h l at = same-puts [] refl (puts-none l at)
 put-empty (b ∷ s) h l at = absurd (omega (arith, h))
 
 module _ (t : MessageType) (r : Rooms) (v : Value) (l : List ℕ) (at : ℕ) where
-  pub put-none : isFilled v ≡ false → Was l at (after (valueText t r v)) at l
-  unfolding after
-  put-none e = same-puts (after (valueText t r v)) (sym (ap after (blank-text t r v e))) (puts-none l at)
+  pub put-none : isFilled v ≡ false → Was l at (afterEquals (valueText t r v)) at l
+  unfolding afterEquals
+  put-none e = same-puts (afterEquals (valueText t r v)) (sym (ap afterEquals (blank-text t r v e))) (puts-none l at)
 
   pub put-some : Spoken t r v → isFilled v ≡ true → (a : ℕ) (l₁ : List ℕ) (b : ℕ) (m : List ℕ)
-      → (a ≡ at + 1) × (l₁ ≡ sets l at (32 ∷ [])) → Was l₁ a (valueText t r v) b m → Was l at (after (valueText t r v)) b m
+      → (a ≡ at + 1) × (l₁ ≡ sets l at (32 ∷ [])) → Was l₁ a (valueText t r v) b m → Was l at (afterEquals (valueText t r v)) b m
   put-some s e a l₁ b m p q = put-said (valueText t r v) (s .speaks e) l at a l₁ b m p q
 
 -- ---- a line
@@ -66,14 +66,14 @@ padded-length name h = omega (arith, length-append name (replicate (36 - length 
 module _ (name s w : List ℕ) (short : length name ≤ 36) (same : s ≡ w)
     (l : List ℕ) (at a : ℕ) (l₁ : List ℕ) (b : ℕ) (l₂ : List ℕ) (c : ℕ) (l₃ : List ℕ) (r : ℕ) (m : List ℕ) where
   pub line-put : (text : List ℕ) → (a ≡ at + 36) × (l₁ ≡ sets l at text) → text ≡ padded name → (b ≡ a + 1) × (l₂ ≡ sets l₁ a (61 ∷ []))
-      → Was l₂ b (after s) c l₃ → (r ≡ c + 1) × (m ≡ sets l₃ c (10 ∷ [])) → Was l at (linesText (paramLine name w ∷ [])) r m
+      → Was l₂ b (afterEquals s) c l₃ → (r ≡ c + 1) × (m ≡ sets l₃ c (10 ∷ [])) → Was l at (linesText (paramLine name w ∷ [])) r m
   unfolding linesText paramLine
   line-put text p is q u z =
-      let eq : padded name ++ (61 ∷ []) ++ after s ++ (10 ∷ []) ≡ padded name ++ (61 ∷ after w) ++ (10 ∷ []) =
-      ap (λ (x : List ℕ). x ++ (10 ∷ [])) (append-assoc (padded name) (61 ∷ []) (after s) ∙ ap (λ (x : List ℕ). padded name ++ (61 ∷ after x)) same) in
+      let eq : padded name ++ (61 ∷ []) ++ afterEquals s ++ (10 ∷ []) ≡ padded name ++ (61 ∷ afterEquals w) ++ (10 ∷ []) =
+      ap (λ (x : List ℕ). x ++ (10 ∷ [])) (append-assoc (padded name) (61 ∷ []) (afterEquals s) ∙ ap (λ (x : List ℕ). padded name ++ (61 ∷ afterEquals x)) same) in
       let label : (a ≡ at + 36) × (l₁ ≡ sets l at (padded name)) = (p .0, p .1 ∙ ap (sets l at) is) in
-      same-puts (padded name ++ (61 ∷ after w) ++ (10 ∷ [])) eq
-      (then (then (then (puts-of {t = padded name} 36 (padded-length name short) label) (puts-of {t = 61 ∷ []} 1 refl q)) (puts {t = after s} u))
+      same-puts (padded name ++ (61 ∷ afterEquals w) ++ (10 ∷ [])) eq
+      (then (then (then (puts-of {t = padded name} 36 (padded-length name short) label) (puts-of {t = 61 ∷ []} 1 refl q)) (puts {t = afterEquals s} u))
       (puts-of {t = 10 ∷ []} 1 refl z))
 
 pub label-short : (l : Layout) (k : ℕ) → 1 ≤ k → k ≤ sizeOf l → length (labelAt l k) ≤ 36
@@ -84,8 +84,8 @@ unfolding linesText paramLine
 line-short name s h k =
     omega (
       arith,
-      length-append (padded name ++ (61 ∷ after s)) (10 ∷ []),
-      length-append (padded name) (61 ∷ after s),
+      length-append (padded name ++ (61 ∷ afterEquals s)) (10 ∷ []),
+      length-append (padded name) (61 ∷ afterEquals s),
       padded-length name h,
       after-short s,
     )

@@ -12,7 +12,7 @@ ghost use Rattle.text_lines.specs.Places.{Placed, columnIn};
 ghost use Rattle.text.specs.Puts.{limit};
 ghost use Rattle.value.specs.Texts.{rooms, valueText};
 ghost use Rattle.writer_form.specs.Held.{Spoken, Held};
-ghost use Rattle.writer_form.specs.Written.{linesText, after, paramLine, paramLines, valuesIn};
+ghost use Rattle.writer_form.specs.Written.{linesText, afterEquals, paramLine, paramLines, valuesIn};
 ghost use lib.ListN.{length};
 ghost use lib.Seq.{sets};
 ghost use mathlib.Core.List.{[], _∷_, map};
@@ -30,8 +30,8 @@ fn put_after(
     gradients: [Triple; 16],
 ) -> usize
     requires { ⌜ (at + 2500 < limit) × Spoken t (rooms (now unit) (now reason) (now note) gradients) v ⌝ }
-    ensures { λ r. ⌜ (r ≡ at + length (after (valueText t (rooms (now (unit .entry)) (now (reason .entry)) (now (note .entry)) gradients) v)))
-        × (now (out .exit) ≡ sets (now (out .entry)) at (after (valueText t (rooms (now (unit .entry)) (now (reason .entry)) (now (note .entry)) gradients) v))) ⌝ }
+    ensures { λ r. ⌜ (r ≡ at + length (afterEquals (valueText t (rooms (now (unit .entry)) (now (reason .entry)) (now (note .entry)) gradients) v)))
+        × (now (out .exit) ≡ sets (now (out .entry)) at (afterEquals (valueText t (rooms (now (unit .entry)) (now (reason .entry)) (now (note .entry)) gradients) v))) ⌝ }
 {
     if !value_ask::is_filled(v) {
         return at;

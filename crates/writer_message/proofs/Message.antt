@@ -5,7 +5,7 @@ use Rattle.layout.specs.Banners.{bannerOf}
 use Rattle.layout.specs.Rows.{rowOf}
 use Rattle.layout.specs.declared.Layout.{Layout}
 use Rattle.layout.specs.declared.Layout.the-variants.{Market, Mfrr, Revocation, Generic, Exclusion, Limitation, Secondary, VoltVar, Rejection, Reserve}
-use Rattle.text_lines.specs.Places.{partOf, Holds}
+use Rattle.text_lines.specs.Places.{partOf, HoldsText}
 use Rattle.text_lines.specs.declared.Span.{Span}
 use Rattle.record.specs.declared.Cell.{Cell}
 use Rattle.text.proofs.Cuts.{length-part}
@@ -36,7 +36,7 @@ banner-short Rejection = leb-true _ _ refl
 banner-short Reserve = leb-true _ _ refl
 
 -- a row of a file has at most as many bytes as the file
-pub row-small : (file : List ℕ) (p : Span) {row : List ℕ} → Holds file p row → length file ≤ 8192 → length (partOf file p) ≤ 8192
+pub row-small : (file : List ℕ) (p : Span) {row : List ℕ} → HoldsText file p row → length file ≤ 8192 → length (partOf file p) ≤ 8192
 row-small file p h s = omega (arith, length-part (p .from) (p .to) file (h .inside), h .inside)
 
 -- a separator before the row, with its end, and one after the end of the row

@@ -7,7 +7,7 @@ use value_list::Triple;
 ghost use Prim.Native.Nat.{_+_, _≤_, _<_};
 ghost use Rattle.layout.specs.Layouts.{sizeOf};
 ghost use Rattle.layout.specs.Rows.{rowOf};
-ghost use Rattle.text_lines.specs.Places.{Holds, Placed, columnIn};
+ghost use Rattle.text_lines.specs.Places.{HoldsText, Placed, columnIn};
 ghost use Rattle.text.specs.Puts.{limit};
 ghost use Rattle.value.specs.Texts.{rooms};
 ghost use Rattle.writer_form.specs.Held.{Held};
@@ -49,7 +49,7 @@ pub fn put_copied(
     places: [Span; 27],
 ) -> usize
     requires { ⌜ (at + 400000 < limit) × Placed (sizeOf l) (now file) places × (length (now file) ≤ 8192)
-        × Holds (now file) row (rowOf l (columnIn (sizeOf l) (now file) places)) ⌝ }
+        × HoldsText (now file) row (rowOf l (columnIn (sizeOf l) (now file) places)) ⌝ }
     ensures { λ r. ⌜ (r ≡ at + length (writtenOf l (columnIn (sizeOf l) (now (file .entry)) places)))
         × (now (out .exit) ≡ sets (now (out .entry)) at (writtenOf l (columnIn (sizeOf l) (now (file .entry)) places))) ⌝ }
 {

@@ -11,8 +11,8 @@ use Rattle.value_name.specs.declared.MessageType.the-variants.{Cb, Rc, Mg, Eb, 
 use Rattle.plan.specs.Plans.{planOf, soughtOf}
 use Rattle.plan.specs.declared.Sought.{Sought}
 use Rattle.reader.proofs.Firsts.{NoneHolds, next, accepted-none, numbers}
-use Rattle.reader.specs.Messages.{given, isKindOfCommand, layoutIn, valuesOf, bodyOf, goodOf}
-use Rattle.reader.specs.Reader.{bodyColumn, bodyIn, messageOf, unitIn, planned, answerAt, readOf}
+use Rattle.reader.specs.Messages.{given, isKindOfCommand, layoutIn, valuesOf, columnRecord, goodOf}
+use Rattle.reader.specs.Reader.{bodyColumn, recordIn, messageOf, unitIn, planned, answerAt, readOf}
 use Rattle.reader.specs.Refusals.{accepted as taken}
 use Rattle.reader.specs.declared.Answer.{Answer}
 use Rattle.reader_theorems.proofs.Agreed.{Accepted, accepted}
@@ -61,7 +61,7 @@ module _ {t : MessageType} {unit file : List ℕ} (a : Accepted t unit file) whe
   body = recordOf lay col values
 
   body-as : ValidAs body values
-  unfolding valuesOf bodyIn bodyOf
+  unfolding valuesOf recordIn columnRecord
   body-as = record-valid lay col values (good-of (valuesOf lay col) (a .values)) (tidy-body t file (a .clean)) (a .rules)
 
   unit-is : unit ≡ textAt (textsOf body values) 2
@@ -73,35 +73,35 @@ module _ {t : MessageType} {unit file : List ℕ} (a : Accepted t unit file) whe
   written-message =
       subst (λ (x : MessageType). messageOf x unit (fileOf body) ≡ taken body) (layout-type t (given file)) (message-back body-as unit unit-is)
 
-  body-read : bodyIn t file ≡ body
-  unfolding bodyIn bodyOf
+  body-read : recordIn t file ≡ body
+  unfolding recordIn columnRecord
   body-read = refl
 
 pub message-normal : (t : MessageType) (unit file : List ℕ) → messageOf t unit file .number ≡ 0
-    → messageOf t unit (fileOf (messageOf t unit file .body)) ≡ messageOf t unit file
+    → messageOf t unit (fileOf (messageOf t unit file .content)) ≡ messageOf t unit file
 message-normal t unit file h =
     let a = accepted t unit file h in
     let e : messageOf t unit file ≡ taken (body a) = a .answered ∙ ap taken (body-read a) in
-    ap (λ (x : Answer). messageOf t unit (fileOf (x .body))) e ∙ written-message a ∙ sym e
+    ap (λ (x : Answer). messageOf t unit (fileOf (x .content))) e ∙ written-message a ∙ sym e
 
 -- ---- at an address of a plan
 
-at-normal : (s : Sought) (file : List ℕ) → answerAt s file .number ≡ 0 → NoneHolds (planned s file) → answerAt s (fileOf (answerAt s file .body)) ≡ answerAt s file
+at-normal : (s : Sought) (file : List ℕ) → answerAt s file .number ≡ 0 → NoneHolds (planned s file) → answerAt s (fileOf (answerAt s file .content)) ≡ answerAt s file
 unfolding planned
 at-normal s file h (next e (next d n)) =
     let here = planned-back s file e d in
-    planned-back s (fileOf (answerAt s file .body)) e d
-    ∙ ap (λ (x : Answer). messageOf (s .kind) (unitIn s) (fileOf (x .body))) here
-    ∙ message-normal (s .kind) (unitIn s) file (sym (ap (λ (x : Answer). x .number) here) ∙ h)
+    planned-back s (fileOf (answerAt s file .content)) e d
+    ∙ ap (λ (x : Answer). messageOf (s .message) (unitIn s) (fileOf (x .content))) here
+    ∙ message-normal (s .message) (unitIn s) file (sym (ap (λ (x : Answer). x .number) here) ∙ h)
     ∙ sym here
 
 pub normal-same : (ca ioa : ℕ) (plan file : List ℕ) → readOf ca ioa plan file .number ≡ 0
-    → readOf ca ioa plan (fileOf (readOf ca ioa plan file .body)) ≡ readOf ca ioa plan file
+    → readOf ca ioa plan (fileOf (readOf ca ioa plan file .content)) ≡ readOf ca ioa plan file
 unfolding readOf answerAt
 normal-same ca ioa plan file h =
     let s = soughtOf ca ioa (planOf plan) in
-    at-normal s file h (accepted-none (planned s file) (bodyIn (s .kind) file) (numbers s file) h)
+    at-normal s file h (accepted-none (planned s file) (recordIn (s .message) file) (numbers s file) h)
 
 pub normal-twice : (ca ioa : ℕ) (plan file : List ℕ) → readOf ca ioa plan file .number ≡ 0
-    → fileOf (readOf ca ioa plan (fileOf (readOf ca ioa plan file .body)) .body) ≡ fileOf (readOf ca ioa plan file .body)
-normal-twice ca ioa plan file h = ap (λ (x : Answer). fileOf (x .body)) (normal-same ca ioa plan file h)
+    → fileOf (readOf ca ioa plan (fileOf (readOf ca ioa plan file .content)) .content) ≡ fileOf (readOf ca ioa plan file .content)
+normal-twice ca ioa plan file h = ap (λ (x : Answer). fileOf (x .content)) (normal-same ca ioa plan file h)

@@ -11,7 +11,7 @@ use Rattle.text.proofs.Tests.{and-parts}
 use Rattle.text.proofs.Trims.{tidy-parts}
 use Rattle.text.specs.Bytes.{all, is, isBlank, isPlain, tidy, trim}
 use Rattle.text.specs.Lists.{sift}
-use Rattle.writer_form.specs.Written.{after, paramLine, paramLines}
+use Rattle.writer_form.specs.Written.{afterEquals, paramLine, paramLines}
 use lib.ListN.{length, getD, replicate}
 use mathlib.Core.Bool.{Bool, true, not}
 use mathlib.Core.List.{List, [], _∷_, _++_, map, append-assoc}
@@ -24,13 +24,13 @@ unfolding all
 all-replicate p x e zero = refl
 all-replicate p x e (suc n) = rw e (all-replicate p x e n)
 
-after-plain : (s : List ℕ) → all isPlain s ≡ true → all isPlain (61 ∷ after s) ≡ true
-unfolding all after
+after-plain : (s : List ℕ) → all isPlain s ≡ true → all isPlain (61 ∷ afterEquals s) ≡ true
+unfolding all afterEquals
 after-plain [] h = refl
 after-plain (b ∷ s) h = h
 
-after-trim : (s : List ℕ) → trim (after s) ≡ trim s
-unfolding after all
+after-trim : (s : List ℕ) → trim (afterEquals s) ≡ trim s
+unfolding afterEquals all
 after-trim [] = refl
 after-trim (b ∷ s) = trim-front-blanks (32 ∷ []) (b ∷ s) refl
 
@@ -43,7 +43,7 @@ module _ (label s : List ℕ) (g : GoodLabel label) (h : tidy s ≡ true) where
   line-plain : all isPlain (paramLine label s) ≡ true
   unfolding paramLine padded
   line-plain =
-      all-append isPlain (label ++ pad) (61 ∷ after s)
+      all-append isPlain (label ++ pad) (61 ∷ afterEquals s)
       (all-append isPlain label pad (tidy-parts label (g .is-tidy) .0) (all-replicate isPlain 32 refl (36 - length label)))
       (after-plain s (tidy-parts s h .0))
 
@@ -51,7 +51,7 @@ module _ (label s : List ℕ) (g : GoodLabel label) (h : tidy s ≡ true) where
   unfolding paramLine
   line-no-sep =
       let x = paramLine label s in
-      ap not (sep-equals (trim x) (equals-trim x ∙ any-seam (is 61) (padded label) 61 (after s) refl))
+      ap not (sep-equals (trim x) (equals-trim x ∙ any-seam (is 61) (padded label) 61 (afterEquals s) refl))
 
   line-upper : upper (paramLine label s) ≡ true
   line-upper = rw (line-plain, line-no-sep)
@@ -59,8 +59,8 @@ module _ (label s : List ℕ) (g : GoodLabel label) (h : tidy s ≡ true) where
   line-param : paramOf (trim (paramLine label s)) ≡ some (param label s)
   unfolding paramLine padded
   line-param =
-      ap (λ (x : List ℕ). paramOf (trim x)) (append-assoc label pad (61 ∷ after s))
-      ∙ head-param label pad (after s) (tidy-parts label (g .is-tidy) .1) (g .no-equals) (all-replicate isBlank 32 refl (36 - length label))
+      ap (λ (x : List ℕ). paramOf (trim x)) (append-assoc label pad (61 ∷ afterEquals s))
+      ∙ head-param label pad (afterEquals s) (tidy-parts label (g .is-tidy) .1) (g .no-equals) (all-replicate isBlank 32 refl (36 - length label))
       ∙ ap (λ (v : List ℕ). some (param label v)) (after-trim s ∙ tidy-parts s h .1)
 
 -- ---- the lines of a column

@@ -9,8 +9,8 @@ use Rattle.value_name.specs.declared.MessageType.{MessageType}
 use Rattle.plan.specs.Plans.{planOf, soughtOf}
 use Rattle.plan.specs.declared.Sought.{Sought}
 use Rattle.reader.proofs.Firsts.{NoneHolds, none, next, answer-no, none-given}
-use Rattle.reader.specs.Messages.{given, rowIn, layoutIn, entriesIn, valuesOf, isBad, bodyOf, goodOf}
-use Rattle.reader.specs.Reader.{isThere, valued, labelled, reading, bodyColumn, bodyIn, messageOf, unitIn, planned, answerAt, readOf}
+use Rattle.reader.specs.Messages.{given, rowIn, layoutIn, entriesIn, valuesOf, isBad, columnRecord, goodOf}
+use Rattle.reader.specs.Reader.{isThere, valued, labelled, reading, bodyColumn, recordIn, messageOf, unitIn, planned, answerAt, readOf}
 use Rattle.reader.specs.Refusals.{accepted}
 use Rattle.record.specs.Records.{Typed, recordOf, roomsOf}
 use Rattle.record.specs.declared.Record.{Record}
@@ -63,13 +63,13 @@ module _ {r : Record} {vs : List Value} (v : ValidAs r vs) where
   abbrev type : MessageType
   type = typeOf lay
 
-  body-of : bodyOf lay col ≡ r
-  unfolding bodyOf valuesOf textsOf
+  body-of : columnRecord lay col ≡ r
+  unfolding columnRecord valuesOf textsOf
   body-of = ap (λ (y : Typed). recordOf lay col (goodOf y)) (typed-back 1 (v .hold)) ∙ record-back v
 
-  pub body-is : bodyIn type (fileOf r) ≡ r
-  unfolding bodyIn entriesIn
-  body-is = let b = file-back in rw (b .layout-is, b .column-is) body-of
+  pub content-is : recordIn type (fileOf r) ≡ r
+  unfolding recordIn entriesIn
+  content-is = let b = file-back in rw (b .layout-is, b .column-is) body-of
 
   none-holds : (unit : List ℕ) → unit ≡ textAt col 2 → NoneHolds (reading type unit (fileOf r))
   unfolding reading labelled valued entriesIn valuesOf textsOf
@@ -82,23 +82,23 @@ module _ {r : Record} {vs : List Value} (v : ValidAs r vs) where
       let once : isThere (again [] (entriesIn type f)) ≡ false = rw (b .layout-is, b .none-twice) in
       let complete : ltb 0 (missing 1 (labelsOf (layoutIn type (given f))) (entriesIn type f)) ≡ false = rw (b .layout-is, b .none-missing) in
       let read : isBad (valuesOf (layoutIn type (given f)) (bodyColumn type f)) ≡ false = rw (b .layout-is, b .column-is, typed-back 1 (v .hold)) in
-      let unbroken : ltb 0 (brokenIn (bodyOf (layoutIn type (given f)) (bodyColumn type f))) ≡ false = rw (b .layout-is, b .column-is, body-of, v .unbroken) in
+      let unbroken : ltb 0 (brokenIn (columnRecord (layoutIn type (given f)) (bodyColumn type f))) ≡ false = rw (b .layout-is, b .column-is, body-of, v .unbroken) in
       let named : not (same unit (textAt (bodyColumn type f) 2)) ≡ false = rw (b .layout-is, b .column-is, u, same-refl (textAt col 2)) in
       let summed : not (same (rowIn f) (rowOf (layoutIn type (given f)) (bodyColumn type f))) ≡ false = rw (b .layout-is, b .row-is, b .column-is, same-refl (rowOf lay col)) in
       next size (next bytes (next frame (next once (next complete (next read (next unbroken (next named (next summed none))))))))
 
   pub message-back : (unit : List ℕ) → unit ≡ textAt col 2 → messageOf type unit (fileOf r) ≡ accepted r
   unfolding messageOf
-  message-back unit u = none-given (bodyIn type (fileOf r)) (none-holds unit u) ∙ ap accepted body-is
+  message-back unit u = none-given (recordIn type (fileOf r)) (none-holds unit u) ∙ ap accepted body-is
 
 -- ---- at an address of a plan
 
 -- where the plan is good and has the address, a file is read as a message, whatever it is
-pub planned-back : (s : Sought) (file : List ℕ) → eqb (s .number) 13 ≡ false → eqb (s .number) 1 ≡ false → answerAt s file ≡ messageOf (s .kind) (unitIn s) file
+pub planned-back : (s : Sought) (file : List ℕ) → eqb (s .number) 13 ≡ false → eqb (s .number) 1 ≡ false → answerAt s file ≡ messageOf (s .message) (unitIn s) file
 unfolding answerAt planned messageOf
 planned-back s file e h =
-    answer-no 13 (s .detail) (eqb (s .number) 13) _ (bodyIn (s .kind) file) e
-    ∙ answer-no 1 0 (eqb (s .number) 1) _ (bodyIn (s .kind) file) h
+    answer-no 13 (s .detail) (eqb (s .number) 13) _ (recordIn (s .message) file) e
+    ∙ answer-no 1 0 (eqb (s .number) 1) _ (recordIn (s .message) file) h
 
 at-back : (r : Record) → Valid r → (s : Sought) → Fitting r s → answerAt s (fileOf r) ≡ accepted r
 at-back r w s a =

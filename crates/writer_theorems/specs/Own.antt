@@ -12,7 +12,7 @@ use mathlib.Core.Path.{_≡_}
 -- what a plan gives is found, with the record's type and unit
 pub record Fitting (r : Record) (s : Sought) : Type 0 where
   pub found : s .number ≡ 0
-  pub type-is : s .kind ≡ typeOf (r .layout)
+  pub type-is : s .message ≡ typeOf (r .layout)
   pub unit-is : unitIn s ≡ unitOf r
 
 abbrev pub OwnAddress : Record → ℕ → ℕ → List ℕ → Type 0

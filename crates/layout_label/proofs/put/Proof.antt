@@ -2,7 +2,7 @@
 use Rattle.layout_label.proofs.Texts.{length-text, text-room}
 use Rattle.layout_label.proofs.put.Statement.{statement}
 use Rattle.layout_label.proofs.put.Tie as tie
-use Rattle.layout_label.specs.Labels.{textOf}
+use Rattle.layout_label.specs.Labels.{labelText}
 use Rattle.text.proofs.Runs.{puts, same-puts}
 use borrow.Author.Needs.{needs}
 use lib.ListN.{replicate}
@@ -44,7 +44,7 @@ returns-2 c =
     let put = c .before .before in
     let text = put .before .before .before .before in
     let l = text .before .before .before .before .args .l in
-    let p = same-puts (textOf l) (text-room l (replicate 36 0) _ refl (text .put-label2 .ensures)) (puts (put .put-text .ensures)) in
+    let p = same-puts (labelText l) (text-room l (replicate 36 0) _ refl (text .put-label2 .ensures)) (puts (put .put-text .ensures)) in
     (omega (arith, p .0, length-text l), p .1)
 
 pub put-spec : {M : Type 1} → statement M

@@ -150,8 +150,8 @@ part-type-line-end c = search needs
 type-line-requires : tie.Need-type-line-requires
 type-line-requires c κs = search needs
 
-enum-known-kind : tie.Need-enum-known-kind
-enum-known-kind c = search needs
+enum-known-message : tie.Need-enum-known-message
+enum-known-message c = search needs
 
 enum-told-4 : tie.Need-enum-told-4
 enum-told-4 c = search needs
@@ -182,14 +182,14 @@ add-t36 c =
     let v = c .before .before .before .before .before in
     let w = v .before .before .before .before .before .before .before .before in
     let o = w .before .before .before .before .before .before in
-    omega (arith, short o, at-five (o .before .before .before .before .before .before .before .args .keys .now) (o .before .before .before .before .before .before .before .args .s .now) _ (o .before .before .before .number-line .ensures) _ _ (o .before .ca .given .1) _ (w .before .before .before .number-line2 .ensures) _ _ (w .before .ioa .given .1) _ _ (v .before .before .before .before .before .before .before .key-of .ensures) (v .before .before .before .before .before .before .stands .ensures) (v .before .before .before .before .before .if1 .left) _ (v .before .before .before .unit-line .ensures) _ (v .before .c .given .1) _ (c .before .before .before .type-line .ensures) _ (c .before .kind .given .1) .inside)
+    omega (arith, short o, at-five (o .before .before .before .before .before .before .before .args .keys .now) (o .before .before .before .before .before .before .before .args .s .now) _ (o .before .before .before .number-line .ensures) _ _ (o .before .ca .given .1) _ (w .before .before .before .number-line2 .ensures) _ _ (w .before .ioa .given .1) _ _ (v .before .before .before .before .before .before .before .key-of .ensures) (v .before .before .before .before .before .before .stands .ensures) (v .before .before .before .before .before .if1 .left) _ (v .before .before .before .unit-line .ensures) _ (v .before .c .given .1) _ (c .before .before .before .type-line .ensures) _ (c .before .message .given .1) .inside)
 
 returns-6 : tie.Need-returns-6
 returns-6 c =
     let v = c .before .before .before .before .before in
     let w = v .before .before .before .before .before .before .before .before in
     let o = w .before .before .before .before .before .before in
-    good-row _ _ _ (o .before .before .before .number-line .ensures) _ _ (o .before .ca .given .1) _ (w .before .before .before .number-line2 .ensures) _ _ (w .before .ioa .given .1) _ _ (v .before .before .before .before .before .before .before .key-of .ensures) (v .before .before .before .before .before .before .stands .ensures) (v .before .before .before .before .before .if1 .left) _ (v .before .before .before .unit-line .ensures) _ (v .before .c .given .1) _ (c .before .before .before .type-line .ensures) _ (c .before .kind .given .1)
+    good-row _ _ _ (o .before .before .before .number-line .ensures) _ _ (o .before .ca .given .1) _ (w .before .before .before .number-line2 .ensures) _ _ (w .before .ioa .given .1) _ _ (v .before .before .before .before .before .before .before .key-of .ensures) (v .before .before .before .before .before .before .stands .ensures) (v .before .before .before .before .before .if1 .left) _ (v .before .before .before .unit-line .ensures) _ (v .before .c .given .1) _ (c .before .before .before .type-line .ensures) _ (c .before .message .given .1)
 
 pub row-at-spec : {M : Type 1} → statement M
 row-at-spec =
@@ -227,7 +227,7 @@ row-at-spec =
     part-type-line-start
     part-type-line-end
     type-line-requires
-    enum-known-kind
+    enum-known-message
     enum-told-4
     returns-5
     add-t23

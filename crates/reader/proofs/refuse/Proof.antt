@@ -9,7 +9,7 @@ zero-requires : tie.Need-zero-requires
 zero-requires c κs = search needs
 
 returns : tie.Need-returns
-returns c = ap (λ (z : Record). record { number = c .before .args .number; detail = c .before .args .detail; body = z }) (c .zero .ensures)
+returns c = ap (λ (z : Record). record { number = c .before .args .number; detail = c .before .args .detail; content = z }) (c .zero .ensures)
 
 pub refuse-spec : {M : Type 1} → statement M
 refuse-spec = tie.close (tie.spec zero-requires returns)

@@ -16,7 +16,7 @@ same-length c = search needs
 returns : tie.Need-returns
 returns c =
     let s = c .before .before .before .before .before .before .before .before in
-    same-text (sixLines (s .args .a .body)) (reportOf (s .args .a)) (s .args .out .now) _ _ _ (record-is (s .args .a) (c .before .before .before .before .before .if1 .taken)) (c .before .before .put-record .ensures)
+    same-text (sixLines (s .args .a .content)) (reportOf (s .args .a)) (s .args .out .now) _ _ _ (record-is (s .args .a) (c .before .before .before .before .before .if1 .taken)) (c .before .before .put-record .ensures)
 
 put-refusal-requires : tie.Need-put-refusal-requires
 put-refusal-requires c κs = search needs

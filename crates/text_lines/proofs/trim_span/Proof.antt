@@ -7,10 +7,10 @@ use borrow.Author.Needs.{needs}
 use native.Mathlib.Omega.{arith}
 
 -- What is left ends where the part ends, or before.
-ends : (c : tie.After-body) → c .before .before .before .before .before .args .at + c .before .before .lead .result + c .body .result ≤ c .before .before .before .before .before .args .end
+ends : (c : tie.After-filled) → c .before .before .before .before .before .args .at + c .before .before .lead .result + c .filled .result ≤ c .before .before .before .before .before .args .end
 ends c =
     let z = c .before .before .before .before .before in
-    trim-fits _ _ _ _ _ (z .pre .0) (z .pre .1) (c .before .before .lead .ensures) (c .body .ensures)
+    trim-fits _ _ _ _ _ (z .pre .0) (z .pre .1) (c .before .before .lead .ensures) (c .filled .ensures)
 
 sub-lead : tie.Need-sub-lead
 sub-lead c = search needs
@@ -27,17 +27,17 @@ lead-requires c κs = search needs
 add-from : tie.Need-add-from
 add-from c = search needs
 
-sub-body : tie.Need-sub-body
-sub-body c = search needs
+sub-filled : tie.Need-sub-filled
+sub-filled c = search needs
 
-part-body-start : tie.Need-part-body-start
-part-body-start c = search needs
+part-filled-start : tie.Need-part-filled-start
+part-filled-start c = search needs
 
-part-body-end : tie.Need-part-body-end
-part-body-end c = search needs
+part-filled-end : tie.Need-part-filled-end
+part-filled-end c = search needs
 
-body-requires : tie.Need-body-requires
-body-requires c κs = search needs
+filled-requires : tie.Need-filled-requires
+filled-requires c κs = search needs
 
 add-to : tie.Need-add-to
 add-to c = omega (arith, ends c)
@@ -51,7 +51,7 @@ cast-t15 c = omega (arith, ends c, c .before .before .before .before .before .pr
 returns : tie.Need-returns
 returns c =
     let z = c .before .before .before .before .before in
-    trim-holds _ _ _ _ _ (z .pre .0) (z .pre .1) (c .before .before .lead .ensures) (c .body .ensures)
+    trim-holds _ _ _ _ _ (z .pre .0) (z .pre .1) (c .before .before .lead .ensures) (c .filled .ensures)
 
 pub trim-span-spec : {M : Type 1} → statement M
 trim-span-spec =
@@ -62,10 +62,10 @@ trim-span-spec =
     part-lead-end
     lead-requires
     add-from
-    sub-body
-    part-body-start
-    part-body-end
-    body-requires
+    sub-filled
+    part-filled-start
+    part-filled-end
+    filled-requires
     add-to
     cast-t14
     cast-t15

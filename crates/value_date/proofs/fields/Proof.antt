@@ -2,7 +2,7 @@
 use Rattle.value_date.proofs.Laws.{shape-length, shape-asks}
 use Rattle.value_date.proofs.fields.Statement.{statement}
 use Rattle.value_date.proofs.fields.Tie as tie
-use Rattle.value_date.specs.Date.{dateShape, fieldsOf}
+use Rattle.value_date.specs.Date.{dateShape, dateParts}
 use borrow.Author.Needs.{needs}
 use lib.Dec.{lit≤}
 use mathlib.Core.Path.{refl}
@@ -33,7 +33,7 @@ shared-slice-read-legal : tie.Need-shared-slice-read-legal
 shared-slice-read-legal c = let s = c .before .before .before .before .before .before .before .before in omega (arith, shape-length dateShape (s .args .s .now) (s .pre))
 
 returns : tie.Need-returns
-unfolding fieldsOf
+unfolding dateParts
 returns c =
     let f = c .before in
     rw (

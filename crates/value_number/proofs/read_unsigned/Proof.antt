@@ -2,7 +2,7 @@
 use Prim.Native.Nat.{ℕ, _<_}
 use Rattle.value_number.proofs.Laws.{fraction-below}
 use Rattle.value_number.proofs.Leads.{lead-refused, lead-other, lead-taken, count-short, whole-below}
-use Rattle.value_number.specs.Number.{fractionOf, joined}
+use Rattle.value_number.specs.Number.{fractionOf, joinedDigits}
 use Rattle.text.specs.declared.digits.Digits.the-variants.{Are, Not}
 use Rattle.text.specs.declared.digits.Led.{Led}
 use lib.ListN.{length, getD, drop}
@@ -50,7 +50,7 @@ enum-told : tie.Need-enum-told
 enum-told c = search needs
 
 returns-3 : tie.Need-returns-3
-unfolding joined
+unfolding joinedDigits
 returns-3 c =
     let j = c .before .before .before in
     let t = j .before in
@@ -76,7 +76,7 @@ add-t14 : tie.Need-add-t14
 add-t14 c = omega (arith, whole c, fraction-below _ _ (sym (decimals c)))
 
 returns-4 : tie.Need-returns-4
-unfolding joined
+unfolding joinedDigits
 returns-4 c =
     let j = joined-at c in
     lead-taken _ _ (j .before .before .before .before .lead .ensures) (j .before .if1 .left) (point-at j) _ (decimals c)

@@ -17,14 +17,14 @@ part-t-start c = search needs
 part-t-end : tie.Need-part-t-end
 part-t-end c = search needs
 
-body-requires : tie.Need-body-requires
-body-requires c κs = search needs
+filled-requires : tie.Need-filled-requires
+filled-requires c κs = search needs
 
 slice-aggregate-result : tie.Need-slice-aggregate-result
-slice-aggregate-result c = end-count _ _ (c .before .body .ensures)
+slice-aggregate-result c = end-count _ _ (c .before .filled .ensures)
 
 returns : tie.Need-returns
-returns c = trim-law _ _ _ _ refl (c .before .before .before .lead .ensures) (c .before .body .ensures)
+returns c = trim-law _ _ _ _ refl (c .before .before .before .lead .ensures) (c .before .filled .ensures)
 
 pub trim-spec : {M : Type 1} → statement M
 trim-spec =
@@ -34,6 +34,6 @@ trim-spec =
     sub-t
     part-t-start
     part-t-end
-    body-requires
+    filled-requires
     slice-aggregate-result
     returns)

@@ -1,7 +1,7 @@
 -- What `read` answers, as a value.
 use Rattle.value.proofs.read.read_word.Statement.{statement}
 use Rattle.value.proofs.read.read_word.Tie as tie
-use Rattle.value.specs.Kinds.{wordFrom}
+use Rattle.value.specs.Kinds.{gotWord}
 use borrow.Author.Needs.{needs}
 use mathlib.Core.Path.{sym, ap, _∙_}
 
@@ -15,10 +15,10 @@ enum-told : tie.Need-enum-told
 enum-told c = search needs
 
 returns : tie.Need-returns
-returns c = ap wordFrom (sym (c .before .w .given .1) ∙ c .before .before .before .read .ensures)
+returns c = ap gotWord (sym (c .before .w .given .1) ∙ c .before .before .before .read .ensures)
 
 returns-2 : tie.Need-returns-2
-returns-2 c = ap wordFrom (sym (c .enum-told .given .1) ∙ c .before .before .read .ensures)
+returns-2 c = ap gotWord (sym (c .enum-told .given .1) ∙ c .before .before .read .ensures)
 
 pub read-word-spec : {M : Type 1} → statement M
 read-word-spec = tie.close (tie.spec read-requires enum-known-w enum-told returns returns-2)

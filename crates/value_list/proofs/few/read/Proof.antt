@@ -4,7 +4,7 @@ use Rattle.value_list.proofs.Cuts.{Sofar, begin, too-many, ends, bad-pa
 use Rattle.value_list.proofs.Lines.{part-bad, part-read, no-numbers, are-numbers}
 use Rattle.value_list.proofs.few.read.Statement.{statement}
 use Rattle.value_list.proofs.few.read.Tie as tie
-use Rattle.value_list.specs.Forms.{numberIn}
+use Rattle.value_list.specs.Forms.{amountOf}
 use Rattle.text.specs.Bytes.{part, firstOf, trim}
 use borrow.Author.Needs.{needs}
 use lib.IntN.{ℤ, pos}
@@ -18,13 +18,13 @@ use mir.ValLaws.{toZ-ofZ}
 use native.Mathlib.Omega.{arith}
 
 abbrev Inv-loop : tie.InvT-loop
-Inv-loop s sep least most values₀ n₀ at₀ values n at = (length values ≡ 4) × Sofar numberIn sep (pos 0) s at n values
+Inv-loop s sep least most values₀ n₀ at₀ values n at = (length values ≡ 4) × Sofar amountOf sep (pos 0) s at n values
 
 abbrev μ-loop : tie.MeasureT-loop
 μ-loop s sep least most values₀ n₀ at₀ values n at = most - n
 
 loop-holds : tie.Need-loop-holds Inv-loop μ-loop
-loop-holds c = (refl, begin numberIn (c .before .args .sep) (pos 0) (c .before .args .s .now) 4)
+loop-holds c = (refl, begin amountOf (c .before .args .sep) (pos 0) (c .before .args .s .now) 4)
 
 read-part-requires : tie.Need-read-part-requires Inv-loop μ-loop
 read-part-requires c κs = search needs
@@ -43,7 +43,7 @@ returns : tie.Need-returns Inv-loop μ-loop
 returns c =
     let p = c .before .before in
     let l = turn p in
-    no-numbers _ _ _ _ (bad-part numberIn _ _ _ _ _ _ _ (l .loop .inv .1) refl _ _
+    no-numbers _ _ _ _ (bad-part amountOf _ _ _ _ _ _ _ (l .loop .inv .1) refl _ _
     (part-bad _ _ _ (l .loop .inv .1 .inside) (sym (c .enum-told .given .1) ∙ p .read-part .ensures)))
 
 -- the number as it is stored, where its part ends, and the part
@@ -64,7 +64,7 @@ s-of l = l .before .before .args .s .now
 
 was-read : (k : tie.After-known-told Inv-loop μ-loop)
     → (e-of k ≡ turn-of k .loop .at + firstOf (turn-of k .before .before .args .sep) (drop (turn-of k .loop .at) (s-of (turn-of k))))
-    × (numberIn (trim (part (turn-of k .loop .at) (e-of k) (s-of (turn-of k)))) ≡ some (v-of k))
+    × (amountOf (trim (part (turn-of k .loop .at) (e-of k) (s-of (turn-of k)))) ≡ some (v-of k))
 was-read k =
     let l = turn-of k in
     rw (toZ-ofZ w32 (k .before .v .given .0 .0) (search needs))
@@ -83,7 +83,7 @@ returns-2 : tie.Need-returns-2 Inv-loop μ-loop
 returns-2 c =
     let k = c .before .before in
     let l = turn-of k in
-    no-numbers _ _ _ _ (too-few numberIn _ _ _ _ _ _ _ (l .loop .inv .1) (was-read k .0) (v-of k) (omega arith) (was-read k .1)
+    no-numbers _ _ _ _ (too-few amountOf _ _ _ _ _ _ _ (l .loop .inv .1) (was-read k .0) (v-of k) (omega arith) (was-read k .1)
     (c .before .if1 .taken) _ _ (c .if2 .taken))
 
 are-requires : tie.Need-are-requires Inv-loop μ-loop
@@ -100,7 +100,7 @@ returns-3 c =
 add-at : tie.Need-add-at Inv-loop μ-loop
 add-at c =
     let l = turn-of (c .before) in
-    omega (arith, ends numberIn _ _ (s-of l) (l .loop .at) (l .loop .n) (l .loop .values) (e-of (c .before)) (l .loop .inv .1) (was-read (c .before) .0))
+    omega (arith, ends amountOf _ _ (s-of l) (l .loop .at) (l .loop .n) (l .loop .values) (e-of (c .before)) (l .loop .inv .1) (was-read (c .before) .0))
 
 loop-less : tie.Need-loop-less Inv-loop μ-loop
 loop-less c = search needs
@@ -110,13 +110,13 @@ loop-again c =
     let k = c .before in
     let l = turn-of k in (
       length-set (l .loop .values) (l .loop .n) (v-of k) ∙ l .loop .inv .0,
-      next-part numberIn _ _ _ _ _ _ _ (l .loop .inv .1) (was-read k .0) (v-of k) (omega arith) (was-read k .1) (c .if1 .left),
+      next-part amountOf _ _ _ _ _ _ _ (l .loop .inv .1) (was-read k .0) (v-of k) (omega arith) (was-read k .1) (c .if1 .left),
     )
 
 returns-4 : tie.Need-returns-4 Inv-loop μ-loop
 returns-4 c =
     let l = c .before in
-    no-numbers _ _ _ _ (too-many numberIn _ _ _ _ _ _ _ _ (l .loop .inv .1) (c .loop-test .left))
+    no-numbers _ _ _ _ (too-many amountOf _ _ _ _ _ _ _ _ (l .loop .inv .1) (c .loop-test .left))
 
 pub read-spec : {M : Type 1} → statement M
 read-spec =

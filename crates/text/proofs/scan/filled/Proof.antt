@@ -1,8 +1,8 @@
 -- The whole and its first e bytes come to the same without the blanks at the end.
 use Prim.Native.Nat.{ℕ, _≤_}
 use Rattle.text.proofs.Trims.{end-on, end-here}
-use Rattle.text.proofs.scan.body.Statement.{statement}
-use Rattle.text.proofs.scan.body.Tie as tie
+use Rattle.text.proofs.scan.filled.Statement.{statement}
+use Rattle.text.proofs.scan.filled.Tie as tie
 use Rattle.text.specs.Bytes.{skipEnd, isBlank}
 use borrow.Author.Needs.{needs}
 use borrow.Author.Tests.{eq-eqb, ne-eqb}
@@ -50,8 +50,8 @@ returns-2 c =
     let z : l .loop .e ≡ 0 = omega arith in
     omega (arith, ap length (l .loop .inv .1 ∙ ap (λ (n : ℕ). skipEnd isBlank (take n (l .before .args .s .now))) z))
 
-pub body-spec : {M : Type 1} → statement M
-body-spec =
+pub filled-spec : {M : Type 1} → statement M
+filled-spec =
     tie.close
     (tie.spec
     Inv-loop
