@@ -1,14 +1,15 @@
 // One request answered.
 use crate::calls;
 use crate::lookups;
+use crate::request;
+use crate::request::Kind;
+use crate::request::Request;
+use crate::request::parts::text_of;
 use crate::said;
 use layout::Layout;
 use reader::Answer;
 use record::Record;
 use report_brief::Brief;
-use request::Kind;
-use request::Request;
-use request::parts::text_of;
 use said::say;
 use said::say_blank;
 use said::say_hex;
@@ -229,7 +230,7 @@ fn answer(line: &mut [u8]) {
 }
 
 // Answers the request on a line, which is without its end, by one line.
-pub fn run(line: &mut [u8]) {
+pub(crate) fn run(line: &mut [u8]) {
     answer(line);
     say(b"\n");
 }

@@ -1,15 +1,15 @@
 // `book UNIT CALLS`: a fresh book for a unit, and calls on it one after another.
+use crate::request::Part;
+use crate::request::call;
+use crate::request::call::Act;
+use crate::request::call::Call;
+use crate::request::parts::text_of;
 use crate::said;
 use book::Book;
 use book::InForce;
 use book::Outcome;
 use reader::Answer;
 use record::Record;
-use request::Part;
-use request::call;
-use request::call::Act;
-use request::call::Call;
-use request::parts::text_of;
 use said::say;
 use said::say_blank;
 use said::say_number;
@@ -131,7 +131,7 @@ fn fresh(unit: &[u8]) -> Book {
     handed(book::fresh(unit))
 }
 
-pub fn run(line: &mut [u8], unit: Part, calls: Part) {
+pub(crate) fn run(line: &mut [u8], unit: Part, calls: Part) {
     let b = fresh(text_of(line, unit));
     answer_all(b, line, calls);
 }

@@ -43,7 +43,14 @@ fn say_none(
     }
 }
 
-pub fn answer<'a>(w: Which, ca: u32, ioa: u32, plan: &[u8], file: &'a [u8], sheet: &'a [u8]) {
+pub(crate) fn answer<'a>(
+    w: Which,
+    ca: u32,
+    ioa: u32,
+    plan: &[u8],
+    file: &'a [u8],
+    sheet: &'a [u8],
+) {
     let p = part(w, ca, ioa, plan, file, sheet);
     match times::locate(w, ca, ioa, plan, file, sheet) {
         Time::File(from, to) => {

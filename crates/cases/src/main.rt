@@ -3,6 +3,7 @@
 mod answers;
 mod calls;
 mod lookups;
+mod request;
 mod said;
 
 use libc::STDIN_FILENO;

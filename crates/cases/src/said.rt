@@ -2,19 +2,19 @@
 use libc::STDOUT_FILENO;
 use text::scan;
 
-pub fn say(s: &[u8]) {
+pub(crate) fn say(s: &[u8]) {
     io::write_all(STDOUT_FILENO, s);
 }
 
-pub fn say_number(n: u64) {
+pub(crate) fn say_number(n: u64) {
     io::print_decimal(STDOUT_FILENO, n);
 }
 
-pub fn say_blank() {
+pub(crate) fn say_blank() {
     say(b" ");
 }
 
-pub fn say_refusal(number: u8, detail: usize) {
+pub(crate) fn say_refusal(number: u8, detail: usize) {
     say(b"R ");
     say_number(number as u64);
     say_blank();
@@ -22,12 +22,12 @@ pub fn say_refusal(number: u8, detail: usize) {
 }
 
 // A request that is not of the form.
-pub fn say_unknown() {
+pub(crate) fn say_unknown() {
     say(b"?");
 }
 
 // No bytes, and no instant.
-pub fn say_nothing() {
+pub(crate) fn say_nothing() {
     say(b"-");
 }
 
@@ -40,7 +40,7 @@ fn hex_digit(n: u8) -> u8 {
 }
 
 // Bytes as lowercase hex, '-' for none.
-pub fn say_hex(s: &[u8]) {
+pub(crate) fn say_hex(s: &[u8]) {
     if s.len() == 0 {
         say_nothing();
         return;

@@ -4,7 +4,7 @@ use value::Kind;
 use value::Shape;
 use value_name::MessageType;
 
-pub enum Asked {
+pub(crate) enum Asked {
     Of(Kind),
     Unknown,
 }
@@ -58,7 +58,7 @@ fn list_named(key: &[u8]) -> Asked {
     setting_named(key)
 }
 
-pub fn kind_named(key: &[u8]) -> Asked {
+pub(crate) fn kind_named(key: &[u8]) -> Asked {
     if scan::same(key, b"identifier") {
         return filled(Shape::IsId(MessageType::Cb));
     }

@@ -1,7 +1,7 @@
 -- Each byte is looked at once.
 use Prim.Native.Nat.{_-_, _≤_}
-use Rattle.request.proofs.hex.are_digits.Statement.{statement}
-use Rattle.request.proofs.hex.are_digits.Tie as tie
+use Rattle.cases.proofs.request.hex.are_digits.Statement.{statement}
+use Rattle.cases.proofs.request.hex.are_digits.Tie as tie
 use borrow.Author.Needs.{needs}
 use lib.ListN.{length}
 

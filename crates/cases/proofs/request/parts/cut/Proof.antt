@@ -1,8 +1,8 @@
 -- Each field ends in the line, and there are at most eight.
 use Prim.Native.Nat.{_-_, _≤_}
-use Rattle.request.proofs.Places.{near}
-use Rattle.request.proofs.parts.cut.Statement.{statement}
-use Rattle.request.proofs.parts.cut.Tie as tie
+use Rattle.cases.proofs.Places.{near}
+use Rattle.cases.proofs.request.parts.cut.Statement.{statement}
+use Rattle.cases.proofs.request.parts.cut.Tie as tie
 use borrow.Author.Needs.{needs}
 use lib.ListN.{length}
 use mathlib.Core.Path.{_≡_}

@@ -1,14 +1,14 @@
 // The calls on a book, which stand in a request joined by commas.
-use crate::Part;
-use crate::hex;
-use crate::hex::is_good;
-use crate::parts::letter_of;
-use crate::parts::past;
-use crate::parts::piece;
-use crate::parts::word_of;
+use crate::request::Part;
+use crate::request::hex;
+use crate::request::hex::is_good;
+use crate::request::parts::letter_of;
+use crate::request::parts::past;
+use crate::request::parts::piece;
+use crate::request::parts::word_of;
 
 // What a call asks of the book; `Unknown` is one that is not of the form.
-pub enum Act {
+pub(crate) enum Act {
     Command,
     Revoke,
     Close,
@@ -17,13 +17,13 @@ pub enum Act {
 }
 
 // `C:TYPE:UNIT:FILE`, `V:..`, `X:t` or `Q:t`, and the calls that are left after it. What its letter does not ask for says nothing.
-pub struct Call {
-    pub act: Act,
-    pub t: u32,
-    pub kind: Part,
-    pub unit: Part,
-    pub file: Part,
-    pub rest: Part,
+pub(crate) struct Call {
+    pub(crate) act: Act,
+    pub(crate) t: u32,
+    pub(crate) kind: Part,
+    pub(crate) unit: Part,
+    pub(crate) file: Part,
+    pub(crate) rest: Part,
 }
 
 // What the letter of a call asks for, where its instant or its file is of the form.
@@ -75,7 +75,7 @@ fn raw(line: &[u8], calls: Part) -> Call {
 }
 
 // The first of the calls.
-pub fn next(line: &mut [u8], calls: Part) -> Call {
+pub(crate) fn next(line: &mut [u8], calls: Part) -> Call {
     let c = raw(line, calls);
     hex::decode(line, c.file);
     c

@@ -1,19 +1,19 @@
 // The parts of a line: its fields, cut at single blanks, and the texts and numbers in them.
-use crate::Part;
+use crate::request::Part;
 use text::digits;
 use text::digits::Digits;
 use text::scan;
 
 // Up to eight fields; a count of 9 says that there are more.
-pub struct Fields {
-    pub count: usize,
-    pub places: [Part; 8],
+pub(crate) struct Fields {
+    pub(crate) count: usize,
+    pub(crate) places: [Part; 8],
 }
 
 // Where a field is that a line has not: the fields after the key stand further on.
-pub const NOWHERE: Part = Part { from: 0, to: 0 };
+pub(crate) const NOWHERE: Part = Part { from: 0, to: 0 };
 
-pub fn cut(line: &[u8]) -> Fields {
+pub(crate) fn cut(line: &[u8]) -> Fields {
     let mut places = [NOWHERE; 8];
     let mut at = 0;
     let mut k = 0;
@@ -30,7 +30,7 @@ pub fn cut(line: &[u8]) -> Fields {
 }
 
 // The field k, the key being 0.
-pub fn field(f: Fields, k: usize) -> Part {
+pub(crate) fn field(f: Fields, k: usize) -> Part {
     let places = f.places;
     if k < 8 {
         return places[k];
@@ -39,12 +39,12 @@ pub fn field(f: Fields, k: usize) -> Part {
 }
 
 // The text of a field.
-pub fn text_of<'a>(line: &'a [u8], p: Part) -> &'a [u8] {
+pub(crate) fn text_of<'a>(line: &'a [u8], p: Part) -> &'a [u8] {
     scan::rest(scan::front(line, p.to), p.from)
 }
 
 // The letter that a field is, or 0 where it is not one.
-pub fn letter_of(line: &[u8], p: Part) -> u8 {
+pub(crate) fn letter_of(line: &[u8], p: Part) -> u8 {
     let s = text_of(line, p);
     if s.len() == 1 {
         return s[0];
@@ -53,13 +53,13 @@ pub fn letter_of(line: &[u8], p: Part) -> u8 {
 }
 
 // A number of 32 bits, or that a field is none.
-pub struct Word {
-    pub good: bool,
-    pub n: u32,
+pub(crate) struct Word {
+    pub(crate) good: bool,
+    pub(crate) n: u32,
 }
 
 // A decimal number of up to ten digits; a field that is nowhere is 0.
-pub fn word_of(line: &[u8], p: Part) -> Word {
+pub(crate) fn word_of(line: &[u8], p: Part) -> Word {
     if p.to == 0 {
         return Word { good: true, n: 0 };
     }
@@ -75,7 +75,7 @@ pub fn word_of(line: &[u8], p: Part) -> Word {
 }
 
 // What stands of a part before the first b in it: all of it where there is none.
-pub fn piece(line: &[u8], p: Part, b: u8) -> Part {
+pub(crate) fn piece(line: &[u8], p: Part, b: u8) -> Part {
     let n = scan::first(text_of(line, p), b);
     if p.to <= p.from {
         return p;
@@ -90,7 +90,7 @@ pub fn piece(line: &[u8], p: Part, b: u8) -> Part {
 }
 
 // What stands of a part past a piece at its front and the byte after it.
-pub fn past(p: Part, front: Part) -> Part {
+pub(crate) fn past(p: Part, front: Part) -> Part {
     if p.to <= front.to {
         return Part {
             from: p.to,

@@ -1,28 +1,28 @@
 // A request line of the case runner: what it asks for (forms.rt), and its fields (parts.rt), with its bytes decoded where they stand (hex.rt). The calls of
 // a book are taken one by one (call.rt).
-pub mod call;
-pub mod forms;
-pub mod hex;
-pub mod parts;
+pub(crate) mod call;
+pub(crate) mod forms;
+pub(crate) mod hex;
+pub(crate) mod parts;
 
-use forms::Shape;
-use hex::is_good;
-use parts::Fields;
-use parts::NOWHERE;
-use parts::cut;
-use parts::field;
-use parts::letter_of;
-use parts::word_of;
+use crate::request::forms::Shape;
+use crate::request::hex::is_good;
+use crate::request::parts::Fields;
+use crate::request::parts::NOWHERE;
+use crate::request::parts::cut;
+use crate::request::parts::field;
+use crate::request::parts::letter_of;
+use crate::request::parts::word_of;
 
 // A part of a line, by its ends. (A line may have a MiB, and so its places need more than the 16 bits of a file's.)
-pub struct Part {
-    pub from: usize,
-    pub to: usize,
+pub(crate) struct Part {
+    pub(crate) from: usize,
+    pub(crate) to: usize,
 }
 
 // What a request asks for: a file's reading, the normaliser or one of the two entries on it, one of its two times, what the program prints, or a book.
 // `Blind` is the program with a plan that cannot be read; `Unknown` is a line that is not of the form.
-pub enum Kind {
+pub(crate) enum Kind {
     Read,
     Norm,
     Cread,
@@ -36,15 +36,15 @@ pub enum Kind {
 }
 
 // A request. What its kind has not is 0 or empty. A book's unit stands for its plan, and the program's input for its file.
-pub struct Request {
-    pub kind: Kind,
-    pub ca: u32,
-    pub ioa: u32,
-    pub room: u32,
-    pub plan: Part,
-    pub file: Part,
-    pub sheet: Part,
-    pub calls: Part,
+pub(crate) struct Request {
+    pub(crate) kind: Kind,
+    pub(crate) ca: u32,
+    pub(crate) ioa: u32,
+    pub(crate) room: u32,
+    pub(crate) plan: Part,
+    pub(crate) file: Part,
+    pub(crate) sheet: Part,
+    pub(crate) calls: Part,
 }
 
 fn only_if(good: bool, kind: Kind) -> Kind {
@@ -91,7 +91,7 @@ fn raw(line: &[u8]) -> Request {
 }
 
 // The request on a line. No field reaches into another, and so the bytes of each are decoded by themselves.
-pub fn of_line(line: &mut [u8]) -> Request {
+pub(crate) fn of_line(line: &mut [u8]) -> Request {
     let r = raw(line);
     hex::decode(line, r.plan);
     hex::decode(line, r.file);

@@ -1,7 +1,7 @@
 // Bytes of a request, written as lowercase hex: looked at first, and then decoded where they stand.
-use crate::Part;
-use crate::parts::letter_of;
-use crate::parts::text_of;
+use crate::request::Part;
+use crate::request::parts::letter_of;
+use crate::request::parts::text_of;
 
 // A digit's value; more than 15 for what is none.
 fn digit(b: u8) -> u8 {
@@ -26,12 +26,12 @@ fn are_digits(s: &[u8]) -> bool {
 // The place of a field that is not bytes: no part of a line ends before it begins.
 const BAD: Part = Part { from: 1, to: 0 };
 
-pub fn is_good(p: Part) -> bool {
+pub(crate) fn is_good(p: Part) -> bool {
     p.from <= p.to
 }
 
 // Where the bytes of a field stand once they are decoded: '-' is no bytes, and so is a field that is nowhere.
-pub fn place_of(line: &[u8], p: Part) -> Part {
+pub(crate) fn place_of(line: &[u8], p: Part) -> Part {
     if p.to == 0 {
         return p;
     }
@@ -59,7 +59,7 @@ fn byte_of(high: u8, low: u8) -> u8 {
 }
 
 // Fills a place with the bytes that the digits from its start on write: each pair becomes a byte at or before it.
-pub fn decode(line: &mut [u8], p: Part) {
+pub(crate) fn decode(line: &mut [u8], p: Part) {
     let from = p.from;
     let to = p.to;
     if to <= from {

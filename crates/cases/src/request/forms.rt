@@ -1,9 +1,9 @@
 // The forms of requests: the kind of one, by its key and the count of its fields, and where the fields of a kind stand.
-use crate::Kind;
-use crate::parts::Fields;
-use crate::parts::field;
-use crate::parts::letter_of;
-use crate::parts::text_of;
+use crate::request::Kind;
+use crate::request::parts::Fields;
+use crate::request::parts::field;
+use crate::request::parts::letter_of;
+use crate::request::parts::text_of;
 use text::scan;
 
 // `book UNIT CALLS` and `prog PLAN STDIN`, by the letter that PLAN is: `!` is one that cannot be read.
@@ -54,7 +54,7 @@ fn of_seven(key: &[u8], time: u8) -> Kind {
     }
 }
 
-pub fn kind_of(line: &[u8], f: Fields) -> Kind {
+pub(crate) fn kind_of(line: &[u8], f: Fields) -> Kind {
     let key = text_of(line, field(f, 0));
     let next = letter_of(line, field(f, 1));
     let count = f.count;
@@ -68,14 +68,14 @@ pub fn kind_of(line: &[u8], f: Fields) -> Kind {
 }
 
 // Which field of its line each part of a request is.
-pub struct Shape {
-    pub plan: usize,
-    pub ca: usize,
-    pub ioa: usize,
-    pub file: usize,
-    pub room: usize,
-    pub sheet: usize,
-    pub calls: usize,
+pub(crate) struct Shape {
+    pub(crate) plan: usize,
+    pub(crate) ca: usize,
+    pub(crate) ioa: usize,
+    pub(crate) file: usize,
+    pub(crate) room: usize,
+    pub(crate) sheet: usize,
+    pub(crate) calls: usize,
 }
 
 // A part that the request has not: `cut` gives fewer fields.
@@ -101,7 +101,7 @@ fn stands(
     }
 }
 
-pub fn shape_of(kind: Kind) -> Shape {
+pub(crate) fn shape_of(kind: Kind) -> Shape {
     match kind {
         Kind::Read => stands(1, 2, 3, 4, NO, NO, NO),
         Kind::Norm | Kind::Cread | Kind::Cnorm => stands(1, 2, 3, 4, 5, NO, NO),

@@ -1,7 +1,7 @@
 -- The digits lie in the line, which keeps its length, and each pair becomes one byte at or before it.
 use Prim.Native.Nat.{_+_, _-_, _*_, _≤_}
-use Rattle.request.proofs.hex.decode.Statement.{statement}
-use Rattle.request.proofs.hex.decode.Tie as tie
+use Rattle.cases.proofs.request.hex.decode.Statement.{statement}
+use Rattle.cases.proofs.request.hex.decode.Tie as tie
 use borrow.Author.Needs.{needs}
 use lib.ListN.{length}
 use mathlib.Core.Path.{_≡_}
