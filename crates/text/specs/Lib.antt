@@ -3,4 +3,5 @@ pub mod Digits
 pub mod Lists
 pub mod Puts
 pub mod Said
+pub mod Shapes
 pub mod Words
