@@ -1,5 +1,5 @@
 -- THE THEOREMS on the contracts of the functions that are public to the files of this crate alone: one answer at most satisfies each. What some of them ask
--- of the caller is in docs/DECISIONS.md, D10; the others ask nothing (`Answers`). Assumes nothing.
+-- of the caller is in docs/DESIGN.md, D10; the others ask nothing (`Answers`). Assumes nothing.
 use Rattle.book.proofs.fitness as fitness
 use Rattle.book.proofs.places as places
 use Rattle.text.proofs.Determined.{equation}

@@ -1,5 +1,5 @@
 -- The functions that are public because crates above or files beside them call them: one answer at most satisfies the contract of each. What some ask is
--- in docs/DECISIONS.md, D10; the others ask nothing (`Answers`, `Writes`, `Lends`).
+-- in docs/DESIGN.md, D10; the others ask nothing (`Answers`, `Writes`, `Lends`).
 -- Not here are four whose contract leaves open where things stand in a file (an empty text stands in many places), since no answer of the reader depends on
 -- it (reader/specs/State.antt): `text_lines::trim_span`, `reader_line::line_of`, `reader_walk::walk` and `reader::judged`.
 use Rattle.plan_row.proofs as plan_row

@@ -1,5 +1,5 @@
 -- THE THEOREM on the contract of the function that is public to the files of this crate alone: one answer at most satisfies it. (What it asks of the
--- caller is in docs/DECISIONS.md, D10.) Assumes nothing.
+-- caller is in docs/DESIGN.md, D10.) Assumes nothing.
 use Rattle.times.proofs.place as place
 use Rattle.text.proofs.Determined.{equation}
 use Rattle.text.specs.Shapes.{OneResult}
