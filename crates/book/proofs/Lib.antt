@@ -7,3 +7,4 @@ pub mod Placing
 pub mod Moving
 pub mod Holding
 pub mod Calls
+pub mod Unique

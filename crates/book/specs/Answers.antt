@@ -9,8 +9,9 @@ use Rattle.book.specs.declared.Outcome.{Outcome}
 use Rattle.book_ledger.specs.Calls.{Call, ask}
 use Rattle.book_ledger.specs.Ledger.{fresh, answer, step, inForce}
 use Rattle.value_name.specs.Names.{isUnit}
+use Rattle.text.specs.Said.{Said, said}
 use mathlib.Core.Bool.{cond}
-use mathlib.Core.List.{List}
+use mathlib.Core.List.{List, [], _∷_}
 
 -- a call's answer is its number and detail, and all details are 0
 abbrev pub outcome : ℕ → Book → Outcome
@@ -39,16 +40,21 @@ abbrev pub found : ℕ → InForce
 found zero = Nothing
 found (suc n) = Number n
 
+-- and that number, if there is one
+abbrev pub foundNumber : ℕ → List ℕ
+foundNumber zero = []
+foundNumber (suc n) = n ∷ []
+
 -- the number of a refusal: 0 where it is none
 abbrev pub askedAs : ℕ → ℕ → InForce
 askedAs zero n = found n
 askedAs (suc c) n = Refused (suc c) 0
 
--- what each case of the answer says: a refusal's number and detail, 0 and 0 where it is none
-abbrev pub refusalIn : InForce → ℕ × ℕ
-refusalIn (Refused n d) = (n, d)
-refusalIn Nothing = (0, 0)
-refusalIn (Number k) = (0, 0)
+-- what an answer says: a refusal's number and detail, or the number of the order in force, if there is one
+abbrev pub ofInForce : InForce → Said
+ofInForce (Refused n d) = said n d []
+ofInForce Nothing = said 0 0 []
+ofInForce (Number n) = said 0 0 (n ∷ [])
 
 -- THE DEFINITION: in force at t; the question hands the same book back
 unfoldable pub askedOf : ℕ → Book → Asked

@@ -1,7 +1,7 @@
 -- Demand 3 of the book with its 96 places: the ledger's theorems, carried over. Assumes nothing.
 use Prim.Native.Nat.{ℕ, zero, suc}
 use Rattle.book.proofs.Formed.{shelf-book}
-use Rattle.book.specs.Answers.{callNumber, nextOf, freshOf, found, askedAs, refusalIn, askedOf}
+use Rattle.book.specs.Answers.{callNumber, nextOf, freshOf, found, foundNumber, askedAs, ofInForce, askedOf}
 use Rattle.book.specs.Places.{shelf, zeroBook, formedUnit, formedBook}
 use Rattle.book.specs.declared.Book.{Book}
 use Rattle.book_ledger.proofs.Agreement.{same-answer, same-in-force}
@@ -18,9 +18,11 @@ use Rattle.book_theorems.proofs.Fitting.{fits-fresh}
 use Rattle.book_theorems.specs.Books.{books, bookFor, Kept}
 use Rattle.text.proofs.Tests.{by-test}
 use Rattle.text.specs.Bytes.{any}
+use Rattle.text.specs.Said.{said}
 use borrow.Author.Tests.{eqb-false, ne-eqb}
+use lib.Dec.{eqb}
 use lib.ListN.{length}
-use mathlib.Core.Bool.{true, false}
+use mathlib.Core.Bool.{true, false, cond}
 use mathlib.Core.List.{List, [], _∷_, _++_}
 use mathlib.Core.Path.{_≡_, refl, sym, ap, _∙_}
 use native.Mathlib.Omega.{arith}
@@ -70,19 +72,20 @@ module _ (unit : List ℕ) (bad : isUnit unit ≡ false) where
   pub unkept : (ks : List Call) (k : Call) → (callNumber k (run books ks (bookFor unit)) ≡ 20) × (run books ks (bookFor unit) ≡ bookFor unit)
   unkept ks k = (ap (callNumber k) (bad-run ks) ∙ bad-code k, bad-run ks)
 
--- ---- the question is refused as its list says, with the detail 0, whatever the book
+-- ---- the question says its list's refusal with the detail 0, or the number of the order in force, whatever the book
 
-found-none : (n : ℕ) → refusalIn (found n) ≡ (0, 0)
-found-none zero = refl
-found-none (suc n) = refl
+pub found-says : (n : ℕ) → ofInForce (found n) ≡ said 0 0 (foundNumber n)
+found-says zero = refl
+found-says (suc n) = refl
 
-asked-none : (c n : ℕ) → refusalIn (askedAs c n) ≡ (c, 0)
-asked-none zero n = found-none n
-asked-none (suc c) n = refl
+asked-says : (c n : ℕ) → ofInForce (askedAs c n) ≡ said c 0 (cond (eqb c 0) (foundNumber n) [])
+asked-says zero n = found-says n
+asked-says (suc c) n = rw (ne-eqb (suc c) 0 (λ e. omega (arith, e)))
 
-pub asked-refusal : (t : ℕ) (b : Book) → refusalIn (askedOf t b .answer) ≡ (callNumber (ask t) b, 0)
+pub asked-refusal : (t : ℕ) (b : Book)
+    → ofInForce (askedOf t b .answer) ≡ said (callNumber (ask t) b) 0 (cond (eqb (callNumber (ask t) b) 0) (foundNumber (inForce t (shelf b))) [])
 unfolding askedOf
-asked-refusal t b = asked-none (callNumber (ask t) b) (inForce t (shelf b))
+asked-refusal t b = asked-says (callNumber (ask t) b) (inForce t (shelf b))
 
 -- ---- the second half: a command that was taken and later revoked may be left out, with its revocation
 

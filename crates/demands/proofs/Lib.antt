@@ -1,4 +1,6 @@
 pub mod Answers
 pub mod Files
+pub mod Parted
+pub mod Listed
 pub mod Unique
 pub mod Demands

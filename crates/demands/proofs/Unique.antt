@@ -1,37 +1,30 @@
--- THE THEOREMS on contracts: two answers that satisfy one are equal. Proved once of an equation, once of two, once of a text; then of each public function by
--- name. Assumes nothing.
-use Prim.Native.Nat.{ℕ}
+-- THE THEOREMS on contracts: two answers that satisfy one are equal, by the laws of text/proofs/Determined.antt, of each public function by name; what the
+-- contracts say; and that the code meets them. Assumes nothing.
 use Rattle.book.proofs as book
+use Rattle.gateway.proofs as gateway
+use Rattle.plan.proofs as plan
+use Rattle.reader.proofs as reader
+use Rattle.record_check.proofs as record-check
+use Rattle.record_rules.proofs as record-rules
+use Rattle.report.proofs as report
+use Rattle.report_brief.proofs as report_brief
+use Rattle.times.proofs as times
+use Rattle.value.proofs as value
+use Rattle.value_date.proofs as value_date
+use Rattle.value_fits.proofs as value_fits
+use Rattle.value_list.proofs as value_list
+use Rattle.value_name.proofs as value_name
+use Rattle.value_number.proofs as value_number
+use Rattle.value_put.proofs as value_put
+use Rattle.value_word.proofs as value_word
+use Rattle.writer.proofs as writer
 use Rattle.demands.specs.Calls.{Calls, Meets}
 use Rattle.demands.specs.Contracts.{Contracts}
-use Rattle.gateway.proofs as gateway
-use Rattle.reader.proofs as reader
-use Rattle.demands.specs.Shapes.{Determines}
 use Rattle.demands.specs.Within.{Within}
+use Rattle.text.proofs.Determined.{equation, equations, buffer-equation, text-equation}
 use Rattle.text.proofs.Numerals.{length-text}
-use Rattle.record_check.proofs as record_check
-use Rattle.writer.proofs as writer
 use lib.ListN.{length}
-use mathlib.Core.List.{List}
-use mathlib.Core.Path.{_≡_, sym, ap, _∙_}
-
-module _ {E : Type 0} where
-  -- the result is what a definition gives
-  equation : {A : Type 0} (d : A) → Determines (λ (x : A). (e : E) × (x ≡ d))
-  equation d x y p q = p .1 ∙ sym (q .1)
-
-  -- and the buffer too
-  equations : {A : Type 0} (buffer : E → List ℕ) (d : A) (o : List ℕ)
-      → Determines (λ (x : A × List ℕ). (e : E) × (x .1 ≡ buffer e) × ((x .0 ≡ d) × (buffer e ≡ o)))
-  equations buffer d o x y p q = λ i. ((p .2 .0 ∙ sym (q .2 .0)) i, (p .1 ∙ p .2 .1 ∙ sym (q .2 .1) ∙ sym (q .1)) i)
-
-  -- the buffer alone, where nothing is answered
-  buffer-equation : (buffer : E → List ℕ) (o : List ℕ) → Determines (λ (x : Unit {0} × List ℕ). (e : E) × (x .1 ≡ buffer e) × (buffer e ≡ o))
-  buffer-equation buffer o x y p q = λ i. (tt, (p .1 ∙ p .2 ∙ sym (q .2) ∙ sym (q .1)) i)
-
-  -- the text of the result is what a definition gives
-  text-equation : {Z : Type 0} (text : Z → List ℕ) (d : List ℕ) → Determines (λ (t : List ℕ). (z : Z) × (e : E) × (t ≡ text z) × (text z ≡ d))
-  text-equation text d x y p q = p .2 ∙ p .3 ∙ sym (q .3) ∙ sym (q .2)
+use mathlib.Core.Path.{sym, ap, _∙_}
 
 pub calls : Calls
 calls =
@@ -192,6 +185,10 @@ within =
       writer-row-put-row = λ κs a. equations _ _ _;
       writer-message-put-copied = λ κs a. equations _ _ _;
       writer-message-put-message = λ κs a. equations _ _ _;
+      value-fits-own = value_fits.Unique.within;
+      record-check-own = record-check.Unique.within;
+      times-own = times.Unique.within;
+      book-own = book.Unique.within;
     }
 
 -- ---- what the contracts say, and that the code meets them
@@ -210,6 +207,11 @@ contracts =
       revokes = λ κs b r z e h. h;
       closes = λ κs b t z e h. h;
       in-force = λ κs b t z e h. h;
+      locate = λ κs w ca ioa plan file sheet z e h. h;
+      start-up = λ κs ca ioa plan file sheet z e h. h;
+      ramp = λ κs ca ioa plan file sheet z e h. h;
+      refusal-of = λ κs ca ioa plan file sheet z e h. h;
+      write-value = λ κs out at t v unit reason note gradients z e h. h;
     }
 
 pub meets : Meets
@@ -220,10 +222,34 @@ meets =
       reader-read = λ M. reader.read.Met.met;
       writer-write = λ M. writer.write.Met.met;
       writer-normalise = λ M. writer.normalise.Met.met;
-      record-check-is-valid = λ M. record_check.is_valid.Met.met;
+      record-check-is-valid = λ M. record-check.is_valid.Met.met;
+      record-rules-lowest-broken = λ M. record-rules.lowest_broken.Met.met;
+      report-brief-of-record = λ M. report_brief.of_record.Met.met;
       book-fresh = λ M. book.fresh.Met.met;
       book-command = λ M. book.Book.command.Met.met;
       book-revoke = λ M. book.Book.revoke.Met.met;
       book-close = λ M. book.Book.close.Met.met;
       book-in-force = λ M. book.Book.in_force.Met.met;
+      times-start-up = λ M. times.start_up.Met.met;
+      times-ramp = λ M. times.ramp.Met.met;
+      times-locate = λ M. times.locate.Met.met;
+      times-refusal-of = λ M. times.refusal_of.Met.met;
+      plan-seek = λ M. plan.seek.Met.met;
+      report-hear = λ M. report.hear.Met.met;
+      report-print = λ M. report.print.Met.met;
+      value-read-read = λ M. value.read.read.Met.met;
+      value-put-write-value = λ M. value_put.write_value.Met.met;
+      value-number-read = λ M. value_number.read.Met.met;
+      value-date-read = λ M. value_date.read.Met.met;
+      value-date-is-real = λ M. value_date.is_real.Met.met;
+      value-date-instant = λ M. value_date.instant.Met.met;
+      value-date-is-before = λ M. value_date.is_before.Met.met;
+      value-name-identifier-read = λ M. value_name.identifier.read.Met.met;
+      value-name-sequence-read = λ M. value_name.sequence.read.Met.met;
+      value-name-unit-is-unit = λ M. value_name.unit.is_unit.Met.met;
+      value-name-code = λ M. value_name.code.Met.met;
+      value-word-read = λ M. value_word.read.Met.met;
+      value-list-few-read-profile = λ M. value_list.few.read_profile.Met.met;
+      value-list-few-read-bands = λ M. value_list.few.read_bands.Met.met;
+      value-list-triples-read = λ M. value_list.triples.read.Met.met;
     }

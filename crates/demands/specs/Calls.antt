@@ -10,26 +10,28 @@ use Rattle.plan.proofs as plan
 use Rattle.reader.proofs as reader
 use Rattle.value_put.proofs as value_put
 use Rattle.report.proofs as report
-use Rattle.record_rules.proofs as record_rules
+use Rattle.record_rules.proofs as record-rules
 use Rattle.times.proofs as times
-use Rattle.record_check.proofs as record_check
+use Rattle.record_check.proofs as record-check
 use Rattle.value.proofs as value
 use Rattle.value_word.proofs as value_word
 use Rattle.writer.proofs as writer
-use Rattle.demands.specs.Shapes.{Answers, Lends, Writes}
+use Rattle.text.specs.Shapes.{Answers, Lends, Writes}
 
 -- Of each the contract asks nothing of its caller, and one answer at most satisfies it, with the final bytes of the buffer that it writes. (`e` has the
 -- parameters at exit, in order: `e .1 .0 .now` are the bytes of the second)
 pub record Calls : Type 0 where
   -- the entries that a C host calls
-  pub gateway-halimpung-read : Writes gateway.halimpung_read.ended (λ κs e. e .1 .1 .1 .1 .0 .now) gateway.halimpung_read.Reads.Asked gateway.halimpung_read.Reads.Learnt
-  pub gateway-halimpung-normalise : Writes gateway.halimpung_normalise.ended (λ κs e. e .1 .1 .1 .1 .0 .now) gateway.halimpung_normalise.Reads.Asked gateway.halimpung_normalise.Reads.Learnt
+  pub gateway-halimpung-read :
+      Writes gateway.halimpung_read.ended (λ κs e. e .1 .1 .1 .1 .0 .now) gateway.halimpung_read.Reads.Asked gateway.halimpung_read.Reads.Learnt
+  pub gateway-halimpung-normalise :
+      Writes gateway.halimpung_normalise.ended (λ κs e. e .1 .1 .1 .1 .0 .now) gateway.halimpung_normalise.Reads.Asked gateway.halimpung_normalise.Reads.Learnt
   -- files and records: the reader, the writer, the normaliser, the test of a record, the lowest rule that it breaks, what is told of it
   pub reader-read : Answers reader.read.ended reader.read.Reads.Asked reader.read.Reads.Learnt
   pub writer-write : Writes writer.write.ended (λ κs e. e .1 .0 .now) writer.write.Reads.Asked writer.write.Reads.Learnt
   pub writer-normalise : Writes writer.normalise.ended (λ κs e. e .1 .1 .1 .1 .0 .now) writer.normalise.Reads.Asked writer.normalise.Reads.Learnt
-  pub record-check-is-valid : Answers record_check.is_valid.ended record_check.is_valid.Reads.Asked record_check.is_valid.Reads.Learnt
-  pub record-rules-lowest-broken : Answers record_rules.lowest_broken.ended record_rules.lowest_broken.Reads.Asked record_rules.lowest_broken.Reads.Learnt
+  pub record-check-is-valid : Answers record-check.is_valid.ended record-check.is_valid.Reads.Asked record-check.is_valid.Reads.Learnt
+  pub record-rules-lowest-broken : Answers record-rules.lowest_broken.ended record-rules.lowest_broken.Reads.Asked record-rules.lowest_broken.Reads.Learnt
   pub report-brief-of-record : Answers report_brief.of_record.ended report_brief.of_record.Reads.Asked report_brief.of_record.Reads.Learnt
   -- the book: a fresh one, and the four calls
   pub book-fresh : Answers book.fresh.ended book.fresh.Reads.Asked book.fresh.Reads.Learnt
@@ -70,9 +72,33 @@ pub record Meets : Type 2 where
   pub reader-read : (M : Type 1) → reader.read.Statement.statement M
   pub writer-write : (M : Type 1) → writer.write.Statement.statement M
   pub writer-normalise : (M : Type 1) → writer.normalise.Statement.statement M
-  pub record-check-is-valid : (M : Type 1) → record_check.is_valid.Statement.statement M
+  pub record-check-is-valid : (M : Type 1) → record-check.is_valid.Statement.statement M
+  pub record-rules-lowest-broken : (M : Type 1) → record-rules.lowest_broken.Statement.statement M
+  pub report-brief-of-record : (M : Type 1) → report_brief.of_record.Statement.statement M
   pub book-fresh : (M : Type 1) → book.fresh.Statement.statement M
   pub book-command : (M : Type 1) → book.Book.command.Statement.statement M
   pub book-revoke : (M : Type 1) → book.Book.revoke.Statement.statement M
   pub book-close : (M : Type 1) → book.Book.close.Statement.statement M
   pub book-in-force : (M : Type 1) → book.Book.in_force.Statement.statement M
+  pub times-start-up : (M : Type 1) → times.start_up.Statement.statement M
+  pub times-ramp : (M : Type 1) → times.ramp.Statement.statement M
+  pub times-locate : (M : Type 1) → times.locate.Statement.statement M
+  pub times-refusal-of : (M : Type 1) → times.refusal_of.Statement.statement M
+  pub plan-seek : (M : Type 1) → plan.seek.Statement.statement M
+  pub report-hear : (M : Type 1) → report.hear.Statement.statement M
+  pub report-print : (M : Type 1) → report.print.Statement.statement M
+  pub value-read-read : (M : Type 1) → value.read.read.Statement.statement M
+  pub value-put-write-value : (M : Type 1) → value_put.write_value.Statement.statement M
+  pub value-number-read : (M : Type 1) → value_number.read.Statement.statement M
+  pub value-date-read : (M : Type 1) → value_date.read.Statement.statement M
+  pub value-date-is-real : (M : Type 1) → value_date.is_real.Statement.statement M
+  pub value-date-instant : (M : Type 1) → value_date.instant.Statement.statement M
+  pub value-date-is-before : (M : Type 1) → value_date.is_before.Statement.statement M
+  pub value-name-identifier-read : (M : Type 1) → value_name.identifier.read.Statement.statement M
+  pub value-name-sequence-read : (M : Type 1) → value_name.sequence.read.Statement.statement M
+  pub value-name-unit-is-unit : (M : Type 1) → value_name.unit.is_unit.Statement.statement M
+  pub value-name-code : (M : Type 1) → value_name.code.Statement.statement M
+  pub value-word-read : (M : Type 1) → value_word.read.Statement.statement M
+  pub value-list-few-read-profile : (M : Type 1) → value_list.few.read_profile.Statement.statement M
+  pub value-list-few-read-bands : (M : Type 1) → value_list.few.read_bands.Statement.statement M
+  pub value-list-triples-read : (M : Type 1) → value_list.triples.read.Statement.statement M

@@ -1,5 +1,5 @@
 -- What the contracts of the calls say, by the definitions of which the demands speak: at the arguments by name, of the result z, and of e, the parameters at
--- exit in order; κs are lifetimes. (`Learnt` is what the toolchain makes of a contract for its callers: Shapes.antt)
+-- exit in order; κs are lifetimes. (`Learnt` is what the toolchain makes of a contract for its callers: text/specs/Shapes.antt)
 use Prim.Native.Nat.{ℕ}
 use Rattle.book.proofs as book
 use Rattle.book.specs.Answers.{outcomeOf, freshOf, askedOf}
@@ -14,8 +14,21 @@ use Rattle.reader.proofs as reader
 use Rattle.reader.specs.Reader.{readOf}
 use Rattle.reader.specs.declared.Answer.{Answer}
 use Rattle.record.specs.declared.Record.{Record}
-use Rattle.record_check.proofs as record_check
+use Rattle.record_check.proofs as record-check
 use Rattle.record_check.specs.Validity.{isValid}
+use Rattle.text.specs.Puts.{wroteOf, bufferOf}
+use Rattle.text.specs.declared.put.Wrote.{Wrote}
+use Rattle.times.proofs as times
+use Rattle.times.specs.Times.{timeOf, partIn, timeRefusal}
+use Rattle.times.specs.declared.Refusal.{Refusal}
+use Rattle.times.specs.declared.Time.{Time}
+use Rattle.times_sheet.specs.declared.Which.the-variants.{StartUp, Ramp}
+use Rattle.times_sheet.specs.declared.Which.{Which}
+use Rattle.value.specs.Texts.{rooms, valueText}
+use Rattle.value.specs.declared.Value.{Value}
+use Rattle.value_list.specs.declared.Triple.{Triple}
+use Rattle.value_name.specs.declared.MessageType.{MessageType}
+use Rattle.value_put.proofs as value_put
 use Rattle.writer.proofs as writer
 use Rattle.writer.specs.Writer.{writeOf, leftBy, normaliseOf, normalLeft}
 use Rattle.writer.specs.declared.Written.{Written}
@@ -50,9 +63,25 @@ pub record Contracts : Type 0 where
   pub normalise : (κs : _) (ca ioa : ℕ) (plan file out : Slice) (z : Written) (e : _)
       → writer.normalise.Reads.Learnt κs (ca, (ioa, (plan, (file, (out, tt))))) z e
       → (z ≡ normaliseOf (to ca ioa plan file) (length (out .now))) × (e .1 .1 .1 .1 .0 .now ≡ normalLeft (to ca ioa plan file) (out .now))
-  pub is-valid : (κs : _) (r : Record) (z : Bool) (e : _) → record_check.is_valid.Reads.Learnt κs (r, tt) z e → z ≡ isValid r
+  pub is-valid : (κs : _) (r : Record) (z : Bool) (e : _) → record-check.is_valid.Reads.Learnt κs (r, tt) z e → z ≡ isValid r
   pub fresh : (κs : _) (unit : Slice) (z : Outcome) (e : _) → book.fresh.Reads.Learnt κs (unit, tt) z e → z ≡ freshOf (unit .now)
   pub commands : (κs : _) (b : Book) (r : Record) (z : Outcome) (e : _) → book.Book.command.Reads.Learnt κs (b, (r, tt)) z e → z ≡ outcomeOf (command r) b
   pub revokes : (κs : _) (b : Book) (r : Record) (z : Outcome) (e : _) → book.Book.revoke.Reads.Learnt κs (b, (r, tt)) z e → z ≡ outcomeOf (revoke r) b
   pub closes : (κs : _) (b : Book) (t : ℕ) (z : Outcome) (e : _) → book.Book.close.Reads.Learnt κs (b, (t, tt)) z e → z ≡ outcomeOf (close t) b
   pub in-force : (κs : _) (b : Book) (t : ℕ) (z : Asked) (e : _) → book.Book.in_force.Reads.Learnt κs (b, (t, tt)) z e → z ≡ askedOf t b
+  pub locate : (κs : _) (w : Which) (ca ioa : ℕ) (plan file sheet : Slice) (z : Time) (e : _)
+      → times.locate.Reads.Learnt κs (w, (ca, (ioa, (plan, (file, (sheet, tt)))))) z e
+      → z ≡ timeOf w ca ioa (plan .now) (file .now) (sheet .now)
+  pub start-up : (κs : _) (ca ioa : ℕ) (plan file sheet z : Slice) (e : _)
+      → times.start_up.Reads.Learnt κs (ca, (ioa, (plan, (file, (sheet, tt))))) z e
+      → z .now ≡ partIn (timeOf StartUp ca ioa (plan .now) (file .now) (sheet .now)) (file .now) (sheet .now)
+  pub ramp : (κs : _) (ca ioa : ℕ) (plan file sheet z : Slice) (e : _)
+      → times.ramp.Reads.Learnt κs (ca, (ioa, (plan, (file, (sheet, tt))))) z e
+      → z .now ≡ partIn (timeOf Ramp ca ioa (plan .now) (file .now) (sheet .now)) (file .now) (sheet .now)
+  pub refusal-of : (κs : _) (ca ioa : ℕ) (plan file sheet : Slice) (z : Refusal) (e : _)
+      → times.refusal_of.Reads.Learnt κs (ca, (ioa, (plan, (file, (sheet, tt))))) z e
+      → z ≡ timeRefusal (timeOf StartUp ca ioa (plan .now) (file .now) (sheet .now))
+  pub write-value : (κs : _) (out : Slice) (at : ℕ) (t : MessageType) (v : Value) (unit reason note : Slice) (gradients : List Triple) (z : Wrote) (e : _)
+      → value_put.write_value.Reads.Learnt κs (out, (at, (t, (v, (unit, (reason, (note, (gradients, tt)))))))) z e
+      → (z ≡ wroteOf (out .now) at (valueText t (rooms (unit .now) (reason .now) (note .now) gradients) v))
+      × (e .0 .now ≡ bufferOf (out .now) at (valueText t (rooms (unit .now) (reason .now) (note .now) gradients) v))

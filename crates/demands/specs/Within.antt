@@ -1,5 +1,5 @@
--- The functions that are public because crates above call them: one answer at most satisfies the contract of each. What some of them ask of the caller is
--- in docs/DECISIONS.md, D10; the others ask nothing (`Answers`, `Writes`, `Lends`).
+-- The functions that are public because crates above or files beside them call them: one answer at most satisfies the contract of each. What some ask is
+-- in docs/DESIGN.md, D10; the others ask nothing (`Answers`, `Writes`, `Lends`).
 -- Not here are four whose contract leaves open where things stand in a file (an empty text stands in many places), since no answer of the reader depends on
 -- it (reader/specs/State.antt): `text_lines::trim_span`, `reader_line::line_of`, `reader_walk::walk` and `reader::judged`.
 use Rattle.plan_row.proofs as plan_row
@@ -9,7 +9,7 @@ use Rattle.writer_lines.proofs as writer_lines
 use Rattle.report_brief.proofs as report_brief
 use Rattle.writer_message.proofs as writer_message
 use Rattle.value_date.proofs as value_date
-use Rattle.demands.specs.Shapes.{Answers, Lends, OneOutput, OneResult, OneText}
+use Rattle.text.specs.Shapes.{Answers, Lends, OneOutput, OneResult, OneText}
 use Rattle.reader_line.proofs as reader_line
 use Rattle.reader_fill.proofs as reader_fill
 use Rattle.value_fits.proofs as value_fits
@@ -28,12 +28,15 @@ use Rattle.value_put.proofs as value_put
 use Rattle.report.proofs as report
 use Rattle.text_room.proofs as text_room
 use Rattle.reader_row.proofs as reader_row
-use Rattle.record_rules.proofs as record_rules
+use Rattle.record_rules.proofs as record-rules
 use Rattle.times_sheet.proofs as times_sheet
 use Rattle.writer_row.proofs as writer_row
 use Rattle.text.proofs as text
-use Rattle.record_voltvar.proofs as record_voltvar
+use Rattle.record_voltvar.proofs as record-voltvar
 use Rattle.value_word.proofs as value_word
+use Rattle.book.proofs as book
+use Rattle.record_check.proofs as record-check
+use Rattle.times.proofs as times
 
 pub record Within : Type 0 where
   -- text
@@ -149,17 +152,17 @@ pub record Within : Type 0 where
   pub reader-fill-value-in : OneResult reader_fill.value_in.ended reader_fill.value_in.Reads.Learnt
   pub reader-fill-record-of : OneResult reader_fill.record_of.ended reader_fill.record_of.Reads.Learnt
   -- record_voltvar
-  pub record-voltvar-in-table : Answers record_voltvar.in_table.ended record_voltvar.in_table.Reads.Asked record_voltvar.in_table.Reads.Learnt
+  pub record-voltvar-in-table : Answers record-voltvar.in_table.ended record-voltvar.in_table.Reads.Asked record-voltvar.in_table.Reads.Learnt
   -- record_rules
-  pub record-rules-of-market : Answers record_rules.of_market.ended record_rules.of_market.Reads.Asked record_rules.of_market.Reads.Learnt
-  pub record-rules-of-ramps : Answers record_rules.of_ramps.ended record_rules.of_ramps.Reads.Asked record_rules.of_ramps.Reads.Learnt
-  pub record-rules-of-order : Answers record_rules.of_order.ended record_rules.of_order.Reads.Asked record_rules.of_order.Reads.Learnt
-  pub record-rules-of-exclusion : Answers record_rules.of_exclusion.ended record_rules.of_exclusion.Reads.Asked record_rules.of_exclusion.Reads.Learnt
-  pub record-rules-of-limitation : Answers record_rules.of_limitation.ended record_rules.of_limitation.Reads.Asked record_rules.of_limitation.Reads.Learnt
-  pub record-rules-of-secondary : Answers record_rules.of_secondary.ended record_rules.of_secondary.Reads.Asked record_rules.of_secondary.Reads.Learnt
-  pub record-rules-of-volt-var : Answers record_rules.of_volt_var.ended record_rules.of_volt_var.Reads.Asked record_rules.of_volt_var.Reads.Learnt
-  pub record-rules-of-reserve : Answers record_rules.of_reserve.ended record_rules.of_reserve.Reads.Asked record_rules.of_reserve.Reads.Learnt
-  pub record-rules-lowest-of : Answers record_rules.lowest_of.ended record_rules.lowest_of.Reads.Asked record_rules.lowest_of.Reads.Learnt
+  pub record-rules-of-market : Answers record-rules.of_market.ended record-rules.of_market.Reads.Asked record-rules.of_market.Reads.Learnt
+  pub record-rules-of-ramps : Answers record-rules.of_ramps.ended record-rules.of_ramps.Reads.Asked record-rules.of_ramps.Reads.Learnt
+  pub record-rules-of-order : Answers record-rules.of_order.ended record-rules.of_order.Reads.Asked record-rules.of_order.Reads.Learnt
+  pub record-rules-of-exclusion : Answers record-rules.of_exclusion.ended record-rules.of_exclusion.Reads.Asked record-rules.of_exclusion.Reads.Learnt
+  pub record-rules-of-limitation : Answers record-rules.of_limitation.ended record-rules.of_limitation.Reads.Asked record-rules.of_limitation.Reads.Learnt
+  pub record-rules-of-secondary : Answers record-rules.of_secondary.ended record-rules.of_secondary.Reads.Asked record-rules.of_secondary.Reads.Learnt
+  pub record-rules-of-volt-var : Answers record-rules.of_volt_var.ended record-rules.of_volt_var.Reads.Asked record-rules.of_volt_var.Reads.Learnt
+  pub record-rules-of-reserve : Answers record-rules.of_reserve.ended record-rules.of_reserve.Reads.Asked record-rules.of_reserve.Reads.Learnt
+  pub record-rules-lowest-of : Answers record-rules.lowest_of.ended record-rules.lowest_of.Reads.Asked record-rules.lowest_of.Reads.Learnt
   -- book_order
   pub book-order-is-command : Answers book_order.is_command.ended book_order.is_command.Reads.Asked book_order.is_command.Reads.Learnt
   pub book-order-is-revocation : Answers book_order.is_revocation.ended book_order.is_revocation.Reads.Asked book_order.is_revocation.Reads.Learnt
@@ -182,3 +185,8 @@ pub record Within : Type 0 where
   -- writer_message
   pub writer-message-put-copied : OneOutput writer_message.put_copied.ended (λ κs e. e .0 .now) writer_message.put_copied.Reads.Learnt
   pub writer-message-put-message : OneOutput writer_message.put_message.ended (λ κs e. e .0 .now) writer_message.put_message.Reads.Learnt
+  -- those that are public to the files of their own crate alone, which has their list and its proof
+  pub value-fits-own : value_fits.Unique.Within
+  pub record-check-own : record-check.Unique.Within
+  pub times-own : times.Unique.Within
+  pub book-own : book.Unique.Within

@@ -37,14 +37,14 @@ pub clean-of : {file : List ℕ} → Sound file → Clean file
 clean-of s = record { some-bytes = s .some-bytes; not-long = s .not-long; clean = s .clean }
 
 -- what is left to judge of them
-clean-reading : (t : MessageType) (unit file : List ℕ) → Clean file
+pub clean-reading : (t : MessageType) (unit file : List ℕ) → Clean file
     → messageOf t unit file
     ≡ answer (refusal 4 (seps (texts file)) (not (framed (texts file))) ∷ labelled (layoutIn t (given file)) unit (rowIn file) (entriesIn t file)) (recordIn t file)
 unfolding messageOf reading answer
 clean-reading t unit file c =
     rw (le-leb 1 (length file) (c .some-bytes), le-leb (length file) 8192 (c .not-long), c .clean, le-ltb (length file) (length file) (le-refl (length file)))
 
-sound-reading : (t : MessageType) (unit file : List ℕ) → Sound file
+pub sound-reading : (t : MessageType) (unit file : List ℕ) → Sound file
     → messageOf t unit file ≡ answer (labelled (layoutIn t (given file)) unit (rowIn file) (entriesIn t file)) (recordIn t file)
 unfolding answer
 sound-reading t unit file s = clean-reading t unit file (clean-of s) ∙ rw (s .frame)

@@ -5,3 +5,4 @@ pub mod Held
 pub mod Kept
 pub mod Fields
 pub mod Unused
+pub mod Unique

@@ -7,3 +7,4 @@ pub mod Runs
 pub mod Tables
 pub mod Fronts
 pub mod Loads
+pub mod Determined

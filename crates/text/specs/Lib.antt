@@ -2,4 +2,6 @@ pub mod Bytes
 pub mod Digits
 pub mod Lists
 pub mod Puts
+pub mod Said
+pub mod Shapes
 pub mod Words

@@ -1,11 +1,12 @@
 -- What a write answers and what it leaves in the buffer: the bytes before and past the text stay, and a refusal changes none.
 use Prim.Native.Nat.{ℕ, _+_, _-_}
+use Rattle.text.specs.Said.{Said, said}
 use Rattle.text.specs.declared.put.Wrote.{Wrote}
 use Rattle.text.specs.declared.put.Wrote.the-variants.{To, NoRoom}
 use lib.Dec.{leb}
 use lib.ListN.{length, take, drop, replicate}
 use mathlib.Core.Bool.{cond}
-use mathlib.Core.List.{List, _++_}
+use mathlib.Core.List.{List, [], _∷_, _++_}
 
 -- one more than the greatest place: places are 64 bits wide
 abbrev pub limit : ℕ
@@ -15,6 +16,12 @@ limit = 18446744073709551616
 unfoldable pub wroteOf : List ℕ → ℕ → List ℕ → Wrote
 wroteOf buffer at t = cond (leb (at + length t) (length buffer)) (To (at + length t)) (NoRoom (length t))
 
+-- what that answer says: the place past it, or 11 with the length
+abbrev pub ofWrote : Wrote → Said
+ofWrote (To n) = said 0 0 (n ∷ [])
+ofWrote (NoRoom n) = said 11 n []
+
+-- the buffer after it
 unfoldable pub bufferOf : List ℕ → ℕ → List ℕ → List ℕ
 bufferOf buffer at t =
     cond (leb (at + length t) (length buffer)) (take at buffer ++ t ++ drop (at + length t) buffer) buffer

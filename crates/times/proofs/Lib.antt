@@ -7,3 +7,4 @@ pub mod Taken
 pub mod Units
 pub mod Told
 pub mod Theorems
+pub mod Unique

@@ -15,6 +15,7 @@ use Rattle.times_sheet.specs.declared.Part.{Part}
 use Rattle.times_sheet.specs.declared.Which.the-variants.{StartUp, Ramp}
 use Rattle.times_sheet.specs.declared.Which.{Which}
 use Rattle.text.specs.Bytes.{part}
+use Rattle.text.specs.Said.{Said, said}
 use Rattle.times.specs.Places.{fieldPart}
 use Rattle.times.specs.declared.Refusal.{Refusal}
 use Rattle.times.specs.declared.Time.the-variants.{File, Sheet, Refused}
@@ -79,3 +80,9 @@ abbrev pub timeRefusal : Time → Refusal
 timeRefusal (File from to) = record { number = 0; detail = 0 }
 timeRefusal (Sheet from to) = record { number = 0; detail = 0 }
 timeRefusal (Refused n d) = record { number = n; detail = d }
+
+-- what an answer says: that part of the file or of the sheet, or a refusal's number and detail with an empty part
+abbrev pub ofTime : List ℕ → List ℕ → Time → Said
+ofTime file sheet (File from to) = said 0 0 (part from to file)
+ofTime file sheet (Sheet from to) = said 0 0 (part from to sheet)
+ofTime file sheet (Refused n d) = said n d []

@@ -5,3 +5,4 @@ pub mod Gradients
 pub mod Plain
 pub mod Ranges
 pub mod Unused
+pub mod Unique

@@ -4,6 +4,7 @@ use Prim.Native.Nat.{ℕ}
 use Rattle.reader.specs.declared.Answer.{Answer}
 use Rattle.record.specs.declared.Record.{Record}
 use Rattle.text.specs.Puts.{bufferOf}
+use Rattle.text.specs.Said.{Said, said}
 use Rattle.record_check.specs.Validity.{isValid}
 use Rattle.writer.specs.declared.Written.{Written}
 use Rattle.writer.specs.declared.Written.the-variants.{Length, Refused}
@@ -11,7 +12,12 @@ use Rattle.writer_form.specs.Written.{fileOf}
 use lib.Dec.{eqb, leb}
 use lib.ListN.{length}
 use mathlib.Core.Bool.{cond}
-use mathlib.Core.List.{List}
+use mathlib.Core.List.{List, [], _∷_}
+
+-- what an answer says: the length that is written, or a refusal's number and detail
+abbrev pub ofWritten : Written → Said
+ofWritten (Length n) = said 0 0 (n ∷ [])
+ofWritten (Refused n d) = said n d []
 
 -- a text for a room of so many bytes: its length, or 11
 unfoldable pub fitted : List ℕ → ℕ → Written

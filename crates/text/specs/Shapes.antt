@@ -1,5 +1,5 @@
--- What a contract owes. Document 01, "What each contract owes": every public function states its result and the final bytes of each buffer for all inputs,
--- refusals too; two answers that satisfy it are proved equal.
+-- What a contract owes, whatever the crate. Document 01, "What each contract owes": every public function states its result and the final bytes of each
+-- buffer for all inputs, refusals too; two answers that satisfy it are proved equal.
 use Prim.Native.Nat.{ℕ}
 use contract.Lifetimes.{Lfts}
 use denote.Triple.Clauses.{Ended, AtExit}
