@@ -10,12 +10,28 @@ use borrow.Author.Needs.{needs}
 use mathlib.Core.Path.{_≡_}
 use native.Mathlib.Omega.{arith}
 
+-- where the message was judged
+abbrev judged-of : tie.After-of-values → tie.After-judged
+judged-of v =
+    let e = v .before .before .before .before in
+    let a = e .before .before .before .before in
+    a .before .before
+
 -- what is told is what is told of the record
-told : (c : tie.After-of-values) → c .of-values .result ≡ briefOf (body _ _ _ _ (c .before .before .before .before .before .before .before .before .before .before .judged .result) (c .before .before .before .before .before .before .before .before .before .before .judged .ensures))
-told c = told-as _ _ _ _ (c .before .before .before .before .before .before .before .before .before .before .judged .result) (c .before .before .before .before .before .before .before .before .before .before .judged .ensures) _ _ _ _ (c .before .before .text-at .ensures) (c .before .keep-unit .ensures) (c .before .before .before .before .before .end-field .ensures) (c .of-values .ensures)
+told : (v : tie.After-of-values) → v .of-values .result ≡ briefOf (body _ _ _ _ (judged-of v .judged .result) (judged-of v .judged .ensures))
+told v = search told-as
+
+accepted : (v : tie.After-of-values) → judged-of v .judged .result .number ≡ 0
+accepted v =
+    let e = v .before .before .before .before in
+    let f = e .before .before .before .before in
+    f .before .if1 .left
 
 fits : (c : tie.After-put-lines) → c .put-lines .result ≤ 89
-fits c = short _ _ _ _ (c .before .before .before .before .before .before .before .before .before .before .before .before .judged .result) (c .before .before .before .before .before .before .before .before .before .before .before .before .judged .ensures) _ (told (c .before .before)) _ (c .put-lines .ensures .0)
+fits c =
+    let v = c .before .before in
+    let j = judged-of v .judged in
+    short _ _ _ _ (j .result) (j .ensures) _ (told v) _ (c .put-lines .ensures .0)
 
 judged-requires : tie.Need-judged-requires
 judged-requires c κs = search needs
@@ -57,7 +73,11 @@ element-copy-out-last : tie.Need-element-copy-out-last
 element-copy-out-last c = let q = end-within (c .before .before .before .before .before .judged .result .layout) _ (c .end-field .ensures) in omega (arith, q .0, q .1)
 
 text-at-requires : tie.Need-text-at-requires
-text-at-requires c κs = (unit-in (c .before .before .before .before .before .before .before .judged .result .layout), c .before .before .before .before .before .before .before .judged .ensures .placed (c .before .before .before .before .before .before .if1 .left))
+text-at-requires c κs =
+    let e = c .before .before in
+    let a = e .before .before .before .before in
+    let j = a .before .judged in
+    (unit-in (j .result .layout), j .ensures .placed (a .if1 .left))
 
 keep-unit-requires : tie.Need-keep-unit-requires
 keep-unit-requires c κs = search needs
@@ -81,7 +101,11 @@ add-result-2 : tie.Need-add-result-2
 add-result-2 c = let q = fits (c .before .before) in omega (arith, q)
 
 returns-2 : tie.Need-returns-2
-returns-2 c = no-room-told _ _ _ _ (c .before .before .before .before .before .before .before .before .before .before .before .before .before .before .judged .result) (c .before .before .before .before .before .before .before .before .before .before .before .before .before .before .judged .ensures) _ (told (c .before .before .before .before)) _ (c .before .before .put-lines .ensures .0) (c .before .before .before .before .before .before .before .before .before .before .before .before .before .if1 .left) _ (c .if2 .taken)
+returns-2 c =
+    let p = c .before .before in
+    let v = p .before .before in
+    let j = judged-of v .judged in
+    no-room-told _ _ _ _ (j .result) (j .ensures) _ (told v) _ (p .put-lines .ensures .0) (accepted v) _ (c .if2 .taken)
 
 slice-aggregate-front : tie.Need-slice-aggregate-front
 slice-aggregate-front c = search needs
@@ -96,7 +120,14 @@ same-length : tie.Need-same-length
 same-length c = search needs
 
 returns-3 : tie.Need-returns-3
-returns-3 c = written-told _ _ _ _ (c .before .before .before .before .before .before .before .before .before .before .before .before .before .before .before .before .before .before .before .before .judged .result) (c .before .before .before .before .before .before .before .before .before .before .before .before .before .before .before .before .before .before .before .before .judged .ensures) _ (told (c .before .before .before .before .before .before .before .before .before .before)) _ (c .before .before .before .before .before .before .before .before .put-lines .ensures .0) (c .before .before .before .before .before .before .before .before .before .before .before .before .before .before .before .before .before .before .before .if1 .left) _ _ _ _ (c .before .before .before .before .before .before .if2 .left) (c .before .before .before .before .before .before .before .before .put-lines .ensures .1) (c .before .before .before .front .ensures) (c .before .before .put-text .ensures .1)
+returns-3 c =
+    let w = c .before .before .before in
+    let i = w .before .before .before in
+    let p = i .before .before in
+    let v = p .before .before in
+    let j = judged-of v .judged in
+    written-told _ _ _ _ (j .result) (j .ensures) _ (told v) _ (p .put-lines .ensures .0) (accepted v)
+    _ _ _ _ (i .if2 .left) (p .put-lines .ensures .1) (w .front .ensures) (c .before .before .put-text .ensures .1)
 
 pub halimpung-read-spec : {M : Type 1} → statement M
 halimpung-read-spec =
