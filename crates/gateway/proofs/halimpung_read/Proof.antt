@@ -1,5 +1,5 @@
 -- Each end of the entry cites its law; every detail and every length fits.
-use Prim.Native.Nat.{_≤_}
+use Prim.Native.Nat.{_≤_, _<_}
 use Rattle.report_brief.proofs.Fields.{end-within}
 use Rattle.report_brief.specs.Brief.{briefOf}
 use Rattle.gateway.proofs.Told.{small-refusal, refused-told, body, told-as, short, no-room-told, written-told}
@@ -33,6 +33,14 @@ fits c =
     let j = judged-of v .judged in
     short _ _ _ _ (j .result) (j .ensures) _ (told v) _ (c .put-lines .ensures .0)
 
+small : (c : tie.Then1) → (c .before .judged .result .detail < 65536) × (c .before .judged .result .number ≤ 13)
+small c = small-refusal _ _ _ _ (c .before .judged .result) (c .before .judged .ensures) (c .if1 .taken)
+
+end-in : (c : tie.After-end-field) → (1 ≤ c .end-field .result) × (c .end-field .result ≤ 26)
+end-in c =
+    let a = c .before .before .before .before in
+    end-within (a .before .judged .result .layout) _ (c .end-field .ensures)
+
 judged-requires : tie.Need-judged-requires
 judged-requires c κs = search needs
 
@@ -43,10 +51,10 @@ mul-result : tie.Need-mul-result
 mul-result c = search needs
 
 cast-result-2 : tie.Need-cast-result-2
-cast-result-2 c = let q = small-refusal _ _ _ _ (c .before .judged .result) (c .before .judged .ensures) (c .if1 .taken) in record { fits = omega (arith, q .0) }
+cast-result-2 c = record { fits = omega (arith, small c .0) }
 
 add-result : tie.Need-add-result
-add-result c = let q = small-refusal _ _ _ _ (c .before .judged .result) (c .before .judged .ensures) (c .if1 .taken) in omega (arith, q .0, q .1)
+add-result c = omega (arith, small c .0, small c .1)
 
 returns : tie.Need-returns
 returns c = refused-told _ _ _ _ (c .before .judged .result) (c .before .judged .ensures) (c .if1 .taken) _
@@ -64,13 +72,13 @@ end-field-requires : tie.Need-end-field-requires
 end-field-requires c κs = search needs
 
 sub-last : tie.Need-sub-last
-sub-last c = let q = end-within (c .before .before .before .before .before .judged .result .layout) _ (c .end-field .ensures) in q .0
+sub-last c = end-in c .0
 
 mul-last : tie.Need-mul-last
-mul-last c = let q = end-within (c .before .before .before .before .before .judged .result .layout) _ (c .end-field .ensures) in search needs
+mul-last c = let q = end-in c in search needs
 
 element-copy-out-last : tie.Need-element-copy-out-last
-element-copy-out-last c = let q = end-within (c .before .before .before .before .before .judged .result .layout) _ (c .end-field .ensures) in omega (arith, q .0, q .1)
+element-copy-out-last c = omega (arith, end-in c .0, end-in c .1)
 
 text-at-requires : tie.Need-text-at-requires
 text-at-requires c κs =
