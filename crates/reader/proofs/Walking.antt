@@ -25,7 +25,7 @@ use borrow.Author.Tests.{lt-ltb, le-ltb, le-leb, lt-leb, eq-eqb, ne-eqb}
 use lib.Count.{ones}
 use lib.Dec.{eqb, ltb}
 use lib.ListN.{length}
-use mathlib.Core.Bool.{true, false, not, _&&_}
+use mathlib.Core.Bool.{Bool, true, false, not, _&&_}
 use mathlib.Core.List.{List}
 use mathlib.Core.Path.{_≡_, sym, ap, _∙_, subst}
 use native.Mathlib.Omega.{arith}
@@ -117,7 +117,10 @@ module _ (t : MessageType) (file : List ℕ) where
           seconds = second-by t file r w clean
 
           -- the other layout of CB
-          module _ (is : isMfrr t (r .second .seen) ≡ true) where
+          module _ (b : Bool) (told : b ≡ isMfrr t (r .second .seen)) (yes : b ≡ true) where
+            is : isMfrr t (r .second .seen) ≡ true
+            is = sym told ∙ yes
+
             mfrr-fields : Fields file (labelsOf Mfrr) (r .second) (r .others) (entries (labelsOf Mfrr) (given file))
             mfrr-fields =
                 subst (λ (u : MessageType). Fields file (secondLabels u) (r .second) (r .others) (entries (secondLabels u) (given file)))
@@ -139,7 +142,7 @@ module _ (t : MessageType) (file : List ℕ) where
             pub first-few : ones (r .first .seen) ≤ sizeOf l
             first-few = seen-few l file (r .first) (r .places) _ first-fields
 
-            pub first-walks : isMfrr t (r .second .seen) ≡ false → Walks t file (placedAs l (r .frame .row) (r .first) (r .places))
-            first-walks e =
-                laid l (not-mfrr file (r .second) (r .others) t seconds e ∙ sym is-first) _
+            pub first-walks : (b : Bool) → b ≡ isMfrr t (r .second .seen) → b ≡ false → Walks t file (placedAs l (r .frame .row) (r .first) (r .places))
+            first-walks b told not-so =
+                laid l (not-mfrr file (r .second) (r .others) t seconds (sym told ∙ not-so) ∙ sym is-first) _
                 (placed-onward l file (r .first) (r .places) _ first-fields (r .frame .row) (row-holds .ordered) (row-holds .inside))

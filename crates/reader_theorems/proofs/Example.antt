@@ -135,5 +135,10 @@ cases =
 
 -- every input of the table is answered as it says
 pub right : map (λ (c : Case). readOf (c .ca) (c .ioa) (c .plan) (c .file)) cases ≡ map (λ (c : Case). c .answer) cases
-unfolding fitsByte shaped dateFields leap daysIn isReal dateOf daysOf passed clockOf instantOf rc fieldsOf labelsOf kindsOf rowFields piecesOf tailText rowText rowOf placeOf entryOf entries stands again missing valueAt column allowed allowedUpto lines textOf texts isSep seps mark marked ifInside ifOutside inside outside framed paramOf params exactly identifierOf isUnit sequenceOf lineOf wholeUpto numberAt unitAt typeFrom typeAt rowAt planFrom planOf lookUp soughtOf given rowIn layoutIn entriesIn valuesOf columnRecord valued labelled reading recordIn planned answerAt readOf answer joined typed cellsOf fieldOf recordOf keptIn inOrder rulesOf lowest brokenIn same starts upto past any all skip skipEnd trim numberFrom digitsOf count sift roomOf shapeOf valueOf cases
+unfolding fitsByte shaped dateFields leap daysIn isReal dateOf daysOf passed clockOf instantOf rc fieldsOf labelsOf kindsOf rowFields piecesOf
+    tailText rowText rowOf placeOf entryOf entries stands again missing valueAt column allowed allowedUpto lines textOf texts isSep seps mark marked
+    ifInside ifOutside inside outside framed paramOf params exactly identifierOf isUnit sequenceOf lineOf wholeUpto numberAt unitAt typeFrom typeAt
+    rowAt planFrom planOf lookUp soughtOf given rowIn layoutIn entriesIn valuesOf columnRecord valued labelled reading recordIn planned answerAt
+    readOf answer joined typed cellsOf fieldOf recordOf keptIn inOrder rulesOf lowest brokenIn same starts upto past any all skip skipEnd trim
+    numberFrom digitsOf count sift roomOf shapeOf valueOf cases
 right = refl

@@ -21,7 +21,7 @@ fits-layout-requires : tie.Need-fits-layout-requires
 fits-layout-requires c κs = search needs
 
 returns-2 : tie.Need-returns-2
-returns-2 c = come-is (c .before .before .before .before .before .before .before .before .before .before .args .o) (search needs) (search needs) _ _ _ _ (c .before .before .before .before .before .before .is-instant .ensures) (c .before .before .before .before .before .is-instant2 .ensures) (c .before .before .before .is-amount .ensures) (c .fits-layout .ensures)
+returns-2 c = search (come-is, needs)
 
 pub could-come-spec : {M : Type 1} → statement M
 could-come-spec =

@@ -27,7 +27,7 @@ second-variation-requires : tie.Need-second-variation-requires
 second-variation-requires c κs = search needs
 
 returns : tie.Need-returns
-returns c = order-is (c .before .before .before .before .before .before .args .r) _ (c .before .before .before .before .before .of-record .ensures) _ _ _ _ (record { sfits = c .before .first-variation .ok }) (record { sfits = c .second-variation .ok }) (c .before .before .before .instant-in .ensures) (c .before .before .instant-in2 .ensures) (c .before .first-variation .ensures) (c .second-variation .ensures)
+returns c = search (order-is, needs)
 
 pub of-record-spec : {M : Type 1} → statement M
 of-record-spec =

@@ -26,12 +26,22 @@ rest-requires c κs = search needs
 first-requires : tie.Need-first-requires Inv-loop μ-loop
 first-requires c κs = search needs
 
+-- the turn of the loop
+abbrev turn : tie.After-first Inv-loop μ-loop → tie.At-loop Inv-loop μ-loop
+turn c =
+    let f = c .before .before in
+    f .before .before .before
+
 -- a line lies in the bytes that are read
-line : (c : tie.After-first Inv-loop μ-loop) → c .before .before .before .before .before .loop .at + c .first .result ≤ c .before .before .before .before .before .before .before .args .to
-line c = within (c .before .before .before .before .before .loop .at) (c .before .before .before .before .before .before .before .args .to) (c .first .result) 10 (c .before .rest .result .now) (c .before .before .front .result .now) (c .before .before .before .before .before .loop .buf) (c .before .rest .ensures) (c .before .before .front .ensures) (c .first .ensures) (omega arith)
+line : (c : tie.After-first Inv-loop μ-loop) → turn c .loop .at + c .first .result ≤ turn c .before .before .args .to
+line c =
+    let t = turn c in
+    let f = c .before .before in
+    within (t .loop .at) (t .before .before .args .to) (c .first .result) 10 (c .before .rest .result .now) (f .front .result .now) (t .loop .buf)
+    (c .before .rest .ensures) (f .front .ensures) (c .first .ensures) (omega arith)
 
 add-if1 : tie.Need-add-if1 Inv-loop μ-loop
-add-if1 c = omega (arith, line (c))
+add-if1 c = omega (arith, line c)
 
 same-length : tie.Need-same-length Inv-loop μ-loop
 same-length c = search needs
@@ -46,13 +56,19 @@ run-part-requires : tie.Need-run-part-requires Inv-loop μ-loop
 run-part-requires c κs = search needs
 
 add-at : tie.Need-add-at Inv-loop μ-loop
-add-at c = omega (arith, line (c .before .before .before .before .before))
+add-at c =
+    let r = c .before .before .before in
+    omega (arith, line (r .before .before))
 
 add-at-2 : tie.Need-add-at-2 Inv-loop μ-loop
-add-at-2 c = omega (arith, line (c .before .before .before .before .before))
+add-at-2 c =
+    let r = c .before .before .before in
+    omega (arith, line (r .before .before))
 
 loop-less : tie.Need-loop-less Inv-loop μ-loop
-loop-less c = omega (arith, line (c .before .before .before .before .before))
+loop-less c =
+    let r = c .before .before .before in
+    omega (arith, line (r .before .before))
 
 loop-again : tie.Need-loop-again Inv-loop μ-loop
 loop-again c = search needs

@@ -45,8 +45,21 @@ lowest-of-requires c κs = search needs
 returns : tie.Need-returns
 unfolding isValid brokenIn
 returns c =
-    let s = c .before .before .before .before .before .before .before .before .before .before .before .before .before .before .before .before .before in
-    rw (sized (s .args .r) _ (s .good .0), c .lowest-of .ensures, c .before .has-no-triples .ensures, c .before .before .are-clear .ensures, c .before .before .before .before .before .before .are-blank .ensures, c .before .before .before .before .before .before .before .size .ensures, c .before .before .before .before .before .before .before .before .all-hold .ensures)
+    let clear = c .before .before in
+    let blank = clear .before .before .before .before in
+    let hold = blank .before .before in
+    let r = hold .before .before .before .before in
+    let t = r .before .before .before in
+    let s = t .before .before in
+    rw (
+      sized (s .args .r) _ (s .good .0),
+      c .lowest-of .ensures,
+      c .before .has-no-triples .ensures,
+      clear .are-clear .ensures,
+      blank .are-blank .ensures,
+      blank .before .size .ensures,
+      hold .all-hold .ensures,
+    )
 
 pub is-valid-spec : {M : Type 1} → statement M
 is-valid-spec =

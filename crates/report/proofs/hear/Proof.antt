@@ -29,20 +29,7 @@ read-requires : tie.Need-read-requires
 read-requires c κs = search needs
 
 returns : tie.Need-returns
-returns c =
-    let s = c .before .before .before .before .before .before .before .before .before in
-    no-ca
-    (s .args .plan .now)
-    (s .args .input .now)
-    (c .before .before .before .before .before .before .below .result .now)
-    (c .before .before .before .before .before .below2 .result .now)
-    _
-    _
-    (c .before .before .before .before .before .before .below .ensures)
-    (c .before .before .before .before .before .below2 .ensures)
-    (c .before .before .before .number .ensures)
-    (c .before .enum-told .given .1)
-    (c .read .ensures)
+returns c = search no-ca
 
 slice-aggregate-number-2 : tie.Need-slice-aggregate-number-2
 slice-aggregate-number-2 c = search needs
@@ -60,58 +47,30 @@ read-requires-2 : tie.Need-read-requires-2
 read-requires-2 c κs = search needs
 
 returns-2 : tie.Need-returns-2
-returns-2 c =
-    let s = c .before .before .before .before .before .before .before .before .before .before .before .before .before .before in
-    no-ioa
-    (s .args .plan .now)
-    (s .args .input .now)
-    (c .before .before .before .before .before .before .before .before .before .before .before .below .result .now)
-    (c .before .before .before .before .before .before .before .before .before .before .below2 .result .now)
-    _
-    _
-    (c .before .before .before .before .before .before .before .before .before .before .before .below .ensures)
-    (c .before .before .before .before .before .before .before .before .before .before .below2 .ensures)
-    (c .before .before .before .before .before .before .before .before .number .ensures)
-    _
-    (c .before .before .before .before .before .before .ca .given .1)
-    _
-    (c .before .before .before .number2 .ensures)
-    (c .before .enum-told2 .given .1)
-    (c .read2 .ensures)
+returns-2 c = search no-ioa
 
 cast-read : tie.Need-cast-read
 cast-read c =
-    let h = number-within (bytes "ca=") 65534 (c .before .before .before .before .before .before .before .before .before .before .before .before .before .before .args .input .now) _ (sym (c .before .before .before .before .before .before .ca .given .1) ∙ c .before .before .before .before .before .before .before .before .number .ensures) in
+    let ca = c .before .before .before .before in
+    let o = ca .before .before in
+    let n = o .before .before in
+    let r = n .before .before .before in
+    let h = number-within (bytes "ca=") 65534 (r .before .before .before .args .input .now) _ (sym (o .ca .given .1) ∙ n .number .ensures) in
     search needs
 
 cast-read-2 : tie.Need-cast-read-2
 cast-read-2 c =
-    let h = number-within (bytes "ioa=") 16777215 (c .before .before .before .before .before .before .before .before .before .before .before .below .result .now) _ (sym (c .before .ioa .given .1) ∙ c .before .before .before .number2 .ensures) in
+    let n = c .before .before .before in
+    let o = n .before .before .before .before in
+    let b = o .before .before .before .before in
+    let h = number-within (bytes "ioa=") 16777215 (b .below .result .now) _ (sym (c .before .ioa .given .1) ∙ n .number2 .ensures) in
     search needs
 
 read-requires-3 : tie.Need-read-requires-3
 read-requires-3 c κs = search needs
 
 returns-3 : tie.Need-returns-3
-returns-3 c =
-    let s = c .before .before .before .before .before .before .before .before .before .before .before .before .before .before .before in
-    both-read
-    (s .args .plan .now)
-    (s .args .input .now)
-    (c .before .before .before .before .before .before .before .before .before .before .before .before .below .result .now)
-    (c .before .before .before .before .before .before .before .before .before .before .before .below2 .result .now)
-    _
-    _
-    (c .before .before .before .before .before .before .before .before .before .before .before .before .below .ensures)
-    (c .before .before .before .before .before .before .before .before .before .before .before .below2 .ensures)
-    (c .before .before .before .before .before .before .before .before .before .number .ensures)
-    _
-    (c .before .before .before .before .before .before .before .ca .given .1)
-    _
-    (c .before .before .before .before .number2 .ensures)
-    _
-    (c .before .before .ioa .given .1)
-    (c .read3 .ensures)
+returns-3 c = search both-read
 
 pub hear-spec : {M : Type 1} → statement M
 hear-spec =

@@ -17,13 +17,13 @@ end-field-requires : tie.Need-end-field-requires
 end-field-requires c κs = search needs
 
 field-requires-4 : tie.Need-field-requires-4
-field-requires-4 c κs = end-within (c .before .before .before .before .before .before .args .r .layout) _ (c .end-field .ensures)
+field-requires-4 c κs = search end-within
 
 of-values-requires : tie.Need-of-values-requires
 of-values-requires c κs = search needs
 
 returns : tie.Need-returns
-returns c = brief-is (c .before .before .before .before .before .before .before .before .args .r) _ _ _ _ _ _ (c .before .before .before .before .before .field .ensures) (c .before .before .before .before .field2 .ensures) (c .before .before .before .field3 .ensures) (c .before .before .end-field .ensures) (c .before .field4 .ensures) (c .of-values .ensures)
+returns c = search brief-is
 
 pub of-record-spec : {M : Type 1} → statement M
 of-record-spec =

@@ -18,8 +18,13 @@ same-length c = search needs
 
 returns : tie.Need-returns
 returns c =
-    let s = c .before .before .before .before .before .before .before .before .before .before .before .before .before .before .before in
-    line-put (s .args .key .now) (s .args .v .now) (s .args .out .now) _ _ (c .before .before .before .before .before .before .before .before .before .before .put-text .last .0) _ (c .before .before .before .before .before .before .put-text2 .last .0) _ _ (c .before .before .before .before .before .before .before .before .before .before .put-text .ensures) (c .before .before .before .before .before .before .put-text2 .ensures) (c .before .before .put-byte .ensures)
+    let e = c .before .before in
+    let v = e .before .before .before .before in
+    let k = v .before .before .before .before in
+    let r = k .before .before .before in
+    let s = r .before .before in
+    line-put (s .args .key .now) (s .args .v .now) (s .args .out .now) _ _ (k .put-text .last .0) _ (v .put-text2 .last .0) _ _
+    (k .put-text .ensures) (v .put-text2 .ensures) (e .put-byte .ensures)
 
 pub put-line-spec : {M : Type 1} → statement M
 put-line-spec =

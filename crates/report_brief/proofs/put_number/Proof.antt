@@ -14,7 +14,9 @@ put-whole-requires c κs = search needs
 
 put-byte-requires : tie.Need-put-byte-requires
 put-byte-requires c κs =
-    let h = whole-length 9 (c .before .before .before .before .before .before .before .before .before .before .before .args .n) in
+    let v = c .before .before .before in
+    let k = v .before .before .before .before in
+    let h = whole-length 9 (k .before .before .before .before .args .n) in
     search needs
 
 same-length : tie.Need-same-length
@@ -22,8 +24,12 @@ same-length c = search needs
 
 returns : tie.Need-returns
 returns c =
-    let s = c .before .before .before .before .before .before .before .before .before .before .before .before .before .before in
-    line-put (s .args .key .now) (wholeText 9 (s .args .n)) (s .args .out .now) _ _ (c .before .before .before .before .before .before .before .before .before .before .put-text .last .0) _ (c .before .before .before .before .before .before .put-whole .last .0) _ _ (c .before .before .before .before .before .before .before .before .before .before .put-text .ensures) (c .before .before .before .before .before .before .put-whole .ensures) (c .before .before .put-byte .ensures)
+    let e = c .before .before in
+    let v = e .before .before .before .before in
+    let k = v .before .before .before .before in
+    let s = k .before .before .before .before in
+    line-put (s .args .key .now) (wholeText 9 (s .args .n)) (s .args .out .now) _ _ (k .put-text .last .0) _ (v .put-whole .last .0) _ _
+    (k .put-text .ensures) (v .put-whole .ensures) (e .put-byte .ensures)
 
 pub put-number-spec : {M : Type 1} → statement M
 put-number-spec =

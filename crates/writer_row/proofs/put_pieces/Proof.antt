@@ -27,22 +27,36 @@ rooms-of s = rooms (s .args .unit .now) (s .args .reason .now) (s .args .note .n
 sixteen : (s : tie.Start Inv-loop μ-loop) → length (s .args .gradients) ≡ 16
 sixteen s = search needs
 
--- the place of the next value is low
-low : (c : tie.In-loop Inv-loop μ-loop) → c .before .loop .p ≤ c .before .before .before .before .before .before .before .before .before .before .before .before .before .args .at + 18200
-low c =
-    let s = c .before .before .before .before .before .before .before .before .before .before .before .before .before in
-    let kind = c .before .before .before .before .before .before .before .before .type-of in
-    let head = c .before .before .before .before .put-value in
-    place-low (s .args .l) (rooms-of s) (s .args .t4) (s .args .out .now) _ (kind .result) (kind .ensures) _ (sym (field-at (s .args .t4) 1 (lit≤ tt))) _ (head .last .0) (head .ensures) _ _ _ (c .before .loop .inv) (s .pre .1) (sixteen s)
+-- where the function begins, from a turn of the loop
+abbrev start-of : tie.In-loop Inv-loop μ-loop → tie.Start Inv-loop μ-loop
+start-of c =
+    let v = c .before .before .before .before in
+    let k = v .before .before .before .before in
+    let n = k .before .before .before .before in
+    n .before
 
-inside : (c : tie.In-loop Inv-loop μ-loop) → c .before .loop .i < length (rowFields (c .before .before .before .before .before .before .before .before .before .before .before .before .before .args .l))
-inside c = omega (arith, c .before .before .before .before .before .before .before .size .ensures, c .loop-test .taken)
+-- the place of the next value is low
+low : (c : tie.In-loop Inv-loop μ-loop) → c .before .loop .p ≤ start-of c .args .at + 18200
+low c =
+    let s = start-of c in
+    let v = c .before .before .before .before in
+    let head = v .put-value in
+    let kind = v .before .before .before .before .type-of in
+    place-low (s .args .l) (rooms-of s) (s .args .t4) (s .args .out .now) _ (kind .result) (kind .ensures) _ (sym (field-at (s .args .t4) 1 (lit≤ tt)))
+    _ (head .last .0) (head .ensures) _ _ _ (c .before .loop .inv) (s .pre .1) (sixteen s)
+
+inside : (c : tie.In-loop Inv-loop μ-loop) → c .before .loop .i < length (rowFields (start-of c .args .l))
+inside c =
+    let v = c .before .before .before .before in
+    omega (arith, v .before .before .before .size .ensures, c .loop-test .taken)
 
 -- the number of the next field
 number-is : (c : tie.After-field Inv-loop μ-loop) → (1 ≤ c .field .result) × (c .field .result ≤ 26)
 number-is c =
-    let l = c .before .before .before .before .before .before .before .before .before .before .before .before .before .before .before .before .before .before .args .l in
-    let w = row-fields l _ (inside (c .before .before .before .before .before)) in
+    let b = c .before .before .before in
+    let t = b .before .before in
+    let l = start-of t .args .l in
+    let w = row-fields l _ (inside t) in
     (omega (arith, w .0, c .field .ensures), omega (arith, w .1, few l, c .field .ensures))
 
 type-of-requires : tie.Need-type-of-requires Inv-loop μ-loop
@@ -55,13 +69,16 @@ array-copy-out-c : tie.Need-array-copy-out-c Inv-loop μ-loop
 array-copy-out-c c = search needs
 
 put-value-requires : tie.Need-put-value-requires Inv-loop μ-loop
-put-value-requires c κs = let s = c .before .before .before .before .before .before .before .before in (omega (arith, s .pre .0), s .pre .1 .narrow)
+put-value-requires c κs =
+    let k = c .before .before .before .before in
+    let s = k .before .before .before .before in
+    (omega (arith, s .pre .0), s .pre .1 .narrow)
 
 loop-holds : tie.Need-loop-holds Inv-loop μ-loop
 loop-holds c = start _ _ _ _ _
 
 put-byte-requires : tie.Need-put-byte-requires Inv-loop μ-loop
-put-byte-requires c κs = omega (arith, c .before .before .before .before .before .before .before .before .before .before .before .before .before .before .pre .0, low (c .before))
+put-byte-requires c κs = omega (arith, start-of (c .before) .pre .0, low (c .before))
 
 field-requires : tie.Need-field-requires Inv-loop μ-loop
 field-requires c κs = inside (c .before .before .before .before)
@@ -76,7 +93,12 @@ array-copy-out-c-2 : tie.Need-array-copy-out-c-2 Inv-loop μ-loop
 array-copy-out-c-2 c = omega (arith, number-is c .0, number-is c .1)
 
 put-value-requires-2 : tie.Need-put-value-requires-2 Inv-loop μ-loop
-put-value-requires-2 c κs = let s = c .before .before .before .before .before .before .before .before .before .before .before .before .before .before .before .before .before .before .before .before in (omega (arith, s .pre .0, low (c .before .before .before .before .before .before .before), c .before .before .before .before .before .put-byte .ensures .0), s .pre .1 .narrow)
+put-value-requires-2 c κs =
+    let f = c .before .before in
+    let b = f .before .before .before in
+    let t = b .before .before in
+    let s = start-of t in
+    (omega (arith, s .pre .0, low t, b .put-byte .ensures .0), s .pre .1 .narrow)
 
 add-i : tie.Need-add-i Inv-loop μ-loop
 add-i c = search needs
@@ -86,21 +108,32 @@ loop-less c = search needs
 
 loop-again : tie.Need-loop-again Inv-loop μ-loop
 loop-again c =
-    let s = c .before .before .before .before .before .before .before .before .before .before .before .before .before .before .before .before .before .before .before .before .before .before .before in
-    let byte = c .before .before .before .before .before .before .before .before .put-byte in
-    let number = c .before .before .before .before .before .field in
-    let value = sym (field-at (s .args .t4) (number .result) (number-is (c .before .before .before .before .before) .0)) in
-    turn (s .args .l) _ (s .args .t4) _ _ _ _ _ (c .before .before .before .before .before .before .before .before .before .before .before .loop .inv) (inside (c .before .before .before .before .before .before .before .before .before .before)) _ (c .before .before .before .before .before .before .before .before .before .before .before .before .before .before .before .before .before .before .type-of .ensures) (number .result) (number .ensures) _ value _ (byte .last .0) _ _ (byte .ensures) (c .before .before .put-value2 .ensures)
+    let p = c .before .before in
+    let f = p .before .before .before in
+    let b = f .before .before .before in
+    let t = b .before .before in
+    let s = start-of t in
+    let v = t .before .before .before .before in
+    let byte = b .put-byte in
+    let number = f .field in
+    let value = sym (field-at (s .args .t4) (number .result) (number-is f .0)) in
+    turn (s .args .l) _ (s .args .t4) _ _ _ _ _ (t .before .loop .inv) (inside t) _ (v .before .before .before .before .type-of .ensures)
+    (number .result) (number .ensures) _ value _ (byte .last .0) _ _ (byte .ensures) (p .put-value2 .ensures)
 
 same-length : tie.Need-same-length Inv-loop μ-loop
 same-length c = let k = same-room _ _ _ _ _ _ _ _ (c .before .loop .inv) in search needs
 
 returns : tie.Need-returns Inv-loop μ-loop
 returns c =
-    let s = c .before .before .before .before .before .before .before .before .before .before .before .before .before in
-    let kind = c .before .before .before .before .before .before .before .before .type-of in
-    let head = c .before .before .before .before .put-value in
-    finish (s .args .l) (rooms-of s) (s .args .t4) (s .args .out .now) _ (kind .result) (kind .ensures) _ (sym (field-at (s .args .t4) 1 (lit≤ tt))) _ (head .last .0) (head .ensures) _ _ _ (c .before .loop .inv) (omega (arith, c .before .before .before .before .before .before .before .size .ensures, c .loop-test .left))
+    let v = c .before .before .before .before in
+    let z = v .before .before .before in
+    let k = z .before in
+    let n = k .before .before .before .before in
+    let s = n .before in
+    let head = v .put-value in
+    finish (s .args .l) (rooms-of s) (s .args .t4) (s .args .out .now) _ (k .type-of .result) (k .type-of .ensures)
+    _ (sym (field-at (s .args .t4) 1 (lit≤ tt))) _ (head .last .0) (head .ensures) _ _ _ (c .before .loop .inv)
+    (omega (arith, z .size .ensures, c .loop-test .left))
 
 pub put-pieces-spec : {M : Type 1} → statement M
 put-pieces-spec =

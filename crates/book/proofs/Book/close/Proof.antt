@@ -2,10 +2,19 @@
 use Rattle.book.proofs.Book.close.Statement.{statement}
 use Rattle.book.proofs.Book.close.Tie as tie
 use Rattle.book.proofs.Calls.{call-malformed, close-early, close-done}
-use Rattle.book.proofs.Holding.{holds}
+use Rattle.book.proofs.Holding.{Holding, holds}
 use Rattle.book.proofs.Sizes.{sized}
 use borrow.Author.Needs.{needs}
 use mathlib.Core.Path.{_∙_}
+
+-- what is known of the book where its orders are counted
+abbrev start : tie.After-known-told → tie.Start
+start k = k .before .before .before .before
+
+holding : (k : tie.After-known-told) → Holding (start k .args .self) (k .before .count .given .0 .0)
+holding k =
+    let s = start k in
+    holds (s .args .self) _ (k .before .before .before .count-held .ensures) _ (sized (s .args .self) _ (s .good .0)) (k .before .count .given .1)
 
 count-held-requires : tie.Need-count-held-requires
 count-held-requires c κs = search needs
@@ -26,16 +35,20 @@ answered-requires-2 : tie.Need-answered-requires-2
 answered-requires-2 c κs = search needs
 
 returns-2 : tie.Need-returns-2
-returns-2 c = c .answered2 .ensures ∙ close-early (c .before .before .before .before .before .before .before .args .self) _ (holds (c .before .before .before .before .before .before .before .args .self) _ (c .before .before .before .before .before .before .count-held .ensures) _ (sized (c .before .before .before .before .before .before .before .args .self) _ (c .before .before .before .before .before .before .before .good .0)) (c .before .before .before .before .count .given .1)) _ (c .before .if1 .taken)
+returns-2 c =
+    let k = c .before .before .before in
+    c .answered2 .ensures ∙ close-early (start k .args .self) _ (holding k) _ (c .before .if1 .taken)
 
 close-requires : tie.Need-close-requires
-close-requires c κs = (holds (c .before .before .before .before .before .before .args .self) _ (c .before .before .before .before .before .count-held .ensures) _ (sized (c .before .before .before .before .before .before .args .self) _ (c .before .before .before .before .before .before .good .0)) (c .before .before .before .count .given .1)) .few
+close-requires c κs = holding (c .before .before) .few
 
 answered-requires-3 : tie.Need-answered-requires-3
 answered-requires-3 c κs = search needs
 
 returns-3 : tie.Need-returns-3
-returns-3 c = c .answered3 .ensures ∙ close-done (c .before .before .before .before .before .before .before .before .args .self) _ (holds (c .before .before .before .before .before .before .before .before .args .self) _ (c .before .before .before .before .before .before .before .count-held .ensures) _ (sized (c .before .before .before .before .before .before .before .before .args .self) _ (c .before .before .before .before .before .before .before .before .good .0)) (c .before .before .before .before .before .count .given .1)) _ (c .before .before .if1 .left) _ (c .before .close .ensures)
+returns-3 c =
+    let k = c .before .before .before .before in
+    c .answered3 .ensures ∙ close-done (start k .args .self) _ (holding k) _ (c .before .before .if1 .left) _ (c .before .close .ensures)
 
 pub close-spec : {M : Type 1} → statement M
 close-spec =

@@ -2,9 +2,18 @@
 use Rattle.book.proofs.Book.in_force.Statement.{statement}
 use Rattle.book.proofs.Book.in_force.Tie as tie
 use Rattle.book.proofs.Calls.{ascends, question-malformed, question-early, question-done}
-use Rattle.book.proofs.Holding.{holds}
+use Rattle.book.proofs.Holding.{Holding, holds}
 use Rattle.book.proofs.Sizes.{sized}
 use borrow.Author.Needs.{needs}
+
+-- what is known of the book where its orders are counted
+abbrev start : tie.After-known-told → tie.Start
+start k = k .before .before .before .before
+
+holding : (k : tie.After-known-told) → Holding (start k .args .self) (k .before .count .given .0 .0)
+holding k =
+    let s = start k in
+    holds (s .args .self) _ (k .before .before .before .count-held .ensures) _ (sized (s .args .self) _ (s .good .0)) (k .before .count .given .1)
 
 count-held-requires : tie.Need-count-held-requires
 count-held-requires c κs = search needs
@@ -19,13 +28,19 @@ returns : tie.Need-returns
 returns c = question-malformed _ _ _ (c .before .before .count-held .ensures) (c .before .match .keys2)
 
 returns-2 : tie.Need-returns-2
-returns-2 c = question-early (c .before .before .before .before .before .before .args .self) _ (holds (c .before .before .before .before .before .before .args .self) _ (c .before .before .before .before .before .count-held .ensures) _ (sized (c .before .before .before .before .before .before .args .self) _ (c .before .before .before .before .before .before .good .0)) (c .before .before .before .count .given .1)) _ (c .if1 .taken)
+returns-2 c =
+    let k = c .before .before in
+    question-early (start k .args .self) _ (holding k) _ (c .if1 .taken)
 
 last-live-requires : tie.Need-last-live-requires
-last-live-requires c κs = let h = (holds (c .before .before .before .before .before .before .args .self) _ (c .before .before .before .before .before .count-held .ensures) _ (sized (c .before .before .before .before .before .before .args .self) _ (c .before .before .before .before .before .before .good .0)) (c .before .before .before .count .given .1)) in (h .few, ascends (c .before .before .before .before .before .before .args .self) _ h)
+last-live-requires c κs =
+    let k = c .before .before in
+    (holding k .few, ascends (start k .args .self) _ (holding k))
 
 returns-3 : tie.Need-returns-3
-returns-3 c = question-done (c .before .before .before .before .before .before .before .args .self) _ (holds (c .before .before .before .before .before .before .before .args .self) _ (c .before .before .before .before .before .before .count-held .ensures) _ (sized (c .before .before .before .before .before .before .before .args .self) _ (c .before .before .before .before .before .before .before .good .0)) (c .before .before .before .before .count .given .1)) _ (c .before .if1 .left) _ (c .last-live .ensures)
+returns-3 c =
+    let k = c .before .before .before in
+    question-done (start k .args .self) _ (holding k) _ (c .before .if1 .left) _ (c .last-live .ensures)
 
 pub in-force-spec : {M : Type 1} → statement M
 in-force-spec =

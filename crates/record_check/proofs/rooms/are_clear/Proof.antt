@@ -19,7 +19,9 @@ reason-field-requires : tie.Need-reason-field-requires
 reason-field-requires c κs = search needs
 
 value-at-requires : tie.Need-value-at-requires
-value-at-requires c κs = omega (arith, c .reason-field .ensures, few-texts (c .before .before .before .before .before .before .before .args .l) .0)
+value-at-requires c κs =
+    let s = c .before .before .before .before in
+    omega (arith, c .reason-field .ensures, few-texts (s .before .before .before .args .l) .0)
 
 size-in-requires-2 : tie.Need-size-in-requires-2
 size-in-requires-2 c κs = search needs
@@ -31,7 +33,10 @@ note-field-requires : tie.Need-note-field-requires
 note-field-requires c κs = search needs
 
 value-at-requires-2 : tie.Need-value-at-requires-2
-value-at-requires-2 c κs = omega (arith, c .note-field .ensures, few-texts (c .before .before .before .before .before .before .before .before .before .before .before .args .l) .1)
+value-at-requires-2 c κs =
+    let r = c .before .before .before .before in
+    let s = r .before .before .before .before in
+    omega (arith, c .note-field .ensures, few-texts (s .before .before .before .args .l) .1)
 
 size-in-requires-3 : tie.Need-size-in-requires-3
 size-in-requires-3 c κs = search needs
@@ -41,7 +46,7 @@ is-clear-requires-3 c κs = search needs
 
 returns : tie.Need-returns
 unfolding areClear
-returns c = rw (c .is-clear3 .ensures, c .before .size-in3 .ensures, c .before .before .value-at2 .ensures, c .before .before .before .note-field .ensures, c .before .before .before .before .is-clear2 .ensures, c .before .before .before .before .before .size-in2 .ensures, c .before .before .before .before .before .before .value-at .ensures, c .before .before .before .before .before .before .before .reason-field .ensures, c .before .before .before .before .before .before .before .before .is-clear .ensures, c .before .before .before .before .before .before .before .before .before .size-in .ensures, c .before .before .before .before .before .before .before .before .before .before .field .ensures)
+returns c = cc
 
 pub are-clear-spec : {M : Type 1} → statement M
 are-clear-spec =

@@ -27,16 +27,31 @@ lead-requires c κs = search needs
 
 add-from-2 : tie.Need-add-from-2
 add-from-2 c =
-    let start = c .before .before .before .before in
-    omega (arith, from-within (start .args .at) (start .args .text .now) (c .before .rest .result .now) (c .before .before .first .result) (c .before .before .first .ensures) (c .before .rest .ensures) (c .lead .result) (c .lead .ensures), start .pre)
+    let f = c .before .before in
+    let start = f .before .before in
+    let rest = c .before .rest in
+    omega (
+      arith,
+      from-within (start .args .at) (start .args .text .now) (rest .result .now) (f .first .result) (f .first .ensures) (rest .ensures)
+          (c .lead .result) (c .lead .ensures),
+      start .pre,
+    )
 
 trim-requires : tie.Need-trim-requires
 trim-requires c κs = search needs
 
 add-t10 : tie.Need-add-t10
 add-t10 c =
-    let start = c .before .before .before .before .before in
-    omega (arith, to-within (start .args .at) (start .args .text .now) (c .before .before .rest .result .now) (c .before .before .before .first .result) (c .before .before .before .first .ensures) (c .before .before .rest .ensures) (c .before .lead .result) (c .before .lead .ensures) (c .trim .result .now) (c .trim .ensures), start .pre)
+    let rest = c .before .before .rest in
+    let f = c .before .before .before in
+    let start = f .before .before in
+    let lead = c .before .lead in
+    omega (
+      arith,
+      to-within (start .args .at) (start .args .text .now) (rest .result .now) (f .first .result) (f .first .ensures) (rest .ensures)
+          (lead .result) (lead .ensures) (c .trim .result .now) (c .trim .ensures),
+      start .pre,
+    )
 
 returns : tie.Need-returns
 returns c = value-at _ _ _ _ (c .before .before .before .first .ensures) (c .before .before .rest .ensures) _ (c .before .lead .ensures) _ (c .trim .ensures)
