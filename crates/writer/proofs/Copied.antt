@@ -104,17 +104,17 @@ module _ (ca ioa : ℕ) (plan file : List ℕ) (x : Reading) (reads : Reads ca i
   abbrev values : List Value
   values = goodOf (valuesOf (x .layout) column)
 
-  body-is : recordWith (x .layout) column (x .cells) (x .gradients) ≡ recordOf (x .layout) column values
+  content-is : recordWith (x .layout) column (x .cells) (x .gradients) ≡ recordOf (x .layout) column values
   unfolding columnRecord
   content-is = reads .content-is yes
 
   cells-are : x .cells ≡ cellsOf values
   unfolding recordWith recordOf
-  cells-are = ap (λ (r : Record). r .cells) body-is
+  cells-are = ap (λ (r : Record). r .cells) content-is
 
   triples-are : x .gradients ≡ gradientsIn (textAt column (gradientsField (x .layout))) .list .values
   unfolding recordWith recordOf
-  triples-are = ap (λ (r : Record). r .gradients) body-is
+  triples-are = ap (λ (r : Record). r .gradients) content-is
 
   all-read : ReadAll (kindsOf (x .layout)) column values
   unfolding valuesOf

@@ -89,7 +89,7 @@ module _ {r : Record} {vs : List Value} (v : ValidAs r vs) where
 
   pub message-back : (unit : List ℕ) → unit ≡ textAt col 2 → messageOf type unit (fileOf r) ≡ accepted r
   unfolding messageOf
-  message-back unit u = none-given (recordIn type (fileOf r)) (none-holds unit u) ∙ ap accepted body-is
+  message-back unit u = none-given (recordIn type (fileOf r)) (none-holds unit u) ∙ ap accepted content-is
 
 -- ---- at an address of a plan
 
