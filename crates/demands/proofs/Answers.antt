@@ -90,7 +90,7 @@ module _ (text : Record → List ℕ) (small : (r : Record) → Valid r → leng
       (λ e. let no : 65536 ≤ length t = rw e at h in absurd (omega arith))
       (λ e. no-room t out (leb-false (length t) (length out) e))
 
-  pub reader-line-leaves : Leaves text
+  pub entry-leaves : Leaves text
   unfolding entryCode outOf
   entry-leaves ca ioa plan file out h =
       let a = readOf ca ioa plan file in

@@ -50,10 +50,10 @@ demand-2 =
       spaced-alike = λ ca ioa plan f g cf cg lines.
           let s = address ca ioa plan in
           at-same s f g (texts-decide (s .message) (unitIn s) f g lines cf cg);
-      reader-row-agrees = λ ca ioa plan file h. read-accepted ca ioa plan file h .row-is;
+      row-agrees = λ ca ioa plan file h. read-accepted ca ioa plan file h .row-is;
       comes-back = λ r ca ioa plan v own. round-trip r v ca ioa plan own;
       written = λ r out v room. (written-length r out v room, written-bytes r out v room);
-      record-valid-exactly = valid-tells;
+      valid-exactly = valid-tells;
       normal-form = normal-same;
     }
 

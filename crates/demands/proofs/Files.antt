@@ -110,12 +110,12 @@ module _ (r : Record) (out : List ℕ) (v : Valid r) (room : 8192 ≤ length out
   fits : length (fileOf r) ≤ length out
   fits = omega (arith, small-file r v)
 
-  pub writer-form-length : writeOf r (length out) ≡ Length (length (fileOf r))
+  pub written-length : writeOf r (length out) ≡ Length (length (fileOf r))
   unfolding writeOf fitted
-  writer-form-length = rw (valid-tells r .1 v, le-leb (length (fileOf r)) (length out) fits)
+  written-length = rw (valid-tells r .1 v, le-leb (length (fileOf r)) (length out) fits)
 
-  pub writer-form-bytes : take (length (fileOf r)) (leftBy r out) ≡ fileOf r
+  pub written-bytes : take (length (fileOf r)) (leftBy r out) ≡ fileOf r
   unfolding leftBy bufferOf
-  writer-form-bytes =
+  written-bytes =
       let z : 0 + length (fileOf r) ≤ length out = omega (arith, fits) in
       rw (valid-tells r .1 v, le-leb (0 + length (fileOf r)) (length out) z) (take-append-seam (fileOf r) (drop (0 + length (fileOf r)) out))

@@ -53,7 +53,7 @@ pub record Demand2 : Type 0 where
   -- and with other blanks at the ends of its lines and other line ends
   pub spaced-alike : (ca ioa : ℕ) (plan f g : List ℕ) → Clean f → Clean g → texts f ≡ texts g → readOf ca ioa plan f ≡ readOf ca ioa plan g
   -- "Its summary row agrees with its body byte for byte."
-  pub reader-row-agrees : (ca ioa : ℕ) (plan file : List ℕ)
+  pub row-agrees : (ca ioa : ℕ) (plan file : List ℕ)
       → readOf ca ioa plan file .number ≡ 0
       → rowIn file ≡ rowOf (layoutIn (address ca ioa plan .message) (given file)) (bodyColumn (address ca ioa plan .message) file)
   -- "A valid record, written and read at its own address, comes back the same."
@@ -62,7 +62,7 @@ pub record Demand2 : Type 0 where
   pub written : (r : Record) (out : List ℕ) → Valid r
       → 8192 ≤ length out
       → (writeOf r (length out) ≡ Length (length (fileOf r))) × (take (length (fileOf r)) (leftBy r out) ≡ fileOf r)
-  pub record-valid-exactly : (r : Record) → isValid r ≡ true ↔ Valid r
+  pub valid-exactly : (r : Record) → isValid r ≡ true ↔ Valid r
   -- the normaliser: the written form of what was read gives the same answer
   pub normal-form : (ca ioa : ℕ) (plan file : List ℕ)
       → readOf ca ioa plan file .number ≡ 0
