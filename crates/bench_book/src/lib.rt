@@ -4,6 +4,7 @@ use book::InForce;
 use book_order::Order;
 use record::Cell;
 use record::Record;
+use record::at;
 use std::num;
 use text::scan;
 use value::Value;
@@ -48,7 +49,7 @@ fn filled(command: Record, held: u32) -> Book {
     let mut i: u32 = 0;
     while i < held {
         let c = id(2 * i as u64 + 2);
-        r.cells[0] = c;
+        r.cells[at::IDENTIFIER] = c;
         let o = b.command(r);
         b = o.book;
         i += 1;
@@ -107,7 +108,7 @@ fn give(held: Book, order: Record, rounds: u32, is_held: bool) -> u32 {
     let mut i: u32 = 0;
     while i < rounds {
         let c = id(number(i, is_held));
-        r.cells[0] = c;
+        r.cells[at::IDENTIFIER] = c;
         b.floor = i % 1024;
         let o = b.command(r);
         let next = o.book;
@@ -127,7 +128,7 @@ fn revoke(held: Book, revocation: Record, rounds: u32) -> u32 {
         let c = Cell {
             value: Value::Count((i % 96) as u64 * 2 + 2),
         };
-        r.cells[4] = c;
+        r.cells[at::SEQUENCE] = c;
         b.floor = i % 1024;
         let o = b.revoke(r);
         let next = o.book;

@@ -18,10 +18,11 @@ use Rattle.value_ask.specs.Values.{instantIn}
 use Rattle.report_brief.specs.Brief.{unitOf, startOf, endOf}
 use Rattle.book_source.proofs.Comes.{instants-fit}
 use Rattle.book_lists.specs.Keyed.{keep, insert, greatest, Ascending}
+use Rattle.layout.specs.Layouts.{isCommand, isRevocation}
 use Rattle.layout.specs.declared.Layout.{Layout}
 use Rattle.book_ledger.specs.Calls.{Call, command, revoke, close, firstHolding, unfit}
 use Rattle.book_ledger.specs.Ledger.{answer, effect}
-use Rattle.book_order.specs.Messages.{isCommand, isRevocation, orderOf, strikeOf}
+use Rattle.book_order.specs.Messages.{orderOf, strikeOf}
 use Rattle.book_order.specs.Orders.{number, nameOf, named, live, pastEnd, strikeAt, already}
 use Rattle.book_order.specs.declared.Order.{Order}
 use Rattle.record.specs.declared.Record.{Record}

@@ -7,12 +7,12 @@ use Rattle.book.specs.Steps.{leading, withOrders}
 use Rattle.book.specs.declared.Book.{Book}
 use Rattle.book.specs.declared.InForce.the-variants.{Refused}
 use Rattle.book_lists.specs.Keyed.{keep}
-use Rattle.layout.specs.declared.Layout.{Layout}
-use Rattle.layout.specs.declared.Layout.the-variants.{Market, Mfrr, Revocation, Generic, Exclusion, Limitation, Secondary, VoltVar, Rejection, Reserve}
+use Rattle.layout.proofs.Markets.{market-is}
+use Rattle.layout.specs.Layouts.{isMarket}
 use Rattle.book_ledger.specs.Calls.{Call, ask}
 use Rattle.book_ledger.specs.Ledger.{answer, effect, inForce}
 use Rattle.value_name.specs.Names.{isUnit}
-use Rattle.book_order.specs.Orders.{pastEnd, emptyOrder, isZero, isMarket, isEmpty}
+use Rattle.book_order.specs.Orders.{pastEnd, emptyOrder, isZero, isEmpty}
 use Rattle.book_order.specs.declared.Order.{Order}
 use Rattle.text.proofs.Tests.{and-parts}
 use Rattle.text.specs.Bytes.{all, is}
@@ -32,18 +32,6 @@ use native.Mathlib.Omega.{arith}
 zero-is : (z : ℤ) → isZero z ≡ true → z ≡ pos 0
 zero-is (pos n) e = ap pos (eqb-true n 0 e)
 zero-is (negsuc n) e = absurd (false≢true e)
-
-market-is : (l : Layout) → isMarket l ≡ true → l ≡ Market
-market-is Market e = refl
-market-is Mfrr e = absurd (false≢true e)
-market-is Revocation e = absurd (false≢true e)
-market-is Generic e = absurd (false≢true e)
-market-is Exclusion e = absurd (false≢true e)
-market-is Limitation e = absurd (false≢true e)
-market-is Secondary e = absurd (false≢true e)
-market-is VoltVar e = absurd (false≢true e)
-market-is Rejection e = absurd (false≢true e)
-market-is Reserve e = absurd (false≢true e)
 
 pub empty-is : (o : Order) → isEmpty o ≡ true → o ≡ emptyOrder
 unfolding isEmpty

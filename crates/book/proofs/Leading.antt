@@ -1,11 +1,12 @@
 -- The orders in the first places: how many they are, that they rise by number, and what is left after them. Assumes nothing.
 use Prim.Native.Nat.{ℕ, suc, _+_, _≤_, _<_}
+use Rattle.layout.specs.Layouts.{isMarket}
 use Rattle.book.specs.Places.{shelf, fitsAfter, formedFrom, formedUnit, formedBook}
 use Rattle.book.specs.Steps.{leading, tallyOf, orderAt}
 use Rattle.book.specs.declared.Book.{Book}
 use Rattle.book.specs.declared.fitness.Tally.the-variants.{Malformed, Holds}
 use Rattle.book_lists.specs.Keyed.{keep, Above, Ascending}
-use Rattle.book_order.specs.Orders.{number, pastEnd, emptyOrder, isMarket, isEmpty, couldCome}
+use Rattle.book_order.specs.Orders.{number, pastEnd, emptyOrder, isEmpty, couldCome}
 use Rattle.book_order.specs.declared.Order.{Order}
 use Rattle.text.proofs.Tests.{by-test, and-parts}
 use Rattle.text.specs.Bytes.{all}

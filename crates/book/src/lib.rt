@@ -88,8 +88,8 @@ impl Book {
         let Tally::Holds(count) = fitness::count_held(self) else {
             return answered(20, self);
         };
-        let layout = r.layout;
-        let unfit = fitness::unfit(self, r, book_order::is_command(layout));
+        let l = r.layout;
+        let unfit = fitness::unfit(self, r, layout::is_command(l));
         if unfit != 0 {
             return answered(unfit, self);
         }
@@ -115,8 +115,8 @@ impl Book {
         let Tally::Holds(count) = fitness::count_held(self) else {
             return answered(20, self);
         };
-        let layout = r.layout;
-        let unfit = fitness::unfit(self, r, book_order::is_revocation(layout));
+        let l = r.layout;
+        let unfit = fitness::unfit(self, r, layout::is_revocation(l));
         if unfit != 0 {
             return answered(unfit, self);
         }

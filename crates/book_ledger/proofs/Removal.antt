@@ -1,6 +1,7 @@
 -- Demand 3's second half: a command that was taken and later revoked may be left out, with its revocation. The two runs' books are at each call b and
 -- `without n b`, with n the order's name. Assumes nothing.
 use Prim.Native.Nat.{ℕ}
+use Rattle.layout.specs.Layouts.{isCommand, isRevocation}
 use Rattle.book_lists.proofs.Keeping.{All, all-keep, all-insert, all-map, all-made, all-weaker, keep-hidden, keep-all}
 use Rattle.book_lists.proofs.Sorting.{keep-insert, greatest-keep}
 use Rattle.book_lists.specs.Keyed.{Ascending}
@@ -9,7 +10,7 @@ use Rattle.book_ledger.proofs.Without.{other, without, other-strike, un
 use Rattle.book_ledger.specs.Calls.{Call, command, revoke, close, ask, names}
 use Rattle.book_ledger.specs.Demand.{whole, leftOut, found, taken, met, struck, end, itsName, Revoked, LeftOut}
 use Rattle.book_ledger.specs.Ledger.{Ledger, fresh, answer, effect, step, inForce, ledgers, run, answers}
-use Rattle.book_order.specs.Messages.{isCommand, isRevocation, orderOf, strikeOf}
+use Rattle.book_order.specs.Messages.{orderOf, strikeOf}
 use Rattle.book_order.specs.Orders.{Name, nameOf, sameName, named, number, live, pastEnd, Strike, strikeAt}
 use Rattle.book_order.specs.declared.Order.{Order}
 use Rattle.record.specs.declared.Record.{Record}

@@ -3,10 +3,11 @@ use Prim.Native.Nat.{ℕ, _≤_}
 use Rattle.report_brief.specs.Brief.{unitOf}
 use Rattle.book_lists.proofs.Sorting.{ascending-keep, ascending-insert, ascending-map}
 use Rattle.book_lists.specs.Keyed.{Ascending}
+use Rattle.layout.specs.Layouts.{isCommand}
 use Rattle.layout.specs.declared.Layout.{Layout}
 use Rattle.book_ledger.specs.Calls.{Call, command, revoke, close, ask, fitFor}
 use Rattle.book_ledger.specs.Ledger.{Ledger, fresh, answer, effect, step, run, answers}
-use Rattle.book_order.specs.Messages.{isCommand, orderOf, strikeOf}
+use Rattle.book_order.specs.Messages.{orderOf, strikeOf}
 use Rattle.book_order.specs.Orders.{Name, nameOf, sameName, named, number, live, pastEnd, Strike, strikeAt, already}
 use Rattle.book_order.specs.declared.Order.{Order}
 use Rattle.record.specs.declared.Record.{Record}

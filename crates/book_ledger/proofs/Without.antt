@@ -5,12 +5,13 @@ use Rattle.report_brief.specs.Brief.{unitOf}
 use Rattle.book_lists.proofs.Keeping.{keep-map, keep-comm, any-keep, length-keep}
 use Rattle.book_lists.proofs.Sorting.{keep-insert}
 use Rattle.book_lists.specs.Keyed.{keep, Ascending}
+use Rattle.layout.specs.Layouts.{isCommand, isRevocation}
 use Rattle.layout.specs.declared.Layout.{Layout}
 use Rattle.book_ledger.proofs.Strikes.{apart, strike-named, already-named, ladder, fit, step-unit, ascending-step}
 use Rattle.book_ledger.specs.Calls.{Call, command, revoke, close, ask, fitFor, names}
 use Rattle.book_ledger.specs.Demand.{wantsPlace}
 use Rattle.book_ledger.specs.Ledger.{Ledger, answer, effect, step, run, answers}
-use Rattle.book_order.specs.Messages.{isCommand, isRevocation, orderOf, strikeOf}
+use Rattle.book_order.specs.Messages.{orderOf, strikeOf}
 use Rattle.book_order.specs.Orders.{Name, nameOf, sameName, named, number, pastEnd, Strike, strikeAt, already}
 use Rattle.book_order.specs.declared.Order.{Order}
 use Rattle.record.specs.declared.Record.{Record}

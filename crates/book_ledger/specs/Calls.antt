@@ -2,8 +2,9 @@
 -- the first in its list to hold.
 use Prim.Native.Nat.{ℕ}
 use Rattle.report_brief.specs.Brief.{unitOf}
+use Rattle.layout.specs.Layouts.{isCommand, isRevocation}
 use Rattle.layout.specs.declared.Layout.{Layout}
-use Rattle.book_order.specs.Messages.{isCommand, isRevocation, orderOf, strikeOf}
+use Rattle.book_order.specs.Messages.{orderOf, strikeOf}
 use Rattle.book_order.specs.Orders.{Name, sameName, nameOf}
 use Rattle.record.specs.declared.Record.{Record}
 use Rattle.text.specs.Bytes.{same}

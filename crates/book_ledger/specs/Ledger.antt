@@ -1,9 +1,10 @@
 -- The book as document 01 has it: its unit, its floor and the held orders by ascending number; each call's answer, and what it does.
 use Prim.Native.Nat.{ℕ}
+use Rattle.layout.specs.Layouts.{isCommand, isRevocation}
 use Rattle.book_lists.specs.Keyed.{keep, insert, greatest}
 use Rattle.book_ledger.specs.Calls.{Call, command, revoke, close, ask, firstHolding, unfit}
 use Rattle.book_ledger.specs.Keepers.{Keeper, run as runOf, answers as answersOf, accepted as acceptedOf}
-use Rattle.book_order.specs.Messages.{isCommand, isRevocation, orderOf, strikeOf}
+use Rattle.book_order.specs.Messages.{orderOf, strikeOf}
 use Rattle.book_order.specs.Orders.{number, nameOf, named, live, pastEnd, strikeAt, already}
 use Rattle.book_order.specs.declared.Order.{Order}
 use Rattle.text.specs.Bytes.{any}

@@ -3,8 +3,8 @@ use Prim.Native.Nat.{ℕ}
 use Rattle.layout.proofs.Layout.{the-type}
 use Rattle.layout.specs.declared.Layout.{Layout}
 use Rattle.layout.specs.declared.Layout.the-variants.{Market, Mfrr, Revocation, Generic, Exclusion, Limitation, Secondary, VoltVar, Rejection, Reserve}
-use Rattle.book_order.specs.Messages.{isCommand, isRevocation, firstVariation, secondVariation}
-use Rattle.book_order.specs.Orders.{isMarket, fitsLayout}
+use Rattle.book_order.specs.Messages.{firstVariation, secondVariation}
+use Rattle.book_order.specs.Orders.{fitsLayout}
 use Rattle.record.specs.declared.Cell.{Cell}
 use denote.Enum.Declared.{tagOf}
 use lib.IntN.{ℤ, pos}
@@ -20,36 +20,7 @@ notCommand = 2 ∷ 3 ∷ 4 ∷ 5 ∷ 6 ∷ 7 ∷ 8 ∷ 9 ∷ []
 abbrev notMarket : List ℕ
 notMarket = 1 ∷ 2 ∷ 3 ∷ 4 ∷ 5 ∷ 6 ∷ 7 ∷ 8 ∷ 9 ∷ []
 
-abbrev notRevocation : List ℕ
-notRevocation = 0 ∷ 1 ∷ 3 ∷ 4 ∷ 5 ∷ 6 ∷ 7 ∷ 8 ∷ 9 ∷ []
-
--- any layout but the two of CB is no command
-pub command-other : (l : Layout) → OneOf notCommand (tagOf the-type l) → false ≡ isCommand l
-command-other Market h = absurd (miss notCommand 0 tt h)
-command-other Mfrr h = absurd (miss notCommand 1 tt h)
-command-other Revocation h = refl
-command-other Generic h = refl
-command-other Exclusion h = refl
-command-other Limitation h = refl
-command-other Secondary h = refl
-command-other VoltVar h = refl
-command-other Rejection h = refl
-command-other Reserve h = refl
-
--- any layout but that of RC is no revocation
-pub revocation-other : (l : Layout) → OneOf notRevocation (tagOf the-type l) → false ≡ isRevocation l
-revocation-other Market h = refl
-revocation-other Mfrr h = refl
-revocation-other Revocation h = absurd (miss notRevocation 2 tt h)
-revocation-other Generic h = refl
-revocation-other Exclusion h = refl
-revocation-other Limitation h = refl
-revocation-other Secondary h = refl
-revocation-other VoltVar h = refl
-revocation-other Rejection h = refl
-revocation-other Reserve h = refl
-
--- nor has it a variation
+-- any layout but the two of CB has no variation
 pub first-other : (l : Layout) (cells : List Cell) → OneOf notCommand (tagOf the-type l) → pos 0 ≡ firstVariation l cells
 first-other Market cells h = absurd (miss notCommand 0 tt h)
 first-other Mfrr cells h = absurd (miss notCommand 1 tt h)
@@ -74,19 +45,6 @@ second-other Secondary cells h = refl
 second-other VoltVar cells h = refl
 second-other Rejection cells h = refl
 second-other Reserve cells h = refl
-
--- any other layout is not the market's
-pub market-other : (l : Layout) → OneOf notMarket (tagOf the-type l) → false ≡ isMarket l
-market-other Market h = absurd (miss notMarket 0 tt h)
-market-other Mfrr h = refl
-market-other Revocation h = refl
-market-other Generic h = refl
-market-other Exclusion h = refl
-market-other Limitation h = refl
-market-other Secondary h = refl
-market-other VoltVar h = refl
-market-other Rejection h = refl
-market-other Reserve h = refl
 
 -- nothing fits a layout that is no command's
 pub fits-other : (l : Layout) (apart : ℕ) (second : ℤ) → OneOf notCommand (tagOf the-type l) → false ≡ fitsLayout l apart second

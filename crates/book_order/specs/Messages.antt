@@ -2,6 +2,7 @@
 -- (mFRR: its one, then 0) and whether it is struck; a revocation names a number.
 use Rattle.value_ask.specs.Values.{instantIn, amountIn, countIn}
 use Rattle.report_brief.specs.Brief.{messageNumber, startOf, endOf}
+use Rattle.layout.specs.FieldNumbers.{firstVariationNo, secondVariationNo, mfrrVariationNo, sequenceNo}
 use Rattle.layout.specs.declared.Layout.{Layout}
 use Rattle.layout.specs.declared.Layout.the-variants.{Market, Mfrr, Revocation, Generic, Exclusion, Limitation, Secondary, VoltVar, Rejection, Reserve}
 use Rattle.book_order.specs.Orders.{Strike}
@@ -10,40 +11,14 @@ use Rattle.record.specs.Records.{fieldOf}
 use Rattle.record.specs.declared.Cell.{Cell}
 use Rattle.record.specs.declared.Record.{Record}
 use lib.IntN.{ℤ, pos}
-use mathlib.Core.Bool.{Bool, true, false}
+use mathlib.Core.Bool.{false}
 use mathlib.Core.List.{List}
 
--- ---- which messages: a CB of either layout, an RC
-
-abbrev pub isCommand : Layout → Bool
-isCommand Market = true
-isCommand Mfrr = true
-isCommand Revocation = false
-isCommand Generic = false
-isCommand Exclusion = false
-isCommand Limitation = false
-isCommand Secondary = false
-isCommand VoltVar = false
-isCommand Rejection = false
-isCommand Reserve = false
-
-abbrev pub isRevocation : Layout → Bool
-isRevocation Market = false
-isRevocation Mfrr = false
-isRevocation Revocation = true
-isRevocation Generic = false
-isRevocation Exclusion = false
-isRevocation Limitation = false
-isRevocation Secondary = false
-isRevocation VoltVar = false
-isRevocation Rejection = false
-isRevocation Reserve = false
-
--- ---- the variations: fields 5 and 6; mFRR has one, its field 7, and 0 stands for the other
+-- ---- the variations: mFRR has one, and 0 stands for the other
 
 abbrev pub firstVariation : Layout → List Cell → ℤ
-firstVariation Market cells = amountIn (fieldOf cells 5)
-firstVariation Mfrr cells = amountIn (fieldOf cells 7)
+firstVariation Market cells = amountIn (fieldOf cells firstVariationNo)
+firstVariation Mfrr cells = amountIn (fieldOf cells mfrrVariationNo)
 firstVariation Revocation cells = pos 0
 firstVariation Generic cells = pos 0
 firstVariation Exclusion cells = pos 0
@@ -54,7 +29,7 @@ firstVariation Rejection cells = pos 0
 firstVariation Reserve cells = pos 0
 
 abbrev pub secondVariation : Layout → List Cell → ℤ
-secondVariation Market cells = amountIn (fieldOf cells 6)
+secondVariation Market cells = amountIn (fieldOf cells secondVariationNo)
 secondVariation Mfrr cells = pos 0
 secondVariation Revocation cells = pos 0
 secondVariation Generic cells = pos 0
@@ -78,6 +53,6 @@ orderOf r =
       struck = false;
     }
 
--- what a revocation says: `Sequenza Comando`, its field 5
+-- what a revocation says: `Sequenza Comando`
 unfoldable pub strikeOf : Record → Strike
-strikeOf r = record { name = record { number = countIn (fieldOf (r .cells) 5) } }
+strikeOf r = record { name = record { number = countIn (fieldOf (r .cells) sequenceNo) } }

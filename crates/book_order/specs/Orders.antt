@@ -1,6 +1,7 @@
 -- What an order is to the book. Document 01, "The book of commands". Nothing but these definitions looks into an order, so that a request that changes
 -- what an order carries, how it is struck or by what it is named changes them alone.
 use Prim.Native.Nat.{ℕ, _-_}
+use Rattle.layout.specs.Layouts.{isMarket}
 use Rattle.layout.specs.declared.Layout.{Layout}
 use Rattle.layout.specs.declared.Layout.the-variants.{Market, Mfrr, Revocation, Generic, Exclusion, Limitation, Secondary, VoltVar, Rejection, Reserve}
 use Rattle.book_order.specs.declared.Order.{Order}
@@ -70,18 +71,6 @@ emptyOrder = record { number = 0; layout = Market; start = 0; end = 0; first = p
 abbrev pub isZero : ℤ → Bool
 isZero (pos n) = eqb n 0
 isZero (negsuc n) = false
-
-abbrev pub isMarket : Layout → Bool
-isMarket Market = true
-isMarket Mfrr = false
-isMarket Revocation = false
-isMarket Generic = false
-isMarket Exclusion = false
-isMarket Limitation = false
-isMarket Secondary = false
-isMarket VoltVar = false
-isMarket Rejection = false
-isMarket Reserve = false
 
 unfoldable pub isEmpty : Order → Bool
 isEmpty o =

@@ -1,12 +1,13 @@
 // An order as the book holds it: what it takes of a CB record, whether it is in force, and what a held order may be.
 use layout::Layout;
+use layout::fields;
 use record::Cell;
 use record::Record;
 ghost use Prim.Native.Nat.{_≤_};
 ghost use Rattle.value_ask.specs.Values.{instantIn};
 ghost use Rattle.report_brief.specs.Brief.{startOf, endOf};
-ghost use Rattle.book_order.specs.Messages.{isCommand, isRevocation, firstVariation, secondVariation, orderOf, strikeOf};
-ghost use Rattle.book_order.specs.Orders.{live, isEmpty, isMarket, isInstant, isAmount, fitsLayout, couldCome};
+ghost use Rattle.book_order.specs.Messages.{firstVariation, secondVariation, orderOf, strikeOf};
+ghost use Rattle.book_order.specs.Orders.{live, isEmpty, isInstant, isAmount, fitsLayout, couldCome};
 ghost use mathlib.Core.Path.{_≡_};
 
 // Start and end are instants, the variations thousandths of a megawatt. Of mFRR: TINI1 and TFIN2, its one variation and 0.
@@ -31,33 +32,12 @@ pub const EMPTY: Order = Order {
     struck: false,
 };
 
-// A CB of either layout.
-pub fn is_command(l: Layout) -> bool
-    ensures { λ r. ⌜ r ≡ isCommand l ⌝ }
-{
-    match l {
-        Layout::Market => true,
-        Layout::Mfrr => true,
-        _ => false,
-    }
-}
-
-// An RC.
-pub fn is_revocation(l: Layout) -> bool
-    ensures { λ r. ⌜ r ≡ isRevocation l ⌝ }
-{
-    match l {
-        Layout::Revocation => true,
-        _ => false,
-    }
-}
-
 fn first_variation(l: Layout, cells: [Cell; 26]) -> i32
     ensures { λ r. ⌜ r ≡ firstVariation l cells ⌝ }
 {
     match l {
-        Layout::Market => value_ask::amount_in(record::field(cells, 5)),
-        Layout::Mfrr => value_ask::amount_in(record::field(cells, 7)),
+        Layout::Market => value_ask::amount_in(record::field(cells, fields::FIRST_VARIATION)),
+        Layout::Mfrr => value_ask::amount_in(record::field(cells, fields::MFRR_VARIATION)),
         _ => 0,
     }
 }
@@ -66,7 +46,7 @@ fn second_variation(l: Layout, cells: [Cell; 26]) -> i32
     ensures { λ r. ⌜ r ≡ secondVariation l cells ⌝ }
 {
     match l {
-        Layout::Market => value_ask::amount_in(record::field(cells, 6)),
+        Layout::Market => value_ask::amount_in(record::field(cells, fields::SECOND_VARIATION)),
         _ => 0,
     }
 }
@@ -97,7 +77,7 @@ pub fn named_by(r: Record) -> u64
     ensures { λ n. ⌜ n ≡ strikeOf r .name .number ⌝ }
 {
     let cells = r.cells;
-    value_ask::count_in(record::field(cells, 5))
+    value_ask::count_in(record::field(cells, fields::SEQUENCE))
 }
 
 // Whether an order is in force at t.
@@ -107,22 +87,13 @@ pub fn is_live(o: Order, t: u32) -> bool
     !o.struck & (o.start <= t) & (t < o.end)
 }
 
-fn is_market(l: Layout) -> bool
-    ensures { λ r. ⌜ r ≡ isMarket l ⌝ }
-{
-    match l {
-        Layout::Market => true,
-        _ => false,
-    }
-}
-
 // Whether a place is empty: all zero.
 pub fn is_empty(o: Order) -> bool
     ensures { λ r. ⌜ r ≡ isEmpty o ⌝ }
 {
     let l = o.layout;
     (o.number == 0)
-        & is_market(l)
+        & layout::is_market(l)
         & (o.start == 0)
         & (o.end == 0)
         & (o.first == 0)

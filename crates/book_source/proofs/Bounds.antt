@@ -1,8 +1,8 @@
 -- The test of an order as bounds, for each of the two layouts that a command has. Assumes nothing.
 use Prim.Native.Nat.{ℕ, _-_, _≤_, _<_}
+use Rattle.layout.specs.Layouts.{isCommand}
 use Rattle.layout.specs.declared.Layout.{Layout}
 use Rattle.layout.specs.declared.Layout.the-variants.{Market, Mfrr, Revocation, Generic, Exclusion, Limitation, Secondary, VoltVar, Rejection, Reserve}
-use Rattle.book_order.specs.Messages.{isCommand}
 use Rattle.book_order.specs.Orders.{isZero, isAmount, fitsLayout, couldCome}
 use Rattle.book_order.specs.declared.Order.{Order}
 use Rattle.text.proofs.Tests.{told, Tells, leb-tells, ltb-tells, eqb-tells, itself, _and_, within-tells}

@@ -1,13 +1,15 @@
 -- The order of a valid command passes the test, so its instants fit 32 bits. Assumes nothing.
 use Prim.Native.Nat.{ℕ, _-_, _≤_}
 use Rattle.value_ask.specs.Values.{instantIn, amountIn}
-use Rattle.report_brief.specs.Brief.{messageNumber, startOf, endField, endOf}
+use Rattle.layout.specs.Layouts.{isCommand}
+use Rattle.layout.specs.FieldNumbers.{endField}
+use Rattle.report_brief.specs.Brief.{messageNumber, startOf, endOf}
 use Rattle.book_source.proofs.Bounds.{by-command, market-tells, mfrr-tells, Bounds, come-tells}
 use Rattle.book_source.proofs.Fields.{number-in, date-in, amount-in}
 use Rattle.book_source.proofs.Places.{number-at, start-at, end-at, market-amounts, mfrr-amount}
 use Rattle.layout.specs.declared.Layout.{Layout}
 use Rattle.layout.specs.declared.Layout.the-variants.{Market, Mfrr}
-use Rattle.book_order.specs.Messages.{isCommand, firstVariation, secondVariation, orderOf}
+use Rattle.book_order.specs.Messages.{firstVariation, secondVariation, orderOf}
 use Rattle.book_order.specs.Orders.{isAmount, fitsLayout, couldCome}
 use Rattle.record.specs.Records.{fieldOf}
 use Rattle.record.specs.declared.Record.{Record}

@@ -20,6 +20,7 @@ use Rattle.record_check.specs.Validity.{holdsAll, areClear, noTriples, isSized,
 use Rattle.value.specs.declared.Value.{Value}
 use Rattle.value.specs.declared.Value.the-variants.{Blank, Id, Unit as UnitOf, When, Amount, Word, Triples}
 use Rattle.writer_form.specs.Written.{valuesIn}
+use Rattle.value_word.specs.Names.{wNormale, wStai, wNo, wGaudi, wSa}
 use borrow.Author.Tests.{le-leb}
 use lib.Dec.{ltb}
 use lib.IntN.{ℤ, pos}
@@ -44,18 +45,18 @@ commandWith l n s rest gs =
 abbrev none : Value
 none = Amount (pos 0)
 
--- NORMALE, STAI, NO; NO; NO and NO; GAUDI; one triple 0,0,0.001
+-- with the one triple 0,0,0.001
 abbrev pub marketCommand : ℕ → Date → Date → ℤ → ℤ → Record
 marketCommand n s e v w =
     commandWith Market n s
-    (When e ∷ Amount v ∷ Amount w ∷ Word 1 ∷ Word 2 ∷ Word 5 ∷ none ∷ none ∷ Word 5 ∷ Blank ∷ Blank ∷ Word 5 ∷ Word 5 ∷ When s ∷ Word 6
-    ∷ replicate 7 Blank ++ Triples 1 ∷ [])
+    (When e ∷ Amount v ∷ Amount w ∷ Word wNormale ∷ Word wStai ∷ Word wNo ∷ none ∷ none ∷ Word wNo ∷ Blank ∷ Blank ∷ Word wNo ∷ Word wNo
+    ∷ When s ∷ Word wGaudi ∷ replicate 7 Blank ++ Triples 1 ∷ [])
     (record { low = pos 0; high = pos 0; gradient = pos 1 } ∷ replicate 15 noTriple)
 
--- SA; the first ramp ends where the second starts
+-- the first ramp ends where the second starts
 abbrev pub mfrrCommand : ℕ → Date → Date → Date → ℤ → Record
 mfrrCommand n s u e v =
-    commandWith Mfrr n s (When u ∷ When u ∷ When e ∷ Amount v ∷ Word 8 ∷ none ∷ none ∷ none ∷ none ∷ []) (replicate 16 noTriple)
+    commandWith Mfrr n s (When u ∷ When u ∷ When e ∷ Amount v ∷ Word wSa ∷ none ∷ none ∷ none ∷ none ∷ []) (replicate 16 noTriple)
 
 module _ (n : ℕ) (s e : Date) (v : ℤ) (low : ltb n 10000000000 ≡ true) (starts : isReal s ≡ true) (ends : isReal e ≡ true) (first : isAmount v ≡ true) where
   pub market-valid : (w : ℤ) → isAmount w ≡ true → ltb (instantOf s) (instantOf e) ≡ true → isValid (marketCommand n s e v w) ≡ true

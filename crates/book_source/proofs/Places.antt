@@ -1,12 +1,11 @@
 -- Where a command has its number, its dates and its amounts, none of which may be blank. Assumes nothing.
 use Prim.Native.Nat.{ℕ, suc}
-use Rattle.report_brief.specs.Brief.{endField}
+use Rattle.layout.specs.FieldNumbers.{endField}
 use Rattle.book_source.proofs.Bounds.{by-command}
 use Rattle.layout.specs.Fields.{command, technical, market, mfrr}
-use Rattle.layout.specs.Layouts.{fieldsOf, kindsOf, typeOf, noKind}
+use Rattle.layout.specs.Layouts.{isCommand, fieldsOf, kindsOf, typeOf, noKind}
 use Rattle.layout.specs.declared.Layout.{Layout}
 use Rattle.layout.specs.declared.Layout.the-variants.{Market, Mfrr}
-use Rattle.book_order.specs.Messages.{isCommand}
 use Rattle.record.proofs.Places.{Owed}
 use Rattle.value.specs.declared.Shape.{Shape}
 use Rattle.value.specs.declared.Shape.the-variants.{IsId, IsWhen, IsAmount}

@@ -1,5 +1,6 @@
 -- An order whose number, layout, instants and variations are together what a valid CB record gives. Document 01, "The book of commands".
-use Rattle.book_order.specs.Messages.{isCommand, orderOf}
+use Rattle.layout.specs.Layouts.{isCommand}
+use Rattle.book_order.specs.Messages.{orderOf}
 use Rattle.book_order.specs.declared.Order.{Order}
 use Rattle.record.specs.declared.Record.{Record}
 use Rattle.record_valid.specs.Valid.{Valid}

@@ -1,5 +1,6 @@
 -- The ledgers that a book with its 96 places can hold, and that every call keeps a ledger so. Assumes nothing.
 use Prim.Native.Nat.{ℕ, suc, _≤_, _<_}
+use Rattle.layout.specs.Layouts.{isCommand}
 use Rattle.book.proofs.Leading.{fits-facts}
 use Rattle.book.specs.Places.{fitsAfter}
 use Rattle.book_source.proofs.Comes.{comes}
@@ -10,7 +11,7 @@ use Rattle.book_ledger.proofs.Strikes.{strike-key, strike-end, takes, step-keep
 use Rattle.book_ledger.specs.Calls.{Call, command, revoke, close, ask, fitFor}
 use Rattle.book_ledger.specs.Ledger.{Ledger, fresh, answer, effect, step}
 use Rattle.value_name.specs.Names.{isUnit}
-use Rattle.book_order.specs.Messages.{isCommand, orderOf, strikeOf}
+use Rattle.book_order.specs.Messages.{orderOf, strikeOf}
 use Rattle.book_order.specs.Orders.{nameOf, named, number, pastEnd, Strike, strikeAt, couldCome}
 use Rattle.book_order.specs.declared.Order.{Order}
 use Rattle.record.specs.declared.Record.{Record}

@@ -9,7 +9,7 @@ use Rattle.writer_lines.proofs as writer_lines
 use Rattle.report_brief.proofs as report_brief
 use Rattle.writer_message.proofs as writer_message
 use Rattle.value_date.proofs as value_date
-use Rattle.text.specs.Shapes.{Answers, Lends, OneOutput, OneResult, OneText}
+use Rattle.text.specs.Shapes.{Answers, Lends, OneOutput, OneResult, OneText, Writes}
 use Rattle.reader_line.proofs as reader_line
 use Rattle.reader_fill.proofs as reader_fill
 use Rattle.value_fits.proofs as value_fits
@@ -105,7 +105,14 @@ pub record Within : Type 0 where
   -- layout
   pub layout-type-of : Answers layout.type_of.ended layout.type_of.Reads.Asked layout.type_of.Reads.Learnt
   pub layout-of-type : Answers layout.of_type.ended layout.of_type.Reads.Asked layout.of_type.Reads.Learnt
+  pub layout-is-market : Answers layout.is_market.ended layout.is_market.Reads.Asked layout.is_market.Reads.Learnt
+  pub layout-is-command : Answers layout.is_command.ended layout.is_command.Reads.Asked layout.is_command.Reads.Learnt
+  pub layout-is-revocation : Answers layout.is_revocation.ended layout.is_revocation.Reads.Asked layout.is_revocation.Reads.Learnt
   pub layout-size : Answers layout.size.ended layout.size.Reads.Asked layout.size.Reads.Learnt
+  pub layout-fields-end-field : Answers layout.fields.end_field.ended layout.fields.end_field.Reads.Asked layout.fields.end_field.Reads.Learnt
+  pub layout-fields-reason-field : Answers layout.fields.reason_field.ended layout.fields.reason_field.Reads.Asked layout.fields.reason_field.Reads.Learnt
+  pub layout-fields-note-field : Answers layout.fields.note_field.ended layout.fields.note_field.Reads.Asked layout.fields.note_field.Reads.Learnt
+  pub layout-fields-gradients-field : Answers layout.fields.gradients_field.ended layout.fields.gradients_field.Reads.Asked layout.fields.gradients_field.Reads.Learnt
   pub layout-row-size : Answers layout.row.size.ended layout.row.size.Reads.Asked layout.row.size.Reads.Learnt
   pub layout-row-field : OneResult layout.row.field.ended layout.row.field.Reads.Learnt
   -- value_ask
@@ -138,14 +145,11 @@ pub record Within : Type 0 where
   -- record
   pub record-zero : Answers records.zero.ended records.zero.Reads.Asked records.zero.Reads.Learnt
   pub record-field : OneResult records.field.ended records.field.Reads.Learnt
-  pub record-reason-field : Answers records.reason_field.ended records.reason_field.Reads.Asked records.reason_field.Reads.Learnt
-  pub record-note-field : Answers records.note_field.ended records.note_field.Reads.Asked records.note_field.Reads.Learnt
-  pub record-gradients-field : Answers records.gradients_field.ended records.gradients_field.Reads.Asked records.gradients_field.Reads.Learnt
   -- report_brief
-  pub report-brief-end-field : Answers report_brief.end_field.ended report_brief.end_field.Reads.Asked report_brief.end_field.Reads.Learnt
-  pub report-brief-of-values : Answers report_brief.of_values.ended report_brief.of_values.Reads.Asked report_brief.of_values.Reads.Learnt
+  pub report-brief-of-reading : Answers report_brief.of_reading.ended report_brief.of_reading.Reads.Asked report_brief.of_reading.Reads.Learnt
   pub report-brief-put-number : OneOutput report_brief.put_number.ended (λ κs e. e .0 .now) report_brief.put_number.Reads.Learnt
   pub report-brief-put-lines : OneOutput report_brief.put_lines.ended (λ κs e. e .0 .now) report_brief.put_lines.Reads.Learnt
+  pub report-brief-write-lines : Writes report_brief.write_lines.ended (λ κs e. e .0 .now) report_brief.write_lines.Reads.Asked report_brief.write_lines.Reads.Learnt
   -- reader_fill
   pub reader-fill-text-at : OneText reader_fill.text_at.ended (λ κs z. z .now) reader_fill.text_at.Reads.Learnt
   pub reader-fill-gradients-of : OneResult reader_fill.gradients_of.ended reader_fill.gradients_of.Reads.Learnt
@@ -164,8 +168,6 @@ pub record Within : Type 0 where
   pub record-rules-of-reserve : Answers record-rules.of_reserve.ended record-rules.of_reserve.Reads.Asked record-rules.of_reserve.Reads.Learnt
   pub record-rules-lowest-of : Answers record-rules.lowest_of.ended record-rules.lowest_of.Reads.Asked record-rules.lowest_of.Reads.Learnt
   -- book_order
-  pub book-order-is-command : Answers book_order.is_command.ended book_order.is_command.Reads.Asked book_order.is_command.Reads.Learnt
-  pub book-order-is-revocation : Answers book_order.is_revocation.ended book_order.is_revocation.Reads.Asked book_order.is_revocation.Reads.Learnt
   pub book-order-of-record : OneResult book_order.of_record.ended book_order.of_record.Reads.Learnt
   pub book-order-named-by : Answers book_order.named_by.ended book_order.named_by.Reads.Asked book_order.named_by.Reads.Learnt
   pub book-order-is-live : Answers book_order.is_live.ended book_order.is_live.Reads.Asked book_order.is_live.Reads.Learnt

@@ -1,24 +1,41 @@
--- The entry's three ends: refused by the reader, no room, written. Assumes nothing.
-use Prim.Native.Nat.{ℕ, _+_, _*_, _≤_, _<_}
+-- The entry's two ends: refused by the reader, and what the writing of the lines answers, as one number. Assumes nothing.
+use Prim.Native.Nat.{ℕ, _+_, _*_, _≤_}
 use Rattle.report_brief.specs.Brief.{sixLines}
 use Rattle.gateway.specs.Entry.{lengthOr11, entryCode, outOf}
 use Rattle.reader.specs.Refusals.{refused, accepted}
 use Rattle.reader.specs.declared.Answer.{Answer}
 use Rattle.record.specs.declared.Record.{Record}
-use Rattle.text.specs.Puts.{bufferOf}
-use borrow.Author.Tests.{ne-eqb, le-leb, lt-leb}
-use lib.ListN.{length, take, drop, replicate, length-replicate}
-use lib.Seq.{sets, sets-eq, take-append-seam}
+use Rattle.text.proofs.Tests.{by-test}
+use Rattle.text.specs.Puts.{wroteOf, bufferOf}
+use Rattle.text.specs.declared.put.Wrote.the-variants.{To, NoRoom}
+use Rattle.text.specs.declared.put.Wrote.{Wrote}
+use borrow.Author.Tests.{ne-eqb}
+use lib.Dec.{leb}
+use lib.ListN.{length}
 use mathlib.Core.List.{List}
-use mathlib.Core.Path.{_≡_, refl, ap, ap₂, _∙_}
+use mathlib.Core.Path.{_≡_, refl, ap, _∙_}
 use native.Mathlib.Omega.{arith}
 
--- what was put at the front of a room of 89 bytes is the front of it
-front-put : (t part room : List ℕ) (n : ℕ) → n ≤ 89 → n ≡ 0 + length t → room ≡ sets (replicate 89 0) 0 t → part ≡ take n room → part ≡ t
-front-put t part room n h e f g =
-    let z : 0 + length t ≤ length {A = ℕ} (replicate 89 0) = omega (arith, h, e, length-replicate {A = ℕ} 89 0) in
-    let k : n ≡ length t = omega (arith, e) in
-    g ∙ ap₂ (λ (i : ℕ) (l : List ℕ). take i l) k (f ∙ sets-eq t (replicate 89 0) 0 z) ∙ take-append-seam t (drop (0 + length t) (replicate 89 0))
+unfoldable pub answered : Wrote → ℕ
+answered (To n) = n
+answered (NoRoom n) = 11 * 65536 + n
+
+-- how long the text is
+unfoldable pub Fair : ℕ → Wrote → Type 0
+Fair most (To n) = n ≤ most
+Fair most (NoRoom n) = n ≤ most
+
+module _ (out t : List ℕ) where
+  none-before : 0 + length t ≡ length t
+  none-before = omega arith
+
+  wrote-code : answered (wroteOf out 0 t) ≡ lengthOr11 t (length out)
+  unfolding answered wroteOf lengthOr11
+  wrote-code = rw none-before (by-test (leb (length t) (length out)) (λ e. rw e) (λ e. rw e))
+
+  pub wrote-fair : (most : ℕ) → length t ≤ most → Fair most (wroteOf out 0 t)
+  unfolding Fair wroteOf
+  wrote-fair most h = rw none-before (by-test (leb (length t) (length out)) (λ e. rw e h) (λ e. rw e h))
 
 module _ (out : List ℕ) where
   abbrev pub Ends : Answer → ℕ → List ℕ → Type 0
@@ -28,20 +45,7 @@ module _ (out : List ℕ) where
   unfolding entryCode outOf
   refused-end n d h = rw (ne-eqb n 0 h) (omega arith, refl)
 
-  module _ (r : Record) (n : ℕ) (size : n ≡ 0 + length (sixLines r)) where
-    pub no-room-end : length out < n → Ends (accepted r) (11 * 65536 + n) out
-    unfolding entryCode outOf lengthOr11 bufferOf
-    no-room-end h =
-        let g : length out < length (sixLines r) = omega (arith, h, size) in
-        let z : length out < 0 + length (sixLines r) = omega arith in
-        rw (lt-leb (length (sixLines r)) (length out) g, lt-leb (0 + length (sixLines r)) (length out) z) (omega (arith, size), refl)
-
-    -- the lines were put into a room of their own, and its front into the output
-    pub written-end : (out₂ part room : List ℕ) → n ≤ length out → n ≤ 89 → room ≡ sets (replicate 89 0) 0 (sixLines r) → part ≡ take n room
-        → out₂ ≡ sets out 0 part → Ends (accepted r) n out₂
-    unfolding entryCode outOf lengthOr11 bufferOf
-    written-end out₂ part room h few f p e =
-        let g : length (sixLines r) ≤ length out = omega (arith, h, size) in
-        let z : 0 + length (sixLines r) ≤ length out = omega arith in
-        rw (le-leb (length (sixLines r)) (length out) g, le-leb (0 + length (sixLines r)) (length out) z)
-        (omega (arith, size), e ∙ ap (λ (x : List ℕ). sets out 0 x) (front-put (sixLines r) part room n few size f p) ∙ sets-eq (sixLines r) out 0 z)
+  pub wrote-end : (r : Record) (w : Wrote) (out₂ : List ℕ) → (w ≡ wroteOf out 0 (sixLines r)) × (out₂ ≡ bufferOf out 0 (sixLines r))
+      → Ends (accepted r) (answered w) out₂
+  unfolding entryCode outOf
+  wrote-end r w out₂ p = (ap answered (p .0) ∙ wrote-code out (sixLines r), p .1)

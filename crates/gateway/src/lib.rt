@@ -1,6 +1,7 @@
 // What the gateway's host calls from C: numbers and byte slices only. Each slice goes as a pointer and a length (host/include/halimpung.h).
-use text::put;
-use text::scan;
+use layout::fields;
+use record::at;
+use text::put::Wrote;
 use writer::Written;
 ghost use Rattle.report_brief.specs.Brief.{sixLines};
 ghost use Rattle.gateway.specs.Entry.{entryCode, outOf};
@@ -20,31 +21,19 @@ pub extern "C" fn halimpung_read(ca: u32, ioa: u32, plan: &[u8], file: &[u8], ou
         return x.number as u32 * 65536 + x.detail as u32;
     }
     let l = x.layout;
-    let first = x.cells[0];
-    let second = x.cells[1];
-    let third = x.cells[2];
-    let last = x.cells[report_brief::end_field(l) - 1];
     let places = x.places;
-    let number = first.value;
-    let unit = second.value;
-    let start = third.value;
-    let end = last.value;
-    let told = report_brief::of_values(
+    let told = report_brief::of_reading(
         l,
-        number,
-        unit,
-        text_room::keep_unit(reader_fill::text_at(l, file, places, 2)),
-        start,
-        end,
+        x.cells[at::IDENTIFIER],
+        x.cells[at::UNIT],
+        text_room::keep_unit(reader_fill::text_at(l, file, places, fields::UNIT)),
+        x.cells[at::START],
+        x.cells[fields::end_field(l) - 1],
     );
-    let mut lines = [0u8; 89];
-    let size = report_brief::put_lines(&mut lines, 0, told);
-    let length = size as u32;
-    if out.len() < size {
-        return 11 * 65536 + length;
+    match report_brief::write_lines(out, told) {
+        Wrote::To(n) => n as u32,
+        Wrote::NoRoom(n) => 11 * 65536 + n as u32,
     }
-    put::put_text(out, 0, scan::front(&lines, size));
-    length
 }
 
 // Brings a file to the written form of its record, and writes that into out.

@@ -1,7 +1,6 @@
 -- The fields of the ten layouts in printed order: label, kind, and whether a blank may stand. Document 01, "Lines of a message" and "Values";
--- labels letter for letter from Annex A.34, 2.3 to 2.11, with plain `a` for an accented one. Words by their numbers (crate word):
--- 1 NORMALE, 2 and 3 STAI and MANTIENI DIFFERENZA, 4 and 5 SI and NO, 6 and 7 GAUDI and SCWEB, 8 and 9 SA and DA, 10 to 12 the operations of SR,
--- 13 and 14 I and E, 15 to 18 the modes and 19 to 22 the regulations of VQ, 28 and 29 the reserves and 30 and 31 the quantities of QR.
+-- labels letter for letter from Annex A.34, 2.3 to 2.11, with plain `a` for an accented one. A word is one of those from the first to the last that
+-- are named (value_word/specs/Names.antt).
 use Prim.Native.Nat.{ℕ}
 use Prim.Native.String.{String}
 use Rattle.value_name.specs.declared.MessageType.{MessageType}
@@ -10,6 +9,8 @@ use Rattle.text.specs.Bytes.{bytes}
 use Rattle.value.specs.declared.Kind.{Kind}
 use Rattle.value.specs.declared.Shape.{Shape}
 use Rattle.value.specs.declared.Shape.the-variants.{IsId, IsUnit, IsWhen, IsAmount, IsCount, IsReason, IsNote, IsWord, IsProfile, IsBands, IsTriples, IsVoltage, IsRegulator, IsChange, IsReactive}
+use Rattle.value_word.specs.Names.{wNormale, wStai, wMantieniDifferenza, wSi, wNo, wGaudi, wScweb, wSa, wDa, wSospensione, wProgramma, wI, wE, wRrt, wMan}
+use Rattle.value_word.specs.Names.{wProfiloMemorizzato, wPotenzaReattiva, wRiservaAScendere, wRiservaASalire, wFinoAPmin, wFinoAPmax}
 use mathlib.Core.Bool.{true, false}
 use mathlib.Core.List.{List, [], _∷_, _++_}
 
@@ -48,7 +49,7 @@ abbrev pub created : Field
 created = must "Data Creazione Msg" IsWhen
 
 abbrev pub yesNo : String → Field
-yesNo l = must l (IsWord 4 5)
+yesNo l = must l (IsWord wSi wNo)
 
 -- ---- the layouts
 
@@ -61,9 +62,9 @@ command =
     ∷ must "Data Ora Fine Comando" IsWhen
     ∷ must "Variazione potenza Prog Vinc (TINI)" IsAmount
     ∷ must "Variazione potenza Prog Vinc (TFIN)" IsAmount
-    ∷ must "Stato Gradiente Comando" (IsWord 1 1)
-    ∷ must "Stato Continuazione Comando" (IsWord 2 3)
-    ∷ must "Richiesta SuperMassimo" (IsWord 5 5)
+    ∷ must "Stato Gradiente Comando" (IsWord wNormale wNormale)
+    ∷ must "Stato Continuazione Comando" (IsWord wStai wMantieniDifferenza)
+    ∷ must "Richiesta SuperMassimo" (IsWord wNo wNo)
     ∷ must "PV(Data ora Inizio Comando)" IsAmount
     ∷ must "PV(Data ora Fine Comando)" IsAmount
     ∷ yesNo "Ordine di Raccordo"
@@ -77,7 +78,7 @@ technical =
     ∷ yesNo "PV finale(TINI)"
     ∷ yesNo "PV finale(TFIN)"
     ∷ must "Data Ora Riferimento Dati (Trif)" IsWhen
-    ∷ must "Origine Dati Tecnici a Trif" (IsWord 6 7)
+    ∷ must "Origine Dati Tecnici a Trif" (IsWord wGaudi wScweb)
     ∷ may "Data Ora Aggiornamento Dati a Trif" IsWhen
     ∷ may "Profilo normalizzato di rampa h1" IsProfile
     ∷ may "Profilo normalizzato di rampa h2" IsProfile
@@ -101,7 +102,7 @@ mfrr =
     ∷ must "Data Ora Inizio Rampa2 TINI2" IsWhen
     ∷ must "Data Ora Fine Rampa2 TFIN2" IsWhen
     ∷ must "Variazione potenza al TFIN1" IsAmount
-    ∷ must "Tipo Comando" (IsWord 8 9)
+    ∷ must "Tipo Comando" (IsWord wSa wDa)
     ∷ must "Prifbil (TINI1)" IsAmount
     ∷ must "Prifbil (TFIN1)" IsAmount
     ∷ must "Prifbil (TINI2)" IsAmount
@@ -148,7 +149,7 @@ sr =
     ∷ unit
     ∷ start
     ∷ end
-    ∷ must "Tipo Operazione" (IsWord 10 12)
+    ∷ must "Tipo Operazione" (IsWord wSospensione wProgramma)
     ∷ may "Semibande" IsBands
     ∷ reason
     ∷ note
@@ -162,9 +163,9 @@ vq =
     ∷ unit
     ∷ start
     ∷ may "Data Ora Fine" IsWhen
-    ∷ may "Stato Sart/Report" (IsWord 13 14)
-    ∷ must "Modalita funzionamento" (IsWord 15 18)
-    ∷ may "Regolazione" (IsWord 19 22)
+    ∷ may "Stato Sart/Report" (IsWord wI wE)
+    ∷ must "Modalita funzionamento" (IsWord wRrt wMan)
+    ∷ may "Regolazione" (IsWord wProfiloMemorizzato wPotenzaReattiva)
     ∷ may "Impostazione Sart/Report" IsVoltage
     ∷ may "Impostazione RAT" IsRegulator
     ∷ may "Variazione" IsChange
@@ -184,9 +185,9 @@ qr =
     ∷ unit
     ∷ start
     ∷ end
-    ∷ must "Tipo Riserva" (IsWord 28 29)
+    ∷ must "Tipo Riserva" (IsWord wRiservaAScendere wRiservaASalire)
     ∷ may "Quantita Riservata (MW)" IsAmount
-    ∷ may "Quantita Riservata" (IsWord 30 31)
+    ∷ may "Quantita Riservata" (IsWord wFinoAPmin wFinoAPmax)
     ∷ note
     ∷ created
     ∷ []

@@ -8,7 +8,7 @@ use Rattle.value_name.specs.declared.MessageType.the-variants.{Cb, Rc, Mg, Eb, 
 use Rattle.value.specs.declared.Kind.{Kind}
 use Rattle.value.specs.declared.Shape.the-variants.{IsNote}
 use lib.ListN.{length, getD}
-use mathlib.Core.Bool.{true}
+use mathlib.Core.Bool.{Bool, true, false}
 use mathlib.Core.List.{List, [], _∷_, map}
 
 unfoldable pub fieldsOf : Layout → List Field
@@ -47,7 +47,46 @@ layoutOf Vq = VoltVar
 layoutOf Ri = Rejection
 layoutOf Qr = Reserve
 
--- labels and kinds in printed order
+-- ---- which messages: the market layout, a CB of either layout, an RC
+
+abbrev pub isMarket : Layout → Bool
+isMarket Market = true
+isMarket Mfrr = false
+isMarket Revocation = false
+isMarket Generic = false
+isMarket Exclusion = false
+isMarket Limitation = false
+isMarket Secondary = false
+isMarket VoltVar = false
+isMarket Rejection = false
+isMarket Reserve = false
+
+abbrev pub isCommand : Layout → Bool
+isCommand Market = true
+isCommand Mfrr = true
+isCommand Revocation = false
+isCommand Generic = false
+isCommand Exclusion = false
+isCommand Limitation = false
+isCommand Secondary = false
+isCommand VoltVar = false
+isCommand Rejection = false
+isCommand Reserve = false
+
+abbrev pub isRevocation : Layout → Bool
+isRevocation Market = false
+isRevocation Mfrr = false
+isRevocation Revocation = true
+isRevocation Generic = false
+isRevocation Exclusion = false
+isRevocation Limitation = false
+isRevocation Secondary = false
+isRevocation VoltVar = false
+isRevocation Rejection = false
+isRevocation Reserve = false
+
+-- ---- labels and kinds in printed order
+
 unfoldable pub labelsOf : Layout → List (List ℕ)
 labelsOf l = map (λ (f : Field). f .label) (fieldsOf l)
 

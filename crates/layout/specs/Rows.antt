@@ -1,6 +1,7 @@
 -- The summary row. Document 01, "The summary row": the body's trimmed values in the order listed by Annex A.34, 2.3 to 2.11, joined by `;` (59).
 -- SR's halves are trimmed and stand as two; blank half-bands give two empty values. LB lists the minimum first, the body the maximum.
 use Prim.Native.Nat.{ℕ}
+use Rattle.layout.specs.FieldNumbers.{halfBandsNo}
 use Rattle.layout.specs.declared.Layout.{Layout}
 use Rattle.layout.specs.declared.Layout.the-variants.{Market, Mfrr, Revocation, Generic, Exclusion, Limitation, Secondary, VoltVar, Rejection, Reserve}
 use Rattle.text.specs.Bytes.{is, upto, past, trim}
@@ -36,7 +37,7 @@ bandsIn Revocation col = []
 bandsIn Generic col = []
 bandsIn Exclusion col = []
 bandsIn Limitation col = []
-bandsIn Secondary col = halves (textAt col 6)
+bandsIn Secondary col = halves (textAt col halfBandsNo)
 bandsIn VoltVar col = []
 bandsIn Rejection col = []
 bandsIn Reserve col = []

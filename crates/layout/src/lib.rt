@@ -1,9 +1,10 @@
 // The ten layouts of messages. Its specs/ is the one table of fields, labels, kinds, rows and banners; the crates label, kind and banner tie the
 // code's own tables to it, and this one its sizes and the order of its rows.
+pub mod fields;
 pub mod row;
 
 use value_name::MessageType;
-ghost use Rattle.layout.specs.Layouts.{typeOf, layoutOf, sizeOf};
+ghost use Rattle.layout.specs.Layouts.{typeOf, layoutOf, isMarket, isCommand, isRevocation, sizeOf};
 ghost use mathlib.Core.Path.{_≡_};
 
 // The type CB has two layouts, every other type has one.
@@ -52,6 +53,60 @@ pub fn of_type(t: MessageType) -> Layout
         MessageType::Vq => Layout::VoltVar,
         MessageType::Ri => Layout::Rejection,
         MessageType::Qr => Layout::Reserve,
+    }
+}
+
+// The market layout.
+pub fn is_market(l: Layout) -> bool
+    ensures { λ r. ⌜ r ≡ isMarket l ⌝ }
+{
+    match l {
+        Layout::Market => true,
+        Layout::Mfrr => false,
+        Layout::Revocation => false,
+        Layout::Generic => false,
+        Layout::Exclusion => false,
+        Layout::Limitation => false,
+        Layout::Secondary => false,
+        Layout::VoltVar => false,
+        Layout::Rejection => false,
+        Layout::Reserve => false,
+    }
+}
+
+// A CB of either layout.
+pub fn is_command(l: Layout) -> bool
+    ensures { λ r. ⌜ r ≡ isCommand l ⌝ }
+{
+    match l {
+        Layout::Market => true,
+        Layout::Mfrr => true,
+        Layout::Revocation => false,
+        Layout::Generic => false,
+        Layout::Exclusion => false,
+        Layout::Limitation => false,
+        Layout::Secondary => false,
+        Layout::VoltVar => false,
+        Layout::Rejection => false,
+        Layout::Reserve => false,
+    }
+}
+
+// An RC.
+pub fn is_revocation(l: Layout) -> bool
+    ensures { λ r. ⌜ r ≡ isRevocation l ⌝ }
+{
+    match l {
+        Layout::Market => false,
+        Layout::Mfrr => false,
+        Layout::Revocation => true,
+        Layout::Generic => false,
+        Layout::Exclusion => false,
+        Layout::Limitation => false,
+        Layout::Secondary => false,
+        Layout::VoltVar => false,
+        Layout::Rejection => false,
+        Layout::Reserve => false,
     }
 }
 

@@ -3,6 +3,7 @@ use layout::Layout;
 use value::Kind;
 use value::Shape;
 use value_name::MessageType;
+use value_word::names;
 ghost use Rattle.layout.specs.Fields.{command, technical, Field};
 ghost use Rattle.layout.specs.Layouts.{kindAt, noKind};
 ghost use lib.ListN.{getD};
@@ -38,12 +39,12 @@ fn command_kind(k: usize) -> Kind
         3 => must(Shape::IsWhen),
         4 => must(Shape::IsAmount),
         5 => must(Shape::IsAmount),
-        6 => must(Shape::IsWord(1, 1)),
-        7 => must(Shape::IsWord(2, 3)),
-        8 => must(Shape::IsWord(5, 5)),
+        6 => must(Shape::IsWord(names::NORMALE, names::NORMALE)),
+        7 => must(Shape::IsWord(names::STAI, names::MANTIENI_DIFFERENZA)),
+        8 => must(Shape::IsWord(names::NO, names::NO)),
         9 => must(Shape::IsAmount),
         10 => must(Shape::IsAmount),
-        11 => must(Shape::IsWord(4, 5)),
+        11 => must(Shape::IsWord(names::SI, names::NO)),
         _ => may(Shape::IsNote),
     }
 }
@@ -55,10 +56,10 @@ fn technical_kind(k: usize) -> Kind
     match k {
         0 => may(Shape::IsAmount),
         1 => may(Shape::IsAmount),
-        2 => must(Shape::IsWord(4, 5)),
-        3 => must(Shape::IsWord(4, 5)),
+        2 => must(Shape::IsWord(names::SI, names::NO)),
+        3 => must(Shape::IsWord(names::SI, names::NO)),
         4 => must(Shape::IsWhen),
-        5 => must(Shape::IsWord(6, 7)),
+        5 => must(Shape::IsWord(names::GAUDI, names::SCWEB)),
         6 => may(Shape::IsWhen),
         7 => may(Shape::IsProfile),
         8 => may(Shape::IsProfile),
@@ -93,7 +94,7 @@ fn mfrr_kind(k: usize) -> Kind
         5 => must(Shape::IsWhen),
         6 => must(Shape::IsWhen),
         7 => must(Shape::IsAmount),
-        8 => must(Shape::IsWord(8, 9)),
+        8 => must(Shape::IsWord(names::SA, names::DA)),
         9 => must(Shape::IsAmount),
         10 => must(Shape::IsAmount),
         11 => must(Shape::IsAmount),
@@ -143,7 +144,7 @@ fn eb_kind(k: usize) -> Kind
         4 => must(Shape::IsWhen),
         5 => may(Shape::IsReason),
         6 => may(Shape::IsNote),
-        7 => must(Shape::IsWord(4, 5)),
+        7 => must(Shape::IsWord(names::SI, names::NO)),
         8 => must(Shape::IsWhen),
         _ => may(Shape::IsNote),
     }
@@ -162,7 +163,7 @@ fn lb_kind(k: usize) -> Kind
         6 => may(Shape::IsAmount),
         7 => may(Shape::IsReason),
         8 => may(Shape::IsNote),
-        9 => must(Shape::IsWord(4, 5)),
+        9 => must(Shape::IsWord(names::SI, names::NO)),
         10 => must(Shape::IsWhen),
         _ => may(Shape::IsNote),
     }
@@ -177,7 +178,7 @@ fn sr_kind(k: usize) -> Kind
         2 => must(Shape::IsUnit),
         3 => must(Shape::IsWhen),
         4 => must(Shape::IsWhen),
-        5 => must(Shape::IsWord(10, 12)),
+        5 => must(Shape::IsWord(names::SOSPENSIONE, names::PROGRAMMA)),
         6 => may(Shape::IsBands),
         7 => may(Shape::IsReason),
         8 => may(Shape::IsNote),
@@ -195,9 +196,9 @@ fn vq_kind(k: usize) -> Kind
         2 => must(Shape::IsUnit),
         3 => must(Shape::IsWhen),
         4 => may(Shape::IsWhen),
-        5 => may(Shape::IsWord(13, 14)),
-        6 => must(Shape::IsWord(15, 18)),
-        7 => may(Shape::IsWord(19, 22)),
+        5 => may(Shape::IsWord(names::I, names::E)),
+        6 => must(Shape::IsWord(names::RRT, names::MAN)),
+        7 => may(Shape::IsWord(names::PROFILO_MEMORIZZATO, names::POTENZA_REATTIVA)),
         8 => may(Shape::IsVoltage),
         9 => may(Shape::IsRegulator),
         10 => may(Shape::IsChange),
@@ -232,9 +233,9 @@ fn qr_kind(k: usize) -> Kind
         2 => must(Shape::IsUnit),
         3 => must(Shape::IsWhen),
         4 => must(Shape::IsWhen),
-        5 => must(Shape::IsWord(28, 29)),
+        5 => must(Shape::IsWord(names::RISERVA_A_SCENDERE, names::RISERVA_A_SALIRE)),
         6 => may(Shape::IsAmount),
-        7 => may(Shape::IsWord(30, 31)),
+        7 => may(Shape::IsWord(names::FINO_A_PMIN, names::FINO_A_PMAX)),
         8 => may(Shape::IsNote),
         9 => must(Shape::IsWhen),
         _ => may(Shape::IsNote),

@@ -17,7 +17,8 @@ use Rattle.reader.specs.State.{columnAt, Locates, Filling, verdict, Read
 use Rattle.reader.specs.declared.Early.{Early}
 use Rattle.reader.specs.declared.Located.{Located}
 use Rattle.reader.specs.declared.Reading.{Reading}
-use Rattle.record.specs.Records.{cell, gradientsField}
+use Rattle.layout.specs.FieldNumbers.{gradientsField}
+use Rattle.record.specs.Records.{cell}
 use Rattle.record.specs.declared.Cell.{Cell}
 use Rattle.record_rules.specs.Rules.{rulesOf, lowest}
 use Rattle.text.specs.Bytes.{same}

@@ -1,5 +1,6 @@
 -- The reader. Document 01, "Refusal numbers": 13, then 1 to 10 in number order, each with its detail; else the record.
 use Prim.Native.Nat.{ℕ, _≤_}
+use Rattle.layout.specs.FieldNumbers.{unitNo}
 use Rattle.layout.specs.Layouts.{labelsOf}
 use Rattle.layout.specs.Rows.{textAt, rowOf}
 use Rattle.layout.specs.declared.Layout.{Layout}
@@ -29,7 +30,7 @@ unfoldable pub valued : Layout → List ℕ → List ℕ → List (List ℕ) →
 valued l unit row col =
     refusal 7 (badOf (valuesOf l col)) (isBad (valuesOf l col))
     ∷ refusal 8 (brokenIn (columnRecord l col)) (ltb 0 (brokenIn (columnRecord l col)))
-    ∷ refusal 9 0 (not (same unit (textAt col 2)))
+    ∷ refusal 9 0 (not (same unit (textAt col unitNo)))
     ∷ refusal 10 0 (not (same row (rowOf l col)))
     ∷ []
 

@@ -1,6 +1,7 @@
 -- What the reader's parts hand on: where a message's values stand, and what is judged of them. No answer of the reader depends on how they do it.
 use Prim.Native.Nat.{ℕ, _-_, _≤_}
 use Rattle.reader_fill.specs.Filled.{filledOf, triplesOf, recordWith}
+use Rattle.layout.specs.FieldNumbers.{tipoComandoNo}
 use Rattle.layout.specs.Layouts.{kindsOf, sizeOf}
 use Rattle.layout.specs.Rows.{rowOf}
 use Rattle.layout.specs.declared.Layout.{Layout}
@@ -112,9 +113,9 @@ pub record Reads (ca ioa : ℕ) (plan file : List ℕ) (x : Reading) : Type 0 wh
       → recordWith (x .layout) (columnAt (x .layout) file (x .places)) (x .cells) (x .gradients) ≡ columnRecord (x .layout) (columnAt (x .layout) file (x .places))
   pub answers : concluded file x ≡ readOf ca ioa plan file
 
--- the bit of `Tipo Comando`, the field 8 of mFRR, in a CB file
+-- the bit of mFRR's `Tipo Comando`, in a CB file
 abbrev pub isMfrr : MessageType → ℕ → Bool
-isMfrr Cb seen = has seen 7
+isMfrr Cb seen = has seen (tipoComandoNo - 1)
 isMfrr Rc seen = false
 isMfrr Mg seen = false
 isMfrr Eb seen = false

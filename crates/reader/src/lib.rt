@@ -1,14 +1,17 @@
 // The reader: address, plan and file give the typed record, or one refusal with its detail and no record.
 use layout::Layout;
+use layout::fields;
 use reader_walk::Marks;
 use record::Cell;
 use record::Record;
+use record::at;
 use text::scan;
 use text_lines::Span;
 use value::Got;
 use value_list::Triple;
 use value_name::MessageType;
 ghost use Prim.Native.Nat.{_≤_};
+ghost use Rattle.layout.specs.FieldNumbers.{unitNo};
 ghost use Rattle.layout.specs.Layouts.{sizeOf};
 ghost use Rattle.layout.specs.Rows.{textAt, rowOf};
 ghost use Rattle.text_lines.specs.Places.{partOf, Placed};
@@ -78,6 +81,9 @@ struct Early {
 
 const NOWHERE: Span = Span { from: 0, to: 0 };
 
+// The bit of `Tipo Comando` among those of the fields that have a line.
+const TIPO_COMANDO: u32 = at::TIPO_COMANDO as u32;
+
 fn unplaced(number: u8, detail: usize) -> Located
     ensures { λ r. ⌜ r ≡ nowhere number detail ⌝ }
 {
@@ -115,12 +121,12 @@ fn place(l: Layout, row: Span, m: Marks, places: [Span; 27]) -> Located
     }
 }
 
-// A CB file is the mFRR layout when `Tipo Comando`, its field 8, has a line.
+// A CB file is the mFRR layout when `Tipo Comando` has a line.
 fn is_mfrr(t: MessageType, m: Marks) -> bool
     ensures { λ r. ⌜ r ≡ isMfrr t (m .seen) ⌝ }
 {
     match t {
-        MessageType::Cb => (m.seen >> 7) % 2 == 1,
+        MessageType::Cb => (m.seen >> TIPO_COMANDO) % 2 == 1,
         MessageType::Rc => false,
         MessageType::Mg => false,
         MessageType::Eb => false,
@@ -194,7 +200,7 @@ fn is_at(text: &[u8], file: &[u8], p: Span) -> bool
 fn judge(l: Layout, unit: &[u8], file: &[u8], row: Span, places: [Span; 27], broken: u8) -> Early
     requires { ⌜ (row .from ≤ row .to) × (row .to ≤ length (now file)) × Placed (sizeOf l) (now file) places ⌝ }
     ensures { λ r. ⌜ r ≡ verdict broken
-        (same (now (unit .entry)) (textAt (columnAt l (now (file .entry)) places) 2))
+        (same (now (unit .entry)) (textAt (columnAt l (now (file .entry)) places) unitNo))
         (same (partOf (now (file .entry)) row) (rowOf l (columnAt l (now (file .entry)) places))) ⌝ }
 {
     if broken != 0 {
@@ -203,7 +209,7 @@ fn judge(l: Layout, unit: &[u8], file: &[u8], row: Span, places: [Span; 27], bro
             detail: broken as usize,
         };
     }
-    if !is_at(unit, file, places[2]) {
+    if !is_at(unit, file, places[fields::UNIT]) {
         return Early {
             number: 9,
             detail: 0,
@@ -261,53 +267,63 @@ pub fn judged(ca: u32, ioa: u32, plan: &[u8], file: &[u8]) -> Reading
     }
     let broken = match l {
         Layout::Market => record_rules::of_market(
-            r.cells[2],
-            r.cells[3],
-            r.cells[17],
-            r.cells[18],
-            r.cells[19],
-            r.cells[20],
-            r.cells[21],
-            r.cells[22],
-            r.cells[23],
-            r.cells[24],
-            r.cells[25],
+            r.cells[at::START],
+            r.cells[at::END],
+            r.cells[at::ORIGIN],
+            r.cells[at::UPDATE],
+            r.cells[at::H1],
+            r.cells[at::H2],
+            r.cells[at::H3],
+            r.cells[at::H4],
+            r.cells[at::H5],
+            r.cells[at::H6],
+            r.cells[at::GRADIENTS],
             gradients,
         ),
-        Layout::Mfrr => record_rules::of_ramps(r.cells[2], r.cells[3], r.cells[4], r.cells[5]),
+        Layout::Mfrr => record_rules::of_ramps(
+            r.cells[at::START],
+            r.cells[at::TFIN1],
+            r.cells[at::TINI2],
+            r.cells[at::TFIN2],
+        ),
         Layout::Exclusion => record_rules::of_exclusion(
-            r.cells[2],
-            r.cells[3],
-            r.cells[4],
-            r.cells[6],
+            r.cells[at::START],
+            r.cells[at::END],
+            r.cells[at::EB_REASON],
+            r.cells[at::READMISSION],
         ),
         Layout::Limitation => record_rules::of_limitation(
-            r.cells[2],
-            r.cells[3],
-            r.cells[4],
-            r.cells[5],
-            r.cells[6],
-            r.cells[8],
+            r.cells[at::START],
+            r.cells[at::END],
+            r.cells[at::MAXIMUM],
+            r.cells[at::MINIMUM],
+            r.cells[at::LB_REASON],
+            r.cells[at::REINSTATEMENT],
         ),
         Layout::Secondary => record_rules::of_secondary(
-            r.cells[2],
-            r.cells[3],
-            r.cells[4],
-            r.cells[5],
+            r.cells[at::START],
+            r.cells[at::END],
+            r.cells[at::OPERATION],
+            r.cells[at::HALF_BANDS],
         ),
         Layout::VoltVar => record_rules::of_volt_var(
-            r.cells[2],
-            r.cells[3],
-            r.cells[4],
-            r.cells[5],
-            r.cells[6],
-            r.cells[7],
-            r.cells[8],
-            r.cells[9],
-            r.cells[10],
+            r.cells[at::START],
+            r.cells[at::END],
+            r.cells[at::STATE],
+            r.cells[at::MODE],
+            r.cells[at::REGULATION],
+            r.cells[at::VOLTAGE],
+            r.cells[at::REGULATOR],
+            r.cells[at::CHANGE],
+            r.cells[at::REACTIVE],
         ),
-        Layout::Reserve => record_rules::of_reserve(r.cells[2], r.cells[3], r.cells[5], r.cells[6]),
-        _ => record_rules::of_order(r.cells[2], r.cells[3]),
+        Layout::Reserve => record_rules::of_reserve(
+            r.cells[at::START],
+            r.cells[at::END],
+            r.cells[at::POWER],
+            r.cells[at::EXTENT],
+        ),
+        _ => record_rules::of_order(r.cells[at::START], r.cells[at::END]),
     };
     let unit = x.unit;
     let early = judge(l, scan::front(&unit, x.size), file, row, places, broken);

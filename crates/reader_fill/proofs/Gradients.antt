@@ -16,7 +16,7 @@ use Rattle.value_list.specs.Lists.{cutAt, consRead, everyOf, counted, someOf}
 use Rattle.value_list.specs.declared.GradientsRead.{GradientsRead}
 use Rattle.value_list.specs.declared.One.{One}
 use Rattle.value_list.specs.declared.One.the-variants.{No}
-use Rattle.record.specs.Records.{gradientsField}
+use Rattle.layout.specs.FieldNumbers.{gradientsField}
 use Rattle.text.proofs.Tests.{by-eq}
 use Rattle.text.specs.Bytes.{trim, skip, skipEnd}
 use Rattle.value.specs.Kinds.{triplesFrom, shapeOf, valueOf}

@@ -5,7 +5,8 @@ use Rattle.reader_fill.specs.Filled.{ahead, goodFront, triplesOf, record
 use Rattle.layout.specs.Rows.{textAt}
 use Rattle.layout.specs.declared.Layout.{Layout}
 use Rattle.value_list.specs.declared.Triple.{Triple}
-use Rattle.record.specs.Records.{Typed, joined, typed, cellsOf, recordOf, reasonField, noteField}
+use Rattle.layout.specs.FieldNumbers.{reasonField, noteField}
+use Rattle.record.specs.Records.{Typed, joined, typed, cellsOf, recordOf}
 use Rattle.record.specs.Records.Typed.{bad, good}
 use Rattle.record.specs.declared.Cell.{Cell}
 use Rattle.text_room.specs.Rooms.{keptIn}

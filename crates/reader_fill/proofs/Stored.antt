@@ -7,7 +7,8 @@ use Rattle.layout.specs.Layouts.{fieldsOf, kindsOf, kindAt, noKind, sizeOf, typ
 use Rattle.layout.specs.Rows.{textAt}
 use Rattle.layout.specs.declared.Layout.{Layout}
 use Rattle.layout.specs.declared.Layout.the-variants.{Market, Mfrr, Revocation, Generic, Exclusion, Limitation, Secondary, VoltVar, Rejection, Reserve}
-use Rattle.record.specs.Records.{reasonField, noteField, gradientsField, recordOf, roomsOf}
+use Rattle.layout.specs.FieldNumbers.{reasonField, noteField, gradientsField}
+use Rattle.record.specs.Records.{recordOf, roomsOf}
 use Rattle.text_room.specs.Rooms.{keptIn}
 use Rattle.value.proofs.Fit.{InRoom, StoredAs, Stored, in-room}
 use Rattle.value.specs.declared.Kind.{Kind}

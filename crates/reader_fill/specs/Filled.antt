@@ -5,7 +5,8 @@ use Rattle.layout.specs.Rows.{textAt}
 use Rattle.layout.specs.declared.Layout.{Layout}
 use Rattle.value_list.specs.Forms.{gradientsIn}
 use Rattle.value_list.specs.declared.Triple.{Triple}
-use Rattle.record.specs.Records.{typed, badOf, cellsOf, reasonField, noteField, gradientsField}
+use Rattle.layout.specs.FieldNumbers.{unitNo, reasonField, noteField, gradientsField}
+use Rattle.record.specs.Records.{typed, badOf, cellsOf}
 use Rattle.record.specs.declared.Cell.{Cell}
 use Rattle.record.specs.declared.Record.{Record}
 use Rattle.text_room.specs.Rooms.{keptIn}
@@ -51,7 +52,7 @@ recordWith l col cells triples =
     record {
       layout = l;
       cells = cells;
-      unit = keptIn 16 (textAt col 2);
+      unit = keptIn 16 (textAt col unitNo);
       reason = keptIn 128 (textAt col (reasonField l));
       note = keptIn 256 (textAt col (noteField l));
       gradients = triples;

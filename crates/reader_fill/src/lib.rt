@@ -1,5 +1,6 @@
 // From the places of a file's values to the record, field by field and by kind.
 use layout::Layout;
+use layout::fields;
 use record::Cell;
 use record::Record;
 use text_lines::Span;
@@ -14,7 +15,7 @@ ghost use Rattle.layout.specs.Layouts.{kindAt, sizeOf};
 ghost use Rattle.layout.specs.Rows.{textAt};
 ghost use Rattle.value_list.specs.Forms.{gradientsIn};
 ghost use Rattle.text_lines.specs.Places.{partOf, columnIn, Placed};
-ghost use Rattle.record.specs.Records.{gradientsField};
+ghost use Rattle.layout.specs.FieldNumbers.{gradientsField};
 ghost use Rattle.value.specs.Kinds.{valueOf};
 ghost use lib.ListN.{length};
 ghost use mathlib.Core.Path.{_≡_};
@@ -48,7 +49,7 @@ pub fn gradients_of(l: Layout, file: &[u8], spans: [Span; 27]) -> GradientsRead
     requires { ⌜ Placed (sizeOf l) (now file) spans ⌝ }
     ensures { λ r. ⌜ r ≡ gradientsIn (textAt (columnIn (sizeOf l) (now (file .entry)) spans) (gradientsField l)) ⌝ }
 {
-    let at = record::gradients_field(l);
+    let at = fields::gradients_field(l);
     if at == 0 {
         return triples::none();
     }
@@ -60,7 +61,7 @@ pub fn value_in(l: Layout, k: usize, file: &[u8], p: Span, good: bool, count: us
     requires { ⌜ (p .from ≤ p .to) × (p .to ≤ length (now file)) ⌝ }
     ensures { λ r. ⌜ r ≡ valueWith l k good count (partOf (now (file .entry)) p) ⌝ }
 {
-    if k == record::gradients_field(l) {
+    if k == fields::gradients_field(l) {
         if good {
             return Got::Read(Value::Triples(count));
         }
@@ -80,9 +81,9 @@ pub fn record_of(
     requires { ⌜ Placed (sizeOf l) (now file) spans ⌝ }
     ensures { λ r. ⌜ r ≡ recordWith l (columnIn (sizeOf l) (now (file .entry)) spans) cells gradients ⌝ }
 {
-    let unit = text_room::keep_unit(text_at(l, file, spans, 2));
-    let reason = text_room::keep_reason(text_at(l, file, spans, record::reason_field(l)));
-    let note = text_room::keep_note(text_at(l, file, spans, record::note_field(l)));
+    let unit = text_room::keep_unit(text_at(l, file, spans, fields::UNIT));
+    let reason = text_room::keep_reason(text_at(l, file, spans, fields::reason_field(l)));
+    let note = text_room::keep_note(text_at(l, file, spans, fields::note_field(l)));
     Record {
         layout: l,
         cells,

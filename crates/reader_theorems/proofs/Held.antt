@@ -15,7 +15,8 @@ use Rattle.value_name.proofs.RoundTrip.{unit-size}
 use Rattle.value_name.specs.Names.{isUnit}
 use Rattle.value_name.specs.declared.MessageType.{MessageType}
 use Rattle.record.proofs.Places.{At, unit-at, reason-at, note-at}
-use Rattle.record.specs.Records.{Typed, joined, typed, reasonField, noteField, gradientsField, recordOf, roomsOf}
+use Rattle.layout.specs.FieldNumbers.{reasonField, noteField, gradientsField}
+use Rattle.record.specs.Records.{Typed, joined, typed, recordOf, roomsOf}
 use Rattle.record.specs.Records.Typed.{bad, good}
 use Rattle.record.specs.declared.Record.{Record}
 use Rattle.text_room.specs.Rooms.{keptIn}

@@ -1,10 +1,10 @@
 -- Where the unit, the reason, the note and the gradients of a layout stand, by tests that antt computes over the tables. Assumes nothing.
 use Prim.Native.Nat.{ℕ, suc, _<_}
+use Rattle.layout.specs.FieldNumbers.{unitNo, reasonField, noteField, gradientsField}
 use Rattle.layout.specs.Fields.{market, command, technical, mfrr, rc, mg, eb, lb, sr, vq, ri, qr}
 use Rattle.layout.specs.Layouts.{fieldsOf, kindsOf, noKind}
 use Rattle.layout.specs.declared.Layout.{Layout}
 use Rattle.layout.specs.declared.Layout.the-variants.{Market, Mfrr, Revocation, Generic, Exclusion, Limitation, Secondary, VoltVar, Rejection, Reserve}
-use Rattle.record.specs.Records.{reasonField, noteField, gradientsField}
 use Rattle.value.specs.declared.Shape.{Shape}
 use Rattle.value.specs.declared.Shape.the-variants.{IsUnit, IsReason, IsNote, IsTriples}
 use borrow.Author.Tests.{ltb-true}
@@ -20,7 +20,7 @@ pub record At (l : Layout) (a : Shape) (k : ℕ) : Type 0 where
   pub inside : place < length (kindsOf l)
   pub shape-is : getD (kindsOf l) place noKind .shape ≡ a
 
-pub unit-at : (l : Layout) → At l IsUnit 2
+pub unit-at : (l : Layout) → At l IsUnit unitNo
 unfolding kindsOf fieldsOf market command technical mfrr rc mg eb lb sr vq ri qr
 unit-at Market = record { place = 1; field-is = refl; inside = ltb-true _ _ refl; shape-is = refl }
 unit-at Mfrr = record { place = 1; field-is = refl; inside = ltb-true _ _ refl; shape-is = refl }

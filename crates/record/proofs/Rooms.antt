@@ -1,16 +1,16 @@
 -- The fields that have a room of the record are fields of the layout. Assumes nothing.
 use Prim.Native.Nat.{_≤_}
 use Rattle.layout.proofs.Labels.{some-fields}
+use Rattle.layout.specs.FieldNumbers.{unitNo, reasonField, noteField, gradientsField}
 use Rattle.layout.specs.Fields.{command, technical, market, mfrr, rc, mg, eb, lb, sr, vq, ri, qr}
 use Rattle.layout.specs.Layouts.{fieldsOf, sizeOf}
 use Rattle.layout.specs.declared.Layout.the-variants.{Market, Mfrr, Revocation, Generic, Exclusion, Limitation, Secondary, VoltVar, Rejection, Reserve}
 use Rattle.layout.specs.declared.Layout.{Layout}
-use Rattle.record.specs.Records.{reasonField, noteField, gradientsField}
 use borrow.Author.Tests.{leb-true}
 use mathlib.Core.Path.{refl}
 use native.Mathlib.Omega.{arith}
 
-pub unit-in : (l : Layout) → 2 ≤ sizeOf l
+pub unit-in : (l : Layout) → unitNo ≤ sizeOf l
 unit-in l = omega (arith, some-fields l)
 
 pub reason-in : (l : Layout) → reasonField l ≤ sizeOf l

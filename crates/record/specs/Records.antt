@@ -1,9 +1,10 @@
 -- The typed record of a message, from the column of its trimmed values. Document 01, "Values" and "Written form": unused room in a record is zero;
 -- where a refusal must hand back a record, that record is all zero.
 use Prim.Native.Nat.{ℕ, suc, _-_}
+use Rattle.layout.specs.FieldNumbers.{unitNo, reasonField, noteField, gradientsField}
 use Rattle.layout.specs.Rows.{textAt}
 use Rattle.layout.specs.declared.Layout.{Layout}
-use Rattle.layout.specs.declared.Layout.the-variants.{Market, Mfrr, Revocation, Generic, Exclusion, Limitation, Secondary, VoltVar, Rejection, Reserve}
+use Rattle.layout.specs.declared.Layout.the-variants.{Market}
 use Rattle.value_list.specs.Forms.{gradientsIn, noTriple}
 use Rattle.record.specs.declared.Cell.{Cell}
 use Rattle.record.specs.declared.Record.{Record}
@@ -52,50 +53,13 @@ cellsOf vs = map cell vs ++ replicate (26 - length vs) (cell Blank)
 unfoldable pub fieldOf : List Cell → ℕ → Value
 fieldOf cells k = getD (cell Blank ∷ cells) k (cell Blank) .value
 
--- the field with the reason, with the note, with the gradients: 0 where the layout has none
-abbrev pub reasonField : Layout → ℕ
-reasonField Market = 0
-reasonField Mfrr = 0
-reasonField Revocation = 0
-reasonField Generic = 5
-reasonField Exclusion = 5
-reasonField Limitation = 7
-reasonField Secondary = 7
-reasonField VoltVar = 0
-reasonField Rejection = 5
-reasonField Reserve = 0
-
-abbrev pub noteField : Layout → ℕ
-noteField Market = 0
-noteField Mfrr = 0
-noteField Revocation = 0
-noteField Generic = 6
-noteField Exclusion = 6
-noteField Limitation = 8
-noteField Secondary = 8
-noteField VoltVar = 12
-noteField Rejection = 6
-noteField Reserve = 8
-
-abbrev pub gradientsField : Layout → ℕ
-gradientsField Market = 26
-gradientsField Mfrr = 0
-gradientsField Revocation = 0
-gradientsField Generic = 0
-gradientsField Exclusion = 0
-gradientsField Limitation = 0
-gradientsField Secondary = 0
-gradientsField VoltVar = 0
-gradientsField Rejection = 0
-gradientsField Reserve = 0
-
 -- THE DEFINITION: the record of a layout's column, with its values
 unfoldable pub recordOf : Layout → List (List ℕ) → List Value → Record
 recordOf l col vs =
     record {
       layout = l;
       cells = cellsOf vs;
-      unit = keptIn 16 (textAt col 2);
+      unit = keptIn 16 (textAt col unitNo);
       reason = keptIn 128 (textAt col (reasonField l));
       note = keptIn 256 (textAt col (noteField l));
       gradients = gradientsIn (textAt col (gradientsField l)) .list .values;

@@ -2,7 +2,8 @@
 use Rattle.value_ask.specs.Values.{sizeIn}
 use Rattle.layout.specs.Layouts.{kindsOf, sizeOf, typeOf}
 use Rattle.layout.specs.declared.Layout.{Layout}
-use Rattle.record.specs.Records.{fieldOf, reasonField, noteField, roomsOf}
+use Rattle.layout.specs.FieldNumbers.{reasonField, noteField}
+use Rattle.record.specs.Records.{fieldOf, roomsOf}
 use Rattle.record.specs.declared.Cell.{Cell}
 use Rattle.record.specs.declared.Record.{Record}
 use Rattle.record_rules.specs.Rules.{brokenIn}

@@ -6,7 +6,7 @@ use Rattle.layout.specs.declared.Layout.{Layout}
 use Rattle.value_list.specs.Forms.{noTriple}
 use Rattle.value_list.specs.declared.Triple.{Triple}
 use Rattle.record.proofs.Places.{gradients-at}
-use Rattle.record.specs.Records.{gradientsField}
+use Rattle.layout.specs.FieldNumbers.{gradientsField}
 use Rattle.record.specs.declared.Cell.{Cell}
 use Rattle.record_valid.specs.Valid.{HoldAll}
 use Rattle.record_check.specs.Validity.{noTriples}

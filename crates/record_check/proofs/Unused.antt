@@ -6,7 +6,7 @@ use Rattle.layout.specs.declared.Layout.{Layout}
 use Rattle.value_list.specs.declared.Triple.{Triple}
 use Rattle.record.proofs.Record.{the-type}
 use Rattle.record.proofs.Rooms.{reason-in, note-in}
-use Rattle.record.specs.Records.{reasonField, noteField, gradientsField}
+use Rattle.layout.specs.FieldNumbers.{reasonField, noteField, gradientsField}
 use Rattle.record.specs.declared.Record.{Record}
 use Rattle.text.specs.Bytes.{all}
 use Rattle.record_check.specs.Validity.{noTriples, isSized}

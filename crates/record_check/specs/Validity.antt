@@ -6,7 +6,8 @@ use Rattle.layout.specs.Layouts.{kindsOf, sizeOf, typeOf}
 use Rattle.layout.specs.declared.Layout.{Layout}
 use Rattle.value_list.specs.declared.Triple.{Triple}
 use Rattle.value_name.specs.declared.MessageType.{MessageType}
-use Rattle.record.specs.Records.{fieldOf, reasonField, noteField, gradientsField, roomsOf}
+use Rattle.layout.specs.FieldNumbers.{unitNo, reasonField, noteField, gradientsField}
+use Rattle.record.specs.Records.{fieldOf, roomsOf}
 use Rattle.record.specs.declared.Cell.{Cell}
 use Rattle.record.specs.declared.Record.{Record}
 use Rattle.record_rules.specs.Rules.{brokenIn}
@@ -33,7 +34,7 @@ isBlankCell c = not (isFilled (c .value))
 -- the rooms are zero past the texts of the unit, the reason and the note
 unfoldable pub areClear : Layout → List Cell → List ℕ → List ℕ → List ℕ → Bool
 areClear l cells unit reason note =
-    all (is 0) (drop (sizeIn (fieldOf cells 2)) unit)
+    all (is 0) (drop (sizeIn (fieldOf cells unitNo)) unit)
     && all (is 0) (drop (sizeIn (fieldOf cells (reasonField l))) reason)
     && all (is 0) (drop (sizeIn (fieldOf cells (noteField l))) note)
 

@@ -1,5 +1,6 @@
 // Unused room is zero.
 use layout::Layout;
+use layout::fields;
 use record::Cell;
 use text::scan;
 use value::Value;
@@ -33,14 +34,14 @@ fn value_at(cells: [Cell; 26], k: usize) -> Value
 pub fn are_clear(l: Layout, cells: [Cell; 26], unit: &[u8], reason: &[u8], note: &[u8]) -> bool
     ensures { λ r. ⌜ r ≡ areClear l cells (now (unit .entry)) (now (reason .entry)) (now (note .entry)) ⌝ }
 {
-    is_clear(unit, value_ask::size_in(record::field(cells, 2)))
+    is_clear(unit, value_ask::size_in(record::field(cells, fields::UNIT)))
         & is_clear(
             reason,
-            value_ask::size_in(value_at(cells, record::reason_field(l))),
+            value_ask::size_in(value_at(cells, fields::reason_field(l))),
         )
         & is_clear(
             note,
-            value_ask::size_in(value_at(cells, record::note_field(l))),
+            value_ask::size_in(value_at(cells, fields::note_field(l))),
         )
 }
 
@@ -48,7 +49,7 @@ pub fn are_clear(l: Layout, cells: [Cell; 26], unit: &[u8], reason: &[u8], note:
 pub fn has_no_triples(l: Layout, gradients: [Triple; 16]) -> bool
     ensures { λ r. ⌜ r ≡ noTriples l gradients ⌝ }
 {
-    if record::gradients_field(l) != 0 {
+    if fields::gradients_field(l) != 0 {
         return true;
     }
     value_fits::triples::are_none(gradients, 0)

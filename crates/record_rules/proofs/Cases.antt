@@ -10,6 +10,7 @@ use Rattle.record_voltvar.specs.Table.{table, formOf, voltVarLine, meets, inTab
 use Rattle.text.specs.Bytes.{any, all}
 use Rattle.value.specs.declared.Value.{Value}
 use Rattle.value.specs.declared.Value.the-variants.{Blank, When, Amount, Reason, Word, List as Numbers, Triples, Voltage, Change}
+use Rattle.value_word.specs.Names.{wSi, wNo, wGaudi, wScweb, wSospensione, wInserimento, wI, wRts, wVsrif, wVMax, wFinoAPmin}
 use lib.IntN.{ℤ, pos, negsuc}
 use lib.ListN.{replicate}
 use mathlib.Core.Bool.{Bool, true, false}
@@ -37,14 +38,14 @@ abbrev kv : Value
 kv = Voltage (record { 0 = pos 380000 })
 
 abbrev vMax : Value
-vMax = Word 23
+vMax = Word wVMax
 
 abbrev change : Value
 change = Change (record { 0 = pos 2000 })
 
 -- a VQ message of a state, mode RTS, regulation VSRIF, with a voltage and a change
 abbrev vsrif : Value → Value → Value → List Cell
-vsrif s v c = after 2 (at 10 true ∷ Blank ∷ s ∷ Word 16 ∷ Word 20 ∷ v ∷ Blank ∷ c ∷ Blank ∷ [])
+vsrif s v c = after 2 (at 10 true ∷ Blank ∷ s ∷ Word wRts ∷ Word wVsrif ∷ v ∷ Blank ∷ c ∷ Blank ∷ [])
 
 -- ---- 1. start before end
 
@@ -76,11 +77,11 @@ crossing = refl
 
 -- ---- 2. update date, 3. profile, 4. gradients
 
-with-scweb : updated (after 17 (Word 7 ∷ at 10 true ∷ [])) ≡ true
+with-scweb : updated (after 17 (Word wScweb ∷ at 10 true ∷ [])) ≡ true
 unfolding updated fieldOf
 with-scweb = refl
 
-with-gaudi : updated (after 17 (Word 6 ∷ at 10 true ∷ [])) ≡ false
+with-gaudi : updated (after 17 (Word wGaudi ∷ at 10 true ∷ [])) ≡ false
 unfolding updated fieldOf
 with-gaudi = refl
 
@@ -103,36 +104,36 @@ no-gradient = refl
 
 -- ---- 5. EB, 6. LB, 7. SR, 9. QR
 
-no-reason : excluded (after 4 (Blank ∷ Blank ∷ Word 5 ∷ [])) ≡ false
+no-reason : excluded (after 4 (Blank ∷ Blank ∷ Word wNo ∷ [])) ≡ false
 unfolding excluded fieldOf
 no-reason = refl
 
-readmitted : excluded (after 4 (Blank ∷ Blank ∷ Word 4 ∷ [])) ≡ true
+readmitted : excluded (after 4 (Blank ∷ Blank ∷ Word wSi ∷ [])) ≡ true
 unfolding excluded fieldOf
 readmitted = refl
 
-one-limit : limited (after 4 (Blank ∷ Amount (pos 5) ∷ Reason 3 ∷ Blank ∷ Word 5 ∷ [])) ≡ true
+one-limit : limited (after 4 (Blank ∷ Amount (pos 5) ∷ Reason 3 ∷ Blank ∷ Word wNo ∷ [])) ≡ true
 unfolding limited fieldOf
 one-limit = refl
 
 -- the maximum stands before the minimum
-crossed : limited (after 4 (Amount (pos 5) ∷ Amount (pos 6) ∷ Reason 3 ∷ Blank ∷ Word 5 ∷ [])) ≡ false
+crossed : limited (after 4 (Amount (pos 5) ∷ Amount (pos 6) ∷ Reason 3 ∷ Blank ∷ Word wNo ∷ [])) ≡ false
 unfolding limited fieldOf
 crossed = refl
 
-suspended : banded (after 4 (Word 10 ∷ Blank ∷ [])) ≡ true
+suspended : banded (after 4 (Word wSospensione ∷ Blank ∷ [])) ≡ true
 unfolding banded fieldOf
 suspended = refl
 
-inserted-blank : banded (after 4 (Word 11 ∷ Blank ∷ [])) ≡ false
+inserted-blank : banded (after 4 (Word wInserimento ∷ Blank ∷ [])) ≡ false
 unfolding banded fieldOf
 inserted-blank = refl
 
-negative : banded (after 4 (Word 11 ∷ two (pos 5) (negsuc 0) ∷ [])) ≡ false
+negative : banded (after 4 (Word wInserimento ∷ two (pos 5) (negsuc 0) ∷ [])) ≡ false
 unfolding banded fieldOf
 negative = refl
 
-one-quantity : quantified (after 5 (Blank ∷ Word 30 ∷ [])) ≡ true
+one-quantity : quantified (after 5 (Blank ∷ Word wFinoAPmin ∷ [])) ≡ true
 unfolding quantified fieldOf
 one-quantity = refl
 
@@ -143,12 +144,12 @@ no-quantity = refl
 -- ---- 8. VQ
 
 -- row 5: V MAX and a change
-row-five : inTable (vsrif (Word 13) vMax change) ≡ true
+row-five : inTable (vsrif (Word wI) vMax change) ≡ true
 unfolding inTable table voltVarLine formOf meets any fieldOf
 row-five = refl
 
 -- no row has a number of kV and a change
-kv-and-change : inTable (vsrif (Word 13) kv change) ≡ false
+kv-and-change : inTable (vsrif (Word wI) kv change) ≡ false
 unfolding inTable table voltVarLine formOf meets any fieldOf
 kv-and-change = refl
 
@@ -169,10 +170,10 @@ unfolding lowest rulesOf inOrder inTable table voltVarLine formOf meets any fiel
 lowest-one = refl
 
 -- rule 6 alone is
-lowest-six : lowest (rulesOf Limitation (after 2 (at 10 true ∷ at 11 true ∷ Blank ∷ Blank ∷ Reason 3 ∷ Blank ∷ Word 5 ∷ [])) []) ≡ 6
+lowest-six : lowest (rulesOf Limitation (after 2 (at 10 true ∷ at 11 true ∷ Blank ∷ Blank ∷ Reason 3 ∷ Blank ∷ Word wNo ∷ [])) []) ≡ 6
 unfolding lowest rulesOf inOrder limited fieldOf instantOf clockOf passed daysOf daysIn leap
 lowest-six = refl
 
-none-broken : lowest (rulesOf VoltVar (vsrif (Word 13) vMax change) []) ≡ 0
+none-broken : lowest (rulesOf VoltVar (vsrif (Word wI) vMax change) []) ≡ 0
 unfolding lowest rulesOf inOrder inTable table voltVarLine formOf meets any fieldOf instantOf clockOf passed daysOf daysIn leap
 none-broken = refl

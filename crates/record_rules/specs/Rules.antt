@@ -1,5 +1,7 @@
 -- The rules across fields, by number. Document 01, "Values": rules 1 to 9, on the record, so that validity of a record uses the same ones.
 use Prim.Native.Nat.{ℕ}
+use Rattle.layout.specs.FieldNumbers.{startNo, endNo, originNo, updateNo, h1No, h2No, h3No, h4No, h5No, h6No, gradientsNo, tfin1No, tini2No, tfin2No}
+use Rattle.layout.specs.FieldNumbers.{reasonField, readmissionNo, maximumNo, minimumNo, reinstatementNo, operationNo, halfBandsNo, powerNo, extentNo}
 use Rattle.layout.specs.declared.Layout.{Layout}
 use Rattle.layout.specs.declared.Layout.the-variants.{Market, Mfrr, Revocation, Generic, Exclusion, Limitation, Secondary, VoltVar, Rejection, Reserve}
 use Rattle.value_list.specs.declared.Triple.{Triple}
@@ -10,6 +12,7 @@ use Rattle.record_voltvar.specs.Table.{inTable}
 use Rattle.value_ask.specs.Values.{isFilled, instantIn, amountIn, isWord, triplesIn, notNegative}
 use Rattle.text.specs.Bytes.{all}
 use Rattle.value.specs.declared.Value.{Value}
+use Rattle.value_word.specs.Names.{wSi, wNo, wScweb, wSospensione}
 use lib.Dec.{leb, ltb}
 use lib.IntN.{pos}
 use lib.ListN.{take}
@@ -37,9 +40,9 @@ abbrev pub ramped : Value → Value → Value → Value → Bool
 ramped tini1 tfin1 tini2 tfin2 =
     ltb (instantIn tini1) (instantIn tfin1) && leb (instantIn tfin1) (instantIn tini2) && ltb (instantIn tini2) (instantIn tfin2)
 
--- 2. Update date filled exactly with SCWEB (word 7).
+-- 2. Update date filled exactly with SCWEB.
 abbrev pub updates : Value → Value → Bool
-updates origin update = iff (isFilled update) (isWord 7 origin)
+updates origin update = iff (isFilled update) (isWord wScweb origin)
 
 -- 3. Below a filled h line all are filled.
 abbrev pub fills : Value → Value → Value → Value → Value → Value → Bool
@@ -57,19 +60,19 @@ rises t = leZ (t .low) (t .high) && ltZ (pos 0) (t .gradient)
 abbrev pub slopes : Value → List Triple → Bool
 slopes bands gradients = all rises (take (triplesIn bands) gradients)
 
--- 5. EB reason filled exactly when `Riammissione` is NO (word 5).
+-- 5. EB reason filled exactly when `Riammissione` is NO.
 abbrev pub excludes : Value → Value → Bool
-excludes reason again = iff (isFilled reason) (isWord 5 again)
+excludes reason again = iff (isFilled reason) (isWord wNo again)
 
--- 6. LB: SI (word 4) leaves both limits and the reason blank; NO has a reason and at least one limit; minimum ≤ maximum if both.
+-- 6. LB: SI leaves both limits and the reason blank; NO has a reason and at least one limit; minimum ≤ maximum if both.
 abbrev pub limits : Value → Value → Value → Value → Bool
 limits high low reason again =
-    cond (isWord 4 again) (not (isFilled high) && not (isFilled low) && not (isFilled reason))
+    cond (isWord wSi again) (not (isFilled high) && not (isFilled low) && not (isFilled reason))
     (isFilled reason && (isFilled high || isFilled low) && onlyIf (isFilled high && isFilled low) (leZ (amountIn low) (amountIn high)))
 
--- 7. SR: two numbers, neither negative, or blank with SOSPENSIONE (word 10) only.
+-- 7. SR: two numbers, neither negative, or blank with SOSPENSIONE only.
 abbrev pub bands : Value → Value → Bool
-bands action band = cond (isFilled band) (notNegative band) (isWord 10 action)
+bands action band = cond (isFilled band) (notNegative band) (isWord wSospensione action)
 
 -- 9. QR: exactly one quantity filled.
 abbrev pub quantifies : Value → Value → Bool
@@ -79,31 +82,32 @@ quantifies power energy = iff (isFilled power) (not (isFilled energy))
 
 module _ (cells : List Cell) where
   unfoldable pub inOrder : Bool
-  inOrder = ordered (fieldOf cells 3) (fieldOf cells 4)
+  inOrder = ordered (fieldOf cells startNo) (fieldOf cells endNo)
 
   unfoldable pub ramps : Bool
-  ramps = ramped (fieldOf cells 3) (fieldOf cells 4) (fieldOf cells 5) (fieldOf cells 6)
+  ramps = ramped (fieldOf cells startNo) (fieldOf cells tfin1No) (fieldOf cells tini2No) (fieldOf cells tfin2No)
 
   unfoldable pub updated : Bool
-  updated = updates (fieldOf cells 18) (fieldOf cells 19)
+  updated = updates (fieldOf cells originNo) (fieldOf cells updateNo)
 
   unfoldable pub profiled : Bool
-  profiled = fills (fieldOf cells 20) (fieldOf cells 21) (fieldOf cells 22) (fieldOf cells 23) (fieldOf cells 24) (fieldOf cells 25)
+  profiled =
+      fills (fieldOf cells h1No) (fieldOf cells h2No) (fieldOf cells h3No) (fieldOf cells h4No) (fieldOf cells h5No) (fieldOf cells h6No)
 
   unfoldable pub sloped : List Triple → Bool
-  sloped gradients = slopes (fieldOf cells 26) gradients
+  sloped gradients = slopes (fieldOf cells gradientsNo) gradients
 
   unfoldable pub excluded : Bool
-  excluded = excludes (fieldOf cells 5) (fieldOf cells 7)
+  excluded = excludes (fieldOf cells (reasonField Exclusion)) (fieldOf cells readmissionNo)
 
   unfoldable pub limited : Bool
-  limited = limits (fieldOf cells 5) (fieldOf cells 6) (fieldOf cells 7) (fieldOf cells 9)
+  limited = limits (fieldOf cells maximumNo) (fieldOf cells minimumNo) (fieldOf cells (reasonField Limitation)) (fieldOf cells reinstatementNo)
 
   unfoldable pub banded : Bool
-  banded = bands (fieldOf cells 5) (fieldOf cells 6)
+  banded = bands (fieldOf cells operationNo) (fieldOf cells halfBandsNo)
 
   unfoldable pub quantified : Bool
-  quantified = quantifies (fieldOf cells 6) (fieldOf cells 7)
+  quantified = quantifies (fieldOf cells powerNo) (fieldOf cells extentNo)
 
 -- ---- a rule's number and whether it holds
 

@@ -2,6 +2,7 @@
 use layout::Layout;
 use record::Cell;
 use record::Record;
+use record::at;
 use value_ask::amount_in;
 use value_ask::instant_in;
 use value_ask::is_filled;
@@ -9,6 +10,7 @@ use value_ask::not_negative;
 use value_ask::triples_in;
 use value_ask::word_number;
 use value_list::Triple;
+use value_word::names;
 ghost use Rattle.record_rules.specs.Rules.{ordered, ramped, updates, fills, rises, slopes, excludes, limits, bands, quantifies, rule, lowest, rulesOf, brokenIn};
 ghost use Rattle.value_ask.specs.Values.{isFilled, isWord, instantIn, amountIn};
 ghost use Rattle.text.specs.Bytes.{all};
@@ -63,7 +65,7 @@ fn ramps(start1: Cell, end1: Cell, start2: Cell, end2: Cell) -> bool
 fn updated(origin: Cell, update: Cell) -> bool
     ensures { λ r. ⌜ r ≡ updates (origin .value) (update .value) ⌝ }
 {
-    filled(update) == says(origin, 7)
+    filled(update) == says(origin, names::SCWEB)
 }
 
 // 3. Below a filled h line all are filled.
@@ -113,7 +115,7 @@ fn sloped(listed: Cell, gradients: [Triple; 16]) -> bool
 fn excluded(reason: Cell, again: Cell) -> bool
     ensures { λ r. ⌜ r ≡ excludes (reason .value) (again .value) ⌝ }
 {
-    filled(reason) == says(again, 5)
+    filled(reason) == says(again, names::NO)
 }
 
 // The minimum of LB is at most its maximum.
@@ -132,7 +134,7 @@ fn limited(maximum: Cell, minimum: Cell, cause: Cell, ended: Cell) -> bool
     let high = filled(maximum);
     let low = filled(minimum);
     let reason = filled(cause);
-    if says(ended, 4) {
+    if says(ended, names::SI) {
         return !high & !low & !reason;
     }
     reason & (high | low) & (!(high & low) | at_most(maximum, minimum))
@@ -146,7 +148,7 @@ fn banded(operation: Cell, halves: Cell) -> bool
         let v = halves.value;
         return not_negative(v);
     }
-    says(operation, 10)
+    says(operation, names::SOSPENSIONE)
 }
 
 // 9. QR: exactly one quantity filled.
@@ -294,43 +296,63 @@ pub fn lowest_of(l: Layout, cells: [Cell; 26], gradients: [Triple; 16]) -> u8
 {
     match l {
         Layout::Market => of_market(
-            cells[2],
-            cells[3],
-            cells[17],
-            cells[18],
-            cells[19],
-            cells[20],
-            cells[21],
-            cells[22],
-            cells[23],
-            cells[24],
-            cells[25],
+            cells[at::START],
+            cells[at::END],
+            cells[at::ORIGIN],
+            cells[at::UPDATE],
+            cells[at::H1],
+            cells[at::H2],
+            cells[at::H3],
+            cells[at::H4],
+            cells[at::H5],
+            cells[at::H6],
+            cells[at::GRADIENTS],
             gradients,
         ),
-        Layout::Mfrr => of_ramps(cells[2], cells[3], cells[4], cells[5]),
-        Layout::Exclusion => of_exclusion(cells[2], cells[3], cells[4], cells[6]),
+        Layout::Mfrr => of_ramps(
+            cells[at::START],
+            cells[at::TFIN1],
+            cells[at::TINI2],
+            cells[at::TFIN2],
+        ),
+        Layout::Exclusion => of_exclusion(
+            cells[at::START],
+            cells[at::END],
+            cells[at::EB_REASON],
+            cells[at::READMISSION],
+        ),
         Layout::Limitation => of_limitation(
-            cells[2],
-            cells[3],
-            cells[4],
-            cells[5],
-            cells[6],
-            cells[8],
+            cells[at::START],
+            cells[at::END],
+            cells[at::MAXIMUM],
+            cells[at::MINIMUM],
+            cells[at::LB_REASON],
+            cells[at::REINSTATEMENT],
         ),
-        Layout::Secondary => of_secondary(cells[2], cells[3], cells[4], cells[5]),
+        Layout::Secondary => of_secondary(
+            cells[at::START],
+            cells[at::END],
+            cells[at::OPERATION],
+            cells[at::HALF_BANDS],
+        ),
         Layout::VoltVar => of_volt_var(
-            cells[2],
-            cells[3],
-            cells[4],
-            cells[5],
-            cells[6],
-            cells[7],
-            cells[8],
-            cells[9],
-            cells[10],
+            cells[at::START],
+            cells[at::END],
+            cells[at::STATE],
+            cells[at::MODE],
+            cells[at::REGULATION],
+            cells[at::VOLTAGE],
+            cells[at::REGULATOR],
+            cells[at::CHANGE],
+            cells[at::REACTIVE],
         ),
-        Layout::Reserve => of_reserve(cells[2], cells[3], cells[5], cells[6]),
-        _ => of_order(cells[2], cells[3]),
+        Layout::Reserve => of_reserve(
+            cells[at::START],
+            cells[at::END],
+            cells[at::POWER],
+            cells[at::EXTENT],
+        ),
+        _ => of_order(cells[at::START], cells[at::END]),
     }
 }
 

@@ -4,7 +4,8 @@ use Rattle.layout.specs.Layouts.{kindsOf, typeOf}
 use Rattle.layout.specs.Rows.{textAt}
 use Rattle.value_list.specs.Forms.{noTriple}
 use Rattle.value_name.specs.declared.MessageType.{MessageType}
-use Rattle.record.specs.Records.{cellsOf, reasonField, noteField, gradientsField, roomsOf}
+use Rattle.layout.specs.FieldNumbers.{reasonField, noteField, gradientsField}
+use Rattle.record.specs.Records.{cellsOf, roomsOf}
 use Rattle.record.specs.declared.Record.{Record}
 use Rattle.record_rules.specs.Rules.{brokenIn}
 use Rattle.text.specs.Puts.{roomOf}

@@ -3,13 +3,33 @@ use record::Cell;
 use value::Value;
 use value_ask::is_filled;
 use value_ask::word_number;
+use value_word::names::E;
+use value_word::names::I;
+use value_word::names::MAN;
+use value_word::names::NO_WORD;
+use value_word::names::POTENZA_REATTIVA;
+use value_word::names::PROFILO_MEMORIZZATO;
+use value_word::names::RAT;
+use value_word::names::RRT;
+use value_word::names::RTS;
+use value_word::names::TENSIONE_MT;
+use value_word::names::VSRIF;
 ghost use Prim.Native.Nat.{_<_};
 ghost use Rattle.record_voltvar.specs.Table.{line, table, formOf, lineIn, takes, meets, isRow};
 ghost use Rattle.value_ask.specs.Values.{wordNumber};
 ghost use lib.ListN.{getD};
 ghost use mathlib.Core.Path.{_≡_};
 
-// State, mode and regulation as words' numbers, 0 for a blank. A setting: 0 blank, 1 a number, 2 a word; of the table also 3, either.
+// What a setting is, and of the table also either of a number and a word.
+const BLANK: u8 = 0;
+
+const NUMBER: u8 = 1;
+
+const WORD: u8 = 2;
+
+const EITHER: u8 = 3;
+
+// State, mode and regulation are words, `NO_WORD` for a blank; the others are settings.
 pub struct Line {
     pub state: u8,
     pub mode: u8,
@@ -48,17 +68,17 @@ fn table_row(k: usize) -> Line
     ensures { λ r. ⌜ r ≡ getD table k (line 0 0 0 0 0 0 0) ⌝ }
 {
     match k {
-        0 => row_of(13, 15, 0, 0, 0, 0, 0),
-        1 => row_of(13, 16, 19, 0, 0, 0, 0),
-        2 => row_of(13, 16, 20, 3, 0, 0, 0),
-        3 => row_of(0, 16, 20, 1, 0, 0, 0),
-        4 => row_of(13, 16, 20, 2, 0, 1, 0),
-        5 => row_of(14, 17, 21, 0, 3, 0, 0),
-        6 => row_of(0, 17, 21, 0, 3, 0, 0),
-        7 => row_of(14, 17, 21, 0, 2, 1, 0),
-        8 => row_of(0, 17, 21, 0, 2, 1, 0),
-        9 => row_of(14, 18, 22, 0, 0, 0, 3),
-        _ => row_of(0, 18, 22, 0, 0, 0, 3),
+        0 => row_of(I, RRT, NO_WORD, BLANK, BLANK, BLANK, BLANK),
+        1 => row_of(I, RTS, PROFILO_MEMORIZZATO, BLANK, BLANK, BLANK, BLANK),
+        2 => row_of(I, RTS, VSRIF, EITHER, BLANK, BLANK, BLANK),
+        3 => row_of(NO_WORD, RTS, VSRIF, NUMBER, BLANK, BLANK, BLANK),
+        4 => row_of(I, RTS, VSRIF, WORD, BLANK, NUMBER, BLANK),
+        5 => row_of(E, RAT, TENSIONE_MT, BLANK, EITHER, BLANK, BLANK),
+        6 => row_of(NO_WORD, RAT, TENSIONE_MT, BLANK, EITHER, BLANK, BLANK),
+        7 => row_of(E, RAT, TENSIONE_MT, BLANK, WORD, NUMBER, BLANK),
+        8 => row_of(NO_WORD, RAT, TENSIONE_MT, BLANK, WORD, NUMBER, BLANK),
+        9 => row_of(E, MAN, POTENZA_REATTIVA, BLANK, BLANK, BLANK, EITHER),
+        _ => row_of(NO_WORD, MAN, POTENZA_REATTIVA, BLANK, BLANK, BLANK, EITHER),
     }
 }
 
@@ -67,12 +87,12 @@ fn form_of(v: Value) -> u8
     ensures { λ r. ⌜ r ≡ formOf v ⌝ }
 {
     if !is_filled(v) {
-        return 0;
+        return BLANK;
     }
-    if word_number(v) == 0 {
-        return 1;
+    if word_number(v) == NO_WORD {
+        return NUMBER;
     }
-    2
+    WORD
 }
 
 fn word_in(c: Cell) -> u8
@@ -89,7 +109,7 @@ fn form_in(c: Cell) -> u8
     form_of(v)
 }
 
-// The line of the fields 5 to 11.
+// The line of a message's values.
 fn line_of(
     state: Cell,
     mode: Cell,
@@ -115,7 +135,7 @@ fn line_of(
 fn takes(asked: u8, is: u8) -> bool
     ensures { λ r. ⌜ r ≡ takes asked is ⌝ }
 {
-    (is == asked) | ((asked == 3) & (1 <= is))
+    (is == asked) | ((asked == EITHER) & (NUMBER <= is))
 }
 
 fn fits(l: Line, row: Line) -> bool

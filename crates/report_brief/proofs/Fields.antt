@@ -1,17 +1,22 @@
 -- What is told of a record, as its fields and the answers of the functions give it. Assumes nothing.
-use Prim.Native.Nat.{ℕ, _≤_}
+use Prim.Native.Nat.{ℕ, _-_, _≤_}
 use Rattle.value_ask.specs.Values.{isFilled, numberIn, sizeIn, instantIn}
-use Rattle.report_brief.specs.Brief.{endField, endOf, instantText, toldOf, briefOf}
+use Rattle.layout.specs.FieldNumbers.{endField}
+use Rattle.report_brief.specs.Brief.{endOf, instantText, toldOf, briefOf}
 use Rattle.report_brief.specs.declared.Brief.{Brief}
 use Rattle.layout.specs.declared.Layout.{Layout}
 use Rattle.layout.specs.declared.Layout.the-variants.{Market, Mfrr, Revocation, Generic, Exclusion, Limitation, Secondary, VoltVar, Rejection, Reserve}
-use Rattle.record.specs.Records.{fieldOf}
+use Rattle.record.proofs.Fields.{field-at}
+use Rattle.record.specs.Records.{cell, fieldOf}
+use Rattle.record.specs.declared.Cell.{Cell}
 use Rattle.record.specs.declared.Record.{Record}
 use Rattle.text.specs.Digits.{wholeText}
 use Rattle.value.specs.declared.Value.{Value}
+use Rattle.value.specs.declared.Value.the-variants.{Blank}
+use lib.ListN.{getD}
 use mathlib.Core.Bool.{true, false}
 use mathlib.Core.List.{List, []}
-use mathlib.Core.Path.{_≡_, ap, _∙_}
+use mathlib.Core.Path.{_≡_, sym, ap, _∙_}
 use native.Mathlib.Omega.{arith}
 
 -- the field with the end is one of the record's
@@ -27,18 +32,25 @@ end-within VoltVar k e = (omega arith, omega arith)
 end-within Rejection k e = (omega arith, omega arith)
 end-within Reserve k e = (omega arith, omega arith)
 
--- from what is asked of the values
+-- what is asked of the values
 pub told-is : (l : Layout) (v w : Value) (u : List ℕ) (s e : Value) (n k : ℕ) → n ≡ numberIn v → k ≡ sizeIn w
     → record { layout = l; number = n; size = k; unit = u; start = s; end = e } ≡ toldOf l v w u s e
 unfolding toldOf
 told-is l v w u s e n k a b = rw (a, b)
 
--- from the values of the record's fields
-pub brief-is : (r : Record) (b : Brief) (v w s e : Value) (j : ℕ)
-    → v ≡ fieldOf (r .cells) 1 → w ≡ fieldOf (r .cells) 2 → s ≡ fieldOf (r .cells) 3 → j ≡ endField (r .layout) → e ≡ fieldOf (r .cells) j
-    → b ≡ toldOf (r .layout) v w (r .unit) s e → b ≡ briefOf r
-unfolding briefOf endOf
-brief-is r b v w s e j f g h i k t = t ∙ rw (f, g, h, k ∙ ap (fieldOf (r .cells)) i)
+-- the value in a cell
+abbrev pub valueAt : List Cell → ℕ → Value
+valueAt cells i = getD cells i (cell Blank) .value
+
+-- from the cells of a record's fields, the last of which is that before the number of the end's
+pub brief-is : (r : Record) (b : Brief) (k : ℕ) → k ≡ endField (r .layout)
+    → b ≡ toldOf (r .layout) (valueAt (r .cells) 0) (valueAt (r .cells) 1) (r .unit) (valueAt (r .cells) 2) (valueAt (r .cells) (k - 1))
+    → b ≡ briefOf r
+unfolding briefOf endOf fieldOf
+brief-is r b k e t =
+    let cells = r .cells in
+    let last = sym (field-at cells k (end-within (r .layout) k e .0)) ∙ ap (fieldOf cells) e in
+    t ∙ ap (toldOf (r .layout) (valueAt cells 0) (valueAt cells 1) (r .unit) (valueAt cells 2)) last
 
 pub filled-is : (v : Value) (n : ℕ) → isFilled v ≡ true → n ≡ instantIn v → wholeText 9 n ≡ instantText v
 unfolding instantText

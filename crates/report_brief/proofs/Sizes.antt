@@ -80,7 +80,7 @@ all-length : (a b c d : List ℕ) → length a ≤ 35 → length b ≤ 22 → le
 all-length a b c d f g h k = omega (arith, length-append (a ++ b ++ c) d, length-append (a ++ b) c, length-append a b)
 
 -- the six lines
-six-of : (b : Brief) → length (b .unit) ≡ 16 → length (sixOf b) ≤ 89
+pub six-of : (b : Brief) → length (b .unit) ≡ 16 → length (sixOf b) ≤ 89
 unfolding sixOf
 six-of b h =
     all-length

@@ -2,9 +2,9 @@
 use Prim.Native.Nat.{ℕ}
 use Rattle.value_ask.specs.Values.{isFilled, numberIn, sizeIn, instantIn}
 use Rattle.report_brief.specs.declared.Brief.{Brief}
+use Rattle.layout.specs.FieldNumbers.{identifierNo, unitNo, startNo, endField}
 use Rattle.layout.specs.Layouts.{typeOf}
 use Rattle.layout.specs.declared.Layout.{Layout}
-use Rattle.layout.specs.declared.Layout.the-variants.{Market, Mfrr, Revocation, Generic, Exclusion, Limitation, Secondary, VoltVar, Rejection, Reserve}
 use Rattle.value_name.specs.Types.{codeOf}
 use Rattle.record.specs.Records.{fieldOf}
 use Rattle.record.specs.declared.Record.{Record}
@@ -18,27 +18,15 @@ use mathlib.Core.List.{List, [], _∷_, _++_}
 -- ---- what is told of a record
 
 unfoldable pub messageNumber : Record → ℕ
-messageNumber r = numberIn (fieldOf (r .cells) 1)
+messageNumber r = numberIn (fieldOf (r .cells) identifierNo)
 
 -- the code of its unit
 unfoldable pub unitOf : Record → List ℕ
-unitOf r = take (sizeIn (fieldOf (r .cells) 2)) (r .unit)
+unitOf r = take (sizeIn (fieldOf (r .cells) unitNo)) (r .unit)
 
--- start and end: fields 3 and 4, mFRR's TINI1 and TFIN2
+-- start and end: of mFRR TINI1 and TFIN2
 abbrev pub startOf : Record → Value
-startOf r = fieldOf (r .cells) 3
-
-abbrev pub endField : Layout → ℕ
-endField Market = 4
-endField Mfrr = 6
-endField Revocation = 4
-endField Generic = 4
-endField Exclusion = 4
-endField Limitation = 4
-endField Secondary = 4
-endField VoltVar = 4
-endField Rejection = 4
-endField Reserve = 4
+startOf r = fieldOf (r .cells) startNo
 
 unfoldable pub endOf : Record → Value
 endOf r = fieldOf (r .cells) (endField (r .layout))
@@ -52,14 +40,14 @@ instantText v = cond (isFilled v) (wholeText 9 (instantIn v)) []
 abbrev pub lineText : List ℕ → List ℕ → List ℕ
 lineText key v = (key ++ v) ++ (10 ∷ [])
 
--- what is told of a message with these values of its fields 1, 2 and 3 and of its end, and its unit's room
+-- what is told of a message with these values of its identifier, unit, start and end, and its unit's room
 unfoldable pub toldOf : Layout → Value → Value → List ℕ → Value → Value → Brief
-toldOf l first second unit start end =
-    record { layout = l; number = numberIn first; size = sizeIn second; unit = unit; start = start; end = end }
+toldOf l identifier named unit start end =
+    record { layout = l; number = numberIn identifier; size = sizeIn named; unit = unit; start = start; end = end }
 
 -- what is told of a record
 unfoldable pub briefOf : Record → Brief
-briefOf r = toldOf (r .layout) (fieldOf (r .cells) 1) (fieldOf (r .cells) 2) (r .unit) (startOf r) (endOf r)
+briefOf r = toldOf (r .layout) (fieldOf (r .cells) identifierNo) (fieldOf (r .cells) unitNo) (r .unit) (startOf r) (endOf r)
 
 unfoldable pub sixOf : Brief → List ℕ
 sixOf b =

@@ -1,16 +1,20 @@
 // What is told of a record in brief, and its six lines.
 use layout::Layout;
+use layout::fields;
+use record::Cell;
 use record::Record;
+use record::at;
 use text::put;
+use text::put::Wrote;
 use text::scan;
 use value::Value;
 use value_name::MessageType;
 ghost use Prim.Native.Nat.{_+_, _<_};
-ghost use Rattle.report_brief.specs.Brief.{endField, instantText, lineText, toldOf, briefOf, sixOf};
+ghost use Rattle.report_brief.specs.Brief.{instantText, lineText, toldOf, briefOf, sixOf};
 ghost use Rattle.value_name.specs.Types.{codeOf};
 ghost use Rattle.text.specs.Bytes.{bytes};
 ghost use Rattle.text.specs.Digits.{wholeText};
-ghost use Rattle.text.specs.Puts.{limit};
+ghost use Rattle.text.specs.Puts.{limit, wroteOf, bufferOf};
 ghost use lib.ListN.{length};
 ghost use lib.Seq.{sets};
 ghost use mathlib.Core.List.{_++_};
@@ -26,42 +30,28 @@ pub struct Brief {
     pub end: Value,
 }
 
-// The field with the end: TFIN2 for mFRR.
-pub fn end_field(l: Layout) -> usize
-    ensures { λ r. ⌜ r ≡ endField l ⌝ }
-{
-    match l {
-        Layout::Mfrr => 6,
-        Layout::Market => 4,
-        Layout::Revocation => 4,
-        Layout::Generic => 4,
-        Layout::Exclusion => 4,
-        Layout::Limitation => 4,
-        Layout::Secondary => 4,
-        Layout::VoltVar => 4,
-        Layout::Rejection => 4,
-        Layout::Reserve => 4,
-    }
-}
-
-// What is told of a message with these values of its fields 1, 2 and 3 and of its end, and its unit's code in its room.
-pub fn of_values(
+// What is told of a message that was read, from the cells of its identifier, its unit, its start and its end, and its unit's code in its room.
+pub fn of_reading(
     layout: Layout,
-    first: Value,
-    second: Value,
+    identifier: Cell,
+    named: Cell,
     unit: [u8; 16],
-    start: Value,
-    end: Value,
+    start: Cell,
+    end: Cell,
 ) -> Brief
-    ensures { λ b. ⌜ b ≡ toldOf layout first second unit start end ⌝ }
+    ensures { λ b. ⌜ b ≡ toldOf layout (identifier .value) (named .value) unit (start .value) (end .value) ⌝ }
 {
+    let first = identifier.value;
+    let second = named.value;
+    let from = start.value;
+    let to = end.value;
     Brief {
         layout,
         number: value_ask::number_in(first),
         size: value_ask::size_in(second),
         unit,
-        start,
-        end,
+        start: from,
+        end: to,
     }
 }
 
@@ -72,13 +62,13 @@ pub fn of_record(r: Record) -> Brief
     let layout = r.layout;
     let cells = r.cells;
     let unit = r.unit;
-    of_values(
+    of_reading(
         layout,
-        record::field(cells, 1),
-        record::field(cells, 2),
+        cells[at::IDENTIFIER],
+        cells[at::UNIT],
         unit,
-        record::field(cells, 3),
-        record::field(cells, end_field(layout)),
+        cells[at::START],
+        cells[fields::end_field(layout) - 1],
     )
 }
 
@@ -140,4 +130,16 @@ pub fn put_lines(out: &mut [u8], at: usize, b: Brief) -> usize
     let sixth = put::put_text(out, fifth, b"\nend=");
     let last = put_instant(out, sixth, end);
     put::put_byte(out, last, b'\n')
+}
+
+// The six lines, written where out begins if there is room for them. They are put into a room of their own first: a refusal changes no byte.
+pub fn write_lines(out: &mut [u8], b: Brief) -> Wrote
+    ensures { λ r. ⌜ (r ≡ wroteOf (now (out .entry)) 0 (sixOf b)) × (now (out .exit) ≡ bufferOf (now (out .entry)) 0 (sixOf b)) ⌝ }
+{
+    let mut lines = [0u8; 89];
+    let size = put_lines(&mut lines, 0, b);
+    if out.len() < size {
+        return Wrote::NoRoom(size);
+    }
+    Wrote::To(put::put_text(out, 0, scan::front(&lines, size)))
 }

@@ -3,6 +3,7 @@ use text::scan;
 use value::Kind;
 use value::Shape;
 use value_name::MessageType;
+use value_word::names;
 
 pub(crate) enum Asked {
     Of(Kind),
@@ -34,7 +35,7 @@ fn setting_named(key: &[u8]) -> Asked {
         return or_blank(Shape::IsReactive);
     }
     if scan::same(key, b"operation") {
-        return filled(Shape::IsWord(10, 12));
+        return filled(Shape::IsWord(names::SOSPENSIONE, names::PROGRAMMA));
     }
     Asked::Unknown
 }

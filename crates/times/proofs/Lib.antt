@@ -1,4 +1,3 @@
-pub mod Markets
 pub mod Values
 pub mod Turns
 pub mod Lays

@@ -5,7 +5,7 @@ use Rattle.value_ask.specs.Values.{isFilled}
 use Rattle.report_brief.specs.Brief.{unitOf}
 use Rattle.layout.proofs.Labels.{labels-length}
 use Rattle.layout.specs.Fields.{command, technical, market}
-use Rattle.layout.specs.Layouts.{fieldsOf, labelsOf, kindsOf, labelAt, kindAt, sizeOf}
+use Rattle.layout.specs.Layouts.{isMarket, fieldsOf, labelsOf, kindsOf, labelAt, kindAt, sizeOf}
 use Rattle.layout.specs.declared.Layout.the-variants.{Market}
 use Rattle.layout.specs.declared.Layout.{Layout}
 use Rattle.text_lines.specs.Entries.{entries, valueAt, column}
@@ -22,11 +22,11 @@ use Rattle.times_sheet.specs.declared.Which.{Which}
 use Rattle.text.proofs.Cuts.{length-part}
 use Rattle.text.specs.Bytes.{part}
 use Rattle.times.proofs.Fields.{field-holds}
-use Rattle.times.proofs.Markets.{market-is}
+use Rattle.layout.proofs.Markets.{market-is}
 use Rattle.times.proofs.Taken.{Taken, taken, field-read, column-value}
 use Rattle.times.proofs.Told.{labelled}
 use Rattle.times.specs.Places.{fieldPart}
-use Rattle.times.specs.Times.{fieldNo, isMarket, inFile, inSheet, timeIn, timeOf, partIn, timeRefusal}
+use Rattle.times.specs.Times.{fieldNo, inFile, inSheet, timeIn, timeOf, partIn, timeRefusal}
 use Rattle.times.specs.declared.Time.the-variants.{File, Sheet, Refused}
 use Rattle.times.specs.declared.Time.{Time}
 use Rattle.value.specs.Kinds.{valueOf}

@@ -5,7 +5,7 @@ use Rattle.report_brief.specs.Brief.{unitOf}
 use Rattle.reader_fill.specs.Filled.{recordWith}
 use Rattle.layout.proofs.Labels.{good-label}
 use Rattle.layout.specs.Fields.{command, technical, market}
-use Rattle.layout.specs.Layouts.{fieldsOf, labelAt}
+use Rattle.layout.specs.Layouts.{isMarket, fieldsOf, labelAt}
 use Rattle.layout.specs.Rows.{textAt}
 use Rattle.layout.specs.declared.Layout.the-variants.{Market}
 use Rattle.reader.proofs.Concluding.{concluded-no, concluded-yes}
@@ -24,12 +24,12 @@ use Rattle.times_sheet.specs.declared.Which.the-variants.{StartUp, Ramp}
 use Rattle.times_sheet.specs.declared.Which.{Which}
 use Rattle.text.specs.Bytes.{part}
 use Rattle.times.proofs.Fields.{field-holds}
-use Rattle.times.proofs.Markets.{market-is}
+use Rattle.layout.proofs.Markets.{market-is}
 use Rattle.times.proofs.Taken.{Taken, taken}
 use Rattle.times.proofs.Time.{the-type}
 use Rattle.times.proofs.Units.{unit-is}
 use Rattle.times.specs.Places.{fieldPart}
-use Rattle.times.specs.Times.{fieldNo, isMarket, inFile, inSheet, timeIn, timeOf, partIn, StandsIn, timeRefusal}
+use Rattle.times.specs.Times.{fieldNo, inFile, inSheet, timeIn, timeOf, partIn, StandsIn, timeRefusal}
 use Rattle.times.specs.declared.Time.the-variants.{File, Sheet, Refused}
 use Rattle.times.specs.declared.Time.{Time}
 use borrow.Author.Tests.{leb-true, ne-eqb}

@@ -4,9 +4,9 @@
 use Prim.Native.Nat.{ℕ, _≤_}
 use Rattle.value_ask.specs.Values.{isFilled}
 use Rattle.report_brief.specs.Brief.{unitOf}
-use Rattle.layout.specs.Layouts.{labelAt}
-use Rattle.layout.specs.declared.Layout.the-variants.{Market, Mfrr, Revocation, Generic, Exclusion, Limitation, Secondary, VoltVar, Rejection, Reserve}
-use Rattle.layout.specs.declared.Layout.{Layout}
+use Rattle.layout.specs.FieldNumbers.{startUpNo, rampNo}
+use Rattle.layout.specs.Layouts.{isMarket, labelAt}
+use Rattle.layout.specs.declared.Layout.the-variants.{Market}
 use Rattle.reader.specs.Reader.{readOf}
 use Rattle.reader.specs.declared.Answer.{Answer}
 use Rattle.record.specs.Records.{fieldOf}
@@ -22,25 +22,13 @@ use Rattle.times.specs.declared.Time.the-variants.{File, Sheet, Refused}
 use Rattle.times.specs.declared.Time.{Time}
 use lib.Dec.{eqb}
 use lib.ListN.{length}
-use mathlib.Core.Bool.{Bool, true, false, cond}
+use mathlib.Core.Bool.{cond}
 use mathlib.Core.List.{List, []}
 
 -- the field of the market layout that holds it: `Tempo di avviamento`, `Tempo di rampa`
 abbrev pub fieldNo : Which → ℕ
-fieldNo StartUp = 13
-fieldNo Ramp = 14
-
-abbrev pub isMarket : Layout → Bool
-isMarket Market = true
-isMarket Mfrr = false
-isMarket Revocation = false
-isMarket Generic = false
-isMarket Exclusion = false
-isMarket Limitation = false
-isMarket Secondary = false
-isMarket VoltVar = false
-isMarket Rejection = false
-isMarket Reserve = false
+fieldNo StartUp = startUpNo
+fieldNo Ramp = rampNo
 
 abbrev pub inFile : Part → Time
 inFile p = File (p .from) (p .to)

@@ -1,9 +1,9 @@
 // Start-up and ramp times: the part of the message file that holds the value or, where the message leaves it blank, that part of the unit sheet.
 mod place;
 
-use layout::Layout;
+use layout::fields;
 use times_sheet::Which;
-ghost use Rattle.times.specs.Times.{fieldNo, isMarket, timeOf, partIn, StandsIn, timeRefusal};
+ghost use Rattle.times.specs.Times.{fieldNo, timeOf, partIn, StandsIn, timeRefusal};
 ghost use mathlib.Core.Path.{_≡_};
 
 // Where the time stands: in the file or in the sheet, from and up to; or a refusal's number and detail.
@@ -24,17 +24,8 @@ fn field_no(w: Which) -> usize
     ensures { λ r. ⌜ r ≡ fieldNo w ⌝ }
 {
     match w {
-        Which::StartUp => 13,
-        Which::Ramp => 14,
-    }
-}
-
-fn is_market(l: Layout) -> bool
-    ensures { λ r. ⌜ r ≡ isMarket l ⌝ }
-{
-    match l {
-        Layout::Market => true,
-        _ => false,
+        Which::StartUp => fields::START_UP,
+        Which::Ramp => fields::RAMP,
     }
 }
 
@@ -47,11 +38,11 @@ pub fn locate(w: Which, ca: u32, ioa: u32, plan: &[u8], file: &[u8], sheet: &[u8
         return Time::Refused(x.number, x.detail);
     }
     let l = x.layout;
-    if !is_market(l) {
+    if !layout::is_market(l) {
         return Time::Refused(16, 0);
     }
     let places = x.places;
-    if !times_sheet::is_for(reader_fill::text_at(l, file, places, 2), sheet) {
+    if !times_sheet::is_for(reader_fill::text_at(l, file, places, fields::UNIT), sheet) {
         return Time::Refused(14, 0);
     }
     let k = field_no(w);

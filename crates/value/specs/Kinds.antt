@@ -20,6 +20,7 @@ use Rattle.value.specs.declared.Shape.{Shape}
 use Rattle.value.specs.declared.Shape.the-variants.{IsId, IsUnit, IsWhen, IsAmount, IsCount, IsReason, IsNote, IsWord, IsProfile, IsBands, IsTriples, IsVoltage, IsRegulator, IsChange, IsReactive}
 use Rattle.value.specs.declared.Value.{Value}
 use Rattle.value.specs.declared.Value.the-variants.{Blank, Id, Unit, When, Amount, Count, Reason, Note, Word, List as Numbers, Triples, Voltage, Regulator, Change, Reactive}
+use Rattle.value_word.specs.Names.{wVMax, wVMin, wQZero, wMaxSottoeccitazione}
 use Rattle.value_word.specs.Words.{wordIn}
 use Rattle.value_word.specs.declared.Word.{Word as WordRead}
 use Rattle.value_word.specs.declared.Word.the-variants.{Is as IsText, Not as NoText}
@@ -81,7 +82,7 @@ change n = Change (record { 0 = n })
 abbrev pub reactive : ℤ → Value
 reactive n = Reactive (record { 0 = n })
 
--- ---- a trimmed text of a shape. Words: 23 and 24 are `V MAX` and `V MIN`, 25 to 27 `Q=0` and the two extremes.
+-- ---- a trimmed text of a shape
 
 unfoldable pub shapeOf : Shape → List ℕ → Got
 shapeOf (IsId t) s = idFrom (identifierOf t s)
@@ -95,10 +96,10 @@ shapeOf (IsWord first last) s = gotWord (wordIn first last s)
 shapeOf IsProfile s = listFrom (profileOf s)
 shapeOf IsBands s = listFrom (bandsOf s)
 shapeOf IsTriples s = triplesFrom (gradientsIn s)
-shapeOf IsVoltage s = settingFrom voltage (numberOf s) (gotWord (wordIn 23 24 s))
-shapeOf IsRegulator s = settingFrom regulator (numberOf s) (gotWord (wordIn 23 24 s))
+shapeOf IsVoltage s = settingFrom voltage (numberOf s) (gotWord (wordIn wVMax wVMin s))
+shapeOf IsRegulator s = settingFrom regulator (numberOf s) (gotWord (wordIn wVMax wVMin s))
 shapeOf IsChange s = settingFrom change (numberOf s) Bad
-shapeOf IsReactive s = settingFrom reactive (numberOf s) (gotWord (wordIn 25 27 s))
+shapeOf IsReactive s = settingFrom reactive (numberOf s) (gotWord (wordIn wQZero wMaxSottoeccitazione s))
 
 -- THE DEFINITION: a trimmed text of a kind. Where the kind lets a blank stand, the empty text is one.
 unfoldable pub valueOf : Kind → List ℕ → Got

@@ -15,6 +15,7 @@ use Rattle.value.specs.declared.Shape.{Shape}
 use Rattle.value.specs.declared.Shape.the-variants.{IsId, IsUnit, IsWhen, IsAmount, IsCount, IsReason, IsNote, IsWord, IsProfile, IsBands, IsTriples, IsVoltage, IsRegulator, IsChange, IsReactive}
 use Rattle.value.specs.declared.Value.{Value}
 use Rattle.value.specs.declared.Value.the-variants.{Blank, Id, Unit, When, Amount, Count, Reason, Note, Word, List as Numbers, Triples}
+use Rattle.value_word.specs.Names.{wVMax, wVMin, wQZero, wMaxSottoeccitazione, wFinoAPmax}
 use lib.IntN.{ℤ}
 use lib.ListN.{length, take}
 use mathlib.Core.Bool.{true}
@@ -36,17 +37,17 @@ pub data Fits (t : MessageType) (r : Rooms) : Shape → Value → Type 0 where
   count : {n : ℕ} → n < 10 ^ 10 → Fits t r IsCount (Count n)
   reason : {n : ℕ} → Kept 128 (r .reason) n → Fits t r IsReason (Reason n)
   note : {n : ℕ} → Kept 256 (r .note) n → Fits t r IsNote (Note n)
-  chosen : {first last w : ℕ} → 1 ≤ first → first ≤ w → w ≤ last → last ≤ 31 → Fits t r (IsWord first last) (Word w)
+  chosen : {first last w : ℕ} → 1 ≤ first → first ≤ w → w ≤ last → last ≤ wFinoAPmax → Fits t r (IsWord first last) (Word w)
   profile : {x : Few} → ValidNumbers 4 4 x → Fits t r IsProfile (Numbers x)
   bands : {x : Few} → ValidNumbers 2 2 x → Fits t r IsBands (Numbers x)
   triples : {n : ℕ} → ValidGradients (r .gradients) n → Fits t r IsTriples (Triples n)
   in-kv : {v : ℤ} → InRange v → Fits t r IsVoltage (voltage v)
-  kv-word : {w : ℕ} → 23 ≤ w → w ≤ 24 → Fits t r IsVoltage (Word w)
+  kv-word : {w : ℕ} → wVMax ≤ w → w ≤ wVMin → Fits t r IsVoltage (Word w)
   in-rat : {v : ℤ} → InRange v → Fits t r IsRegulator (regulator v)
-  rat-word : {w : ℕ} → 23 ≤ w → w ≤ 24 → Fits t r IsRegulator (Word w)
+  rat-word : {w : ℕ} → wVMax ≤ w → w ≤ wVMin → Fits t r IsRegulator (Word w)
   in-change : {v : ℤ} → InRange v → Fits t r IsChange (change v)
   in-mvar : {v : ℤ} → InRange v → Fits t r IsReactive (reactive v)
-  mvar-word : {w : ℕ} → 25 ≤ w → w ≤ 27 → Fits t r IsReactive (Word w)
+  mvar-word : {w : ℕ} → wQZero ≤ w → w ≤ wMaxSottoeccitazione → Fits t r IsReactive (Word w)
 
 -- a value of a kind: blank where it may be, or one that fits its shape
 pub data Holds (t : MessageType) (r : Rooms) (k : Kind) : Value → Type 0 where

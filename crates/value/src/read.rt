@@ -18,11 +18,13 @@ use value_name::sequence;
 use value_name::unit;
 use value_number::Number;
 use value_word::Word;
+use value_word::names;
 ghost use Rattle.value_date.specs.Date.{dateOf};
 ghost use Rattle.value_list.specs.Forms.{gradientsIn};
 ghost use Rattle.value_name.specs.Names.{identifierOf, sequenceOf};
 ghost use Rattle.value_number.specs.Number.{numberOf};
 ghost use Rattle.value.specs.Kinds.{idFrom, countFrom, dateFrom, amountFrom, gotWord, listFrom, triplesFrom, settingFrom, voltage, regulator, change, reactive, shapeOf, valueOf};
+ghost use Rattle.value_word.specs.Names.{wVMax, wVMin, wQZero, wMaxSottoeccitazione};
 ghost use Rattle.value_word.specs.Words.{wordIn};
 ghost use mathlib.Core.Path.{_≡_};
 
@@ -95,21 +97,21 @@ fn read_triples(s: &[u8]) -> Got
 
 // `Impostazione Sart/Report`: kV, `V MAX` or `V MIN`.
 fn read_voltage(s: &[u8]) -> Got
-    ensures { λ r. ⌜ r ≡ settingFrom voltage (numberOf (now (s .entry))) (gotWord (wordIn 23 24 (now (s .entry)))) ⌝ }
+    ensures { λ r. ⌜ r ≡ settingFrom voltage (numberOf (now (s .entry))) (gotWord (wordIn wVMax wVMin (now (s .entry)))) ⌝ }
 {
     match value_number::read(s) {
         Number::Is(n) => Got::Read(Value::Voltage(Kv(n))),
-        Number::Bad => read_word(23, 24, s),
+        Number::Bad => read_word(names::V_MAX, names::V_MIN, s),
     }
 }
 
 // `Impostazione RAT`: per cent of the RAT, `V MAX` or `V MIN`.
 fn read_regulator(s: &[u8]) -> Got
-    ensures { λ r. ⌜ r ≡ settingFrom regulator (numberOf (now (s .entry))) (gotWord (wordIn 23 24 (now (s .entry)))) ⌝ }
+    ensures { λ r. ⌜ r ≡ settingFrom regulator (numberOf (now (s .entry))) (gotWord (wordIn wVMax wVMin (now (s .entry)))) ⌝ }
 {
     match value_number::read(s) {
         Number::Is(n) => Got::Read(Value::Regulator(RatPercent(n))),
-        Number::Bad => read_word(23, 24, s),
+        Number::Bad => read_word(names::V_MAX, names::V_MIN, s),
     }
 }
 
@@ -125,11 +127,11 @@ fn read_change(s: &[u8]) -> Got
 
 // `Potenza reattiva`: MVar, `Q=0`, or one of the two extremes.
 fn read_reactive(s: &[u8]) -> Got
-    ensures { λ r. ⌜ r ≡ settingFrom reactive (numberOf (now (s .entry))) (gotWord (wordIn 25 27 (now (s .entry)))) ⌝ }
+    ensures { λ r. ⌜ r ≡ settingFrom reactive (numberOf (now (s .entry))) (gotWord (wordIn wQZero wMaxSottoeccitazione (now (s .entry)))) ⌝ }
 {
     match value_number::read(s) {
         Number::Is(n) => Got::Read(Value::Reactive(MVar(n))),
-        Number::Bad => read_word(25, 27, s),
+        Number::Bad => read_word(names::Q_ZERO, names::MAX_SOTTOECCITAZIONE, s),
     }
 }
 

@@ -15,6 +15,7 @@ use Rattle.value.specs.declared.Shape.{Shape}
 use Rattle.value.specs.declared.Shape.the-variants.{IsId, IsUnit, IsWhen, IsAmount, IsCount, IsReason, IsNote, IsWord, IsProfile, IsBands, IsTriples, IsVoltage, IsRegulator, IsChange, IsReactive}
 use Rattle.value.specs.declared.Value.{Value}
 use Rattle.value.specs.declared.Value.the-variants.{Blank, Id, Unit, When, Amount, Count, Reason, Note, Word, List as Numbers, Triples, Voltage, Regulator, Change, Reactive}
+use Rattle.value_word.specs.Names.{wVMax, wVMin, wQZero, wMaxSottoeccitazione, wFinoAPmax}
 use lib.Dec.{eqb, leb, ltb}
 use lib.IntN.{ℤ, pos, negsuc, natAbs}
 use lib.ListN.{length, take, drop}
@@ -66,10 +67,10 @@ firstWord (IsWord first last) = first
 firstWord IsProfile = 1
 firstWord IsBands = 1
 firstWord IsTriples = 1
-firstWord IsVoltage = 23
-firstWord IsRegulator = 23
+firstWord IsVoltage = wVMax
+firstWord IsRegulator = wVMax
 firstWord IsChange = 1
-firstWord IsReactive = 25
+firstWord IsReactive = wQZero
 
 abbrev pub lastWord : Shape → ℕ
 lastWord (IsId t) = 0
@@ -83,10 +84,10 @@ lastWord (IsWord first last) = last
 lastWord IsProfile = 0
 lastWord IsBands = 0
 lastWord IsTriples = 0
-lastWord IsVoltage = 24
-lastWord IsRegulator = 24
+lastWord IsVoltage = wVMin
+lastWord IsRegulator = wVMin
 lastWord IsChange = 0
-lastWord IsReactive = 27
+lastWord IsReactive = wMaxSottoeccitazione
 
 -- how many numbers: 0 where it takes no list of them
 abbrev pub numbersMost : Shape → ℕ
@@ -107,7 +108,7 @@ numbersMost IsChange = 0
 numbersMost IsReactive = 0
 
 unfoldable pub isAmong : Shape → ℕ → Bool
-isAmong s w = leb 1 (firstWord s) && leb (firstWord s) w && leb w (lastWord s) && leb (lastWord s) 31
+isAmong s w = leb 1 (firstWord s) && leb (firstWord s) w && leb w (lastWord s) && leb (lastWord s) wFinoAPmax
 
 -- ---- numbers that can be written: six digits before the point and three after it
 

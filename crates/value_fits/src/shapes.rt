@@ -1,6 +1,7 @@
 // What a shape takes: its own number, which words, and how many numbers.
 use value::Shape;
 use value_name::MessageType;
+use value_word::names;
 ghost use Rattle.value_fits.specs.Fits.{typeNumber, shapeNumber, firstWord, lastWord, numbersMost, isAmong};
 ghost use mathlib.Core.Path.{_≡_};
 
@@ -49,9 +50,9 @@ fn first_word(s: Shape) -> u8
 {
     match s {
         Shape::IsWord(first, _) => first,
-        Shape::IsVoltage => 23,
-        Shape::IsRegulator => 23,
-        Shape::IsReactive => 25,
+        Shape::IsVoltage => names::V_MAX,
+        Shape::IsRegulator => names::V_MAX,
+        Shape::IsReactive => names::Q_ZERO,
         _ => 1,
     }
 }
@@ -61,9 +62,9 @@ fn last_word(s: Shape) -> u8
 {
     match s {
         Shape::IsWord(_, last) => last,
-        Shape::IsVoltage => 24,
-        Shape::IsRegulator => 24,
-        Shape::IsReactive => 27,
+        Shape::IsVoltage => names::V_MIN,
+        Shape::IsRegulator => names::V_MIN,
+        Shape::IsReactive => names::MAX_SOTTOECCITAZIONE,
         _ => 0,
     }
 }
@@ -73,7 +74,7 @@ pub fn is_among(s: Shape, w: u8) -> bool
 {
     let first = first_word(s);
     let last = last_word(s);
-    (1 <= first) & (first <= w) & (w <= last) & (last <= 31)
+    (1 <= first) & (first <= w) & (w <= last) & (last <= names::FINO_A_PMAX)
 }
 
 // How many numbers a shape takes: 0 where it takes no list of them.

@@ -1,3 +1,4 @@
+pub mod Named
 pub mod Table
 pub mod RoundTrip
 pub mod Arms

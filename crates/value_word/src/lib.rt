@@ -1,4 +1,6 @@
 // The constants of the layouts, as words numbered once for all of them. One table serves the reader and the writer.
+pub mod names;
+
 use text::put;
 use text::scan;
 use text::words;

@@ -19,7 +19,8 @@ use Rattle.reader.specs.declared.Reading.{Reading}
 use Rattle.reader_theorems.proofs.Held.{ReadAll, read-all}
 use Rattle.reader_theorems.proofs.Held.ReadAll.{end, next}
 use Rattle.reader_theorems.proofs.Validity.{good-of, read-short}
-use Rattle.record.specs.Records.{cell, cellsOf, recordOf, reasonField, noteField, gradientsField, typed}
+use Rattle.layout.specs.FieldNumbers.{reasonField, noteField, gradientsField}
+use Rattle.record.specs.Records.{cell, cellsOf, recordOf, typed}
 use Rattle.record.specs.Records.Typed.{good}
 use Rattle.record.specs.declared.Cell.{Cell}
 use Rattle.record.specs.declared.Record.{Record}

@@ -13,7 +13,8 @@ use Rattle.reader.specs.declared.Answer.{Answer}
 use Rattle.reader.specs.declared.Reading.{Reading}
 use Rattle.reader_theorems.proofs.Held.{unit-short, reason-short, note-short}
 use Rattle.reader_theorems.proofs.Validity.{good-of}
-use Rattle.record.specs.Records.{typed, reasonField, noteField, roomsOf}
+use Rattle.layout.specs.FieldNumbers.{reasonField, noteField}
+use Rattle.record.specs.Records.{typed, roomsOf}
 use Rattle.record.specs.Records.Typed.{good}
 use Rattle.record.specs.declared.Record.{Record}
 use Rattle.value_put.specs.Rooms.{Narrow}

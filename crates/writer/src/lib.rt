@@ -1,5 +1,6 @@
 // The writer, record to file, and the normaliser, accepted file to the written form of its record. A refusal changes no byte of the output.
 use layout::Layout;
+use layout::fields;
 use record::Cell;
 use record::Record;
 use text_lines::Span;
@@ -141,9 +142,9 @@ pub fn normalise(ca: u32, ioa: u32, plan: &[u8], file: &[u8], out: &mut [u8]) ->
     put_file(
         l,
         cells,
-        reader_fill::text_at(l, file, places, 2),
-        reader_fill::text_at(l, file, places, record::reason_field(l)),
-        reader_fill::text_at(l, file, places, record::note_field(l)),
+        reader_fill::text_at(l, file, places, fields::UNIT),
+        reader_fill::text_at(l, file, places, fields::reason_field(l)),
+        reader_fill::text_at(l, file, places, fields::note_field(l)),
         gradients,
         out,
     )

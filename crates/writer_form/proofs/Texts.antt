@@ -11,7 +11,8 @@ use Rattle.value_list.specs.declared.Triple.{Triple}
 use Rattle.value_name.proofs.RoundTrip.{unit-size}
 use Rattle.value_name.specs.declared.MessageType.{MessageType}
 use Rattle.record.proofs.Places.{At, Owed, unit-at, reason-at, note-at}
-use Rattle.record.specs.Records.{fieldOf, reasonField, noteField}
+use Rattle.layout.specs.FieldNumbers.{reasonField, noteField}
+use Rattle.record.specs.Records.{fieldOf}
 use Rattle.record.specs.declared.Cell.{Cell}
 use Rattle.record_valid.proofs.Hold.{hold-at}
 use Rattle.record_valid.specs.Valid.{HoldAll}

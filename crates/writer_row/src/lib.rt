@@ -34,7 +34,7 @@ fn put_pieces(
 {
     let t = layout::type_of(l);
     let n = layout::row::size(l);
-    let c = cells[0];
+    let c = cells[record::at::IDENTIFIER];
     let v = c.value;
     let mut p = value_put::put_value(out, at, t, v, unit, reason, note, gradients);
     let mut i = 1;
@@ -87,7 +87,7 @@ pub fn put_row(
         × (now (out .exit) ≡ sets (now (out .entry)) at (rowOf l (map (valueText (typeOf l) (rooms (now (unit .entry)) (now (reason .entry)) (now (note .entry)) gradients)) (valuesIn l cells)))) ⌝ }
 {
     let to = put_pieces(out, at, l, cells, unit, reason, note, gradients);
-    let c = cells[5];
+    let c = cells[record::at::HALF_BANDS];
     let v = c.value;
     match l {
         Layout::Secondary => put_halves(out, to, MessageType::Sr, v, unit, reason, note, gradients),

@@ -11,7 +11,8 @@ use Rattle.value_name.specs.declared.MessageType.{MessageType}
 use Rattle.reader_theorems.proofs.Held.{no-gradients}
 use Rattle.record.proofs.Places.{gradients-at}
 use Rattle.record.specs.Records.Typed.{good}
-use Rattle.record.specs.Records.{joined, typed, fieldOf, reasonField, noteField, gradientsField, recordOf, roomsOf}
+use Rattle.layout.specs.FieldNumbers.{reasonField, noteField, gradientsField}
+use Rattle.record.specs.Records.{joined, typed, fieldOf, recordOf, roomsOf}
 use Rattle.record.specs.declared.Record.{Record}
 use Rattle.text_room.specs.Rooms.{keptIn}
 use Rattle.text.specs.Bytes.{all, tidy}

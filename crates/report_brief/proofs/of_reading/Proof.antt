@@ -1,7 +1,7 @@
 -- The two that are asked of values.
 use Rattle.report_brief.proofs.Fields.{told-is}
-use Rattle.report_brief.proofs.of_values.Statement.{statement}
-use Rattle.report_brief.proofs.of_values.Tie as tie
+use Rattle.report_brief.proofs.of_reading.Statement.{statement}
+use Rattle.report_brief.proofs.of_reading.Tie as tie
 use borrow.Author.Needs.{needs}
 
 number-in-requires : tie.Need-number-in-requires
@@ -13,5 +13,5 @@ size-in-requires c κs = search needs
 returns : tie.Need-returns
 returns c = told-is _ _ _ _ _ _ _ _ (c .before .number-in .ensures) (c .size-in .ensures)
 
-pub of-values-spec : {M : Type 1} → statement M
-of-values-spec = tie.close (tie.spec number-in-requires size-in-requires returns)
+pub of-reading-spec : {M : Type 1} → statement M
+of-reading-spec = tie.close (tie.spec number-in-requires size-in-requires returns)
