@@ -4,7 +4,7 @@ use text_lines::Break;
 use text_lines::Span;
 use value_name::MessageType;
 ghost use Prim.Native.Nat.{_+_, _<_, _≤_};
-ghost use Rattle.reader_walk.specs.State.{notedOf, frameOf, Whole};
+ghost use Rattle.reader_walk.specs.State.{notedOf, frameOf, stoppedAt, foundOf};
 ghost use Rattle.text.specs.Puts.{limit};
 ghost use lib.Dec.{eqb};
 ghost use lib.ListN.{length};
@@ -135,10 +135,24 @@ fn turn_after(turn: usize, first: usize, second: usize) -> usize
     turn
 }
 
-// One walk over the file, to its end or to the first byte that is not allowed.
+// Nothing but where the first byte stands that is not allowed.
+fn stopped(at: usize) -> Found
+    ensures { λ r. ⌜ r ≡ stoppedAt at ⌝ }
+{
+    Found {
+        stop: at,
+        frame: OUTSET,
+        first: NOTHING,
+        places: [NOWHERE; 27],
+        second: NOTHING,
+        others: [NOWHERE; 27],
+    }
+}
+
+// One walk over the file, to its end or to the first byte that is not allowed. The first of the places is where lines without a new field leave theirs.
 pub fn walk(t: MessageType, s: &[u8]) -> Found
     requires { ⌜ length (now s) ≤ 8192 ⌝ }
-    ensures { λ r. ⌜ Whole t (now (s .entry)) r ⌝ }
+    ensures { λ r. ⌜ r ≡ foundOf t (now (s .entry)) ⌝ }
 {
     let mut frame = OUTSET;
     let mut first = NOTHING;
@@ -151,8 +165,7 @@ pub fn walk(t: MessageType, s: &[u8]) -> Found
         let item = reader_line::line_of(t, s, at, frame.seps, turn);
         let end = item.end;
         let Break::After(n) = text_lines::break_at(s, end) else {
-            at = end;
-            break;
+            return stopped(end);
         };
         let value = item.value;
         frame = frame_in(frame, item.separator, value);
@@ -167,6 +180,8 @@ pub fn walk(t: MessageType, s: &[u8]) -> Found
         turn = turn_after(turn, item.first, item.second);
         at = end + n;
     }
+    places[0] = NOWHERE;
+    others[0] = NOWHERE;
     Found {
         stop: at,
         frame,

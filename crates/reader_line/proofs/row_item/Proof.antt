@@ -1,9 +1,8 @@
 -- The text of the line is what the place of its trim holds.
-use Rattle.reader_line.proofs.Meanings.{is-row}
+use Rattle.reader_line.proofs.Meanings.{row-is}
 use Rattle.reader_line.proofs.row_item.Statement.{statement}
 use Rattle.reader_line.proofs.row_item.Tie as tie
 use borrow.Author.Needs.{needs}
-use mathlib.Core.Path.{refl}
 
 trim-span-requires : tie.Need-trim-span-requires
 trim-span-requires c κs = search needs
@@ -27,7 +26,10 @@ is-separator-requires : tie.Need-is-separator-requires
 is-separator-requires c κs = search needs
 
 returns : tie.Need-returns
-returns c = (refl, is-row _ _ _ _ _ _ (c .is-separator .ensures) (c .before .before .before .before .trim-span .ensures))
+returns c =
+    let trimmed = c .before .before .before .before in
+    let z = trimmed .before in
+    row-is _ _ _ _ (z .pre .0) (z .pre .1) _ (trimmed .trim-span .ensures) _ (c .is-separator .ensures)
 
 pub row-item-spec : {M : Type 1} → statement M
 row-item-spec =
