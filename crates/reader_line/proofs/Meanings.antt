@@ -99,6 +99,10 @@ pub its-field : (ls : List (List ℕ)) (l : List ℕ) → any (is 61) l ≡ true
 unfolding fieldIn
 its-field ls l e = rw e
 
+with-value : (end at : ℕ) (l : List ℕ) (f g : ℕ) (v : Span) → v ≡ valueSpan at l → (eqb f 0 && eqb g 0) ≡ false → item end false f g v ≡ fielded end f g at l
+unfolding fielded
+with-value end at l f g v v-is z = rw (z, v-is)
+
 module _ (t : MessageType) (end at : ℕ) (l : List ℕ) (e : ℕ) (he : e ≡ firstOf 61 l) where
   abbrev Line : Item → Type 0
   Line i = i ≡ fielded end (fieldIn (firstLabels t) l) (fieldIn (secondLabels t) l) at l
@@ -128,11 +132,7 @@ module _ (t : MessageType) (end at : ℕ) (l : List ℕ) (e : ℕ) (he : e ≡ f
 
     -- a field's label
     pub a-label : (v : Span) → v ≡ valueSpan at l → (eqb f 0 && eqb g 0) ≡ false → Line (item end false f g v)
-    a-label v v-is z = with-value ∙ fields-are
-      where
-        with-value : item end false f g v ≡ fielded end f g at l
-        unfolding fielded
-        with-value = rw (z, v-is)
+    a-label v v-is z = with-value end at l f g v v-is z ∙ fields-are
 
 -- where the value stands, by the line's ends
 module _ (file : List ℕ) (at end e : ℕ) (ordered : at ≤ end) (inside : end ≤ length file) (he : e ≡ firstOf 61 (part at end file))

@@ -114,23 +114,28 @@ all-in file = lines-in file (length file) 0 0 file (omega arith) refl (λ z. ome
 abbrev pub forget : LineAt → Marked
 forget s = record { above = s .above; text = trim (s .line) }
 
+forget-onto : (n at : ℕ) (t : List ℕ) (ss : List LineAt) → map forget (onto (lineIf n at t) ss) ≡ onto (mark n (trim t)) (map forget ss)
+unfolding lineIf mark
+forget-onto n at t ss = by-test (isSep (trim t)) (λ e. rw e) (λ e. rw e)
+
 pub marked-lines : (n at : ℕ) (ls : List (List ℕ)) → map forget (linesFrom n at ls) ≡ marked n (map textOf ls)
 unfolding linesFrom marked textOf
 marked-lines n at [] = refl
 marked-lines n at (l ∷ ls) =
     let t = upto (is 13) l in
-    forget-onto t (linesFrom (n + cond (isSep (trim t)) 1 0) (at + (length l + 1)) ls)
+    forget-onto n at t (linesFrom (n + cond (isSep (trim t)) 1 0) (at + (length l + 1)) ls)
     ∙ ap (onto (mark n (trim t))) (marked-lines (n + cond (isSep (trim t)) 1 0) (at + (length l + 1)) ls)
-  where
-    forget-onto : (t : List ℕ) (ss : List LineAt) → map forget (onto (lineIf n at t) ss) ≡ onto (mark n (trim t)) (map forget ss)
-    unfolding lineIf mark
-    forget-onto t ss = by-test (isSep (trim t)) (λ e. rw e) (λ e. rw e)
 
 pub marked-in : (file : List ℕ) → map forget (linesIn file) ≡ marked 0 (texts file)
 unfolding linesIn texts
 marked-in file = marked-lines 0 0 (lines file)
 
 -- ---- what stands at the place of a line, and of its value
+
+first-less : (l : List ℕ) → any (is 61) l ≡ true → firstOf 61 l < length l
+unfolding any upto
+first-less [] e = absurd (false≢true e)
+first-less (x ∷ l) e = by-test (is 61 x) (λ t. rw t (omega arith)) (λ t. rw t (omega (arith, first-less l (rw t at e))))
 
 module _ (file : List ℕ) (s : LineAt) (h : InFile file s) where
   abbrev end : ℕ
@@ -146,11 +151,6 @@ module _ (file : List ℕ) (s : LineAt) (h : InFile file s) where
 
     value-inside : value ≤ end
     value-inside = omega (arith, first-less (s .line) equals)
-      where
-        first-less : (l : List ℕ) → any (is 61) l ≡ true → firstOf 61 l < length l
-        unfolding any upto
-        first-less [] e = absurd (false≢true e)
-        first-less (x ∷ l) e = by-test (is 61 x) (λ t. rw t (omega arith)) (λ t. rw t (omega (arith, first-less l (rw t at e))))
 
     value-part : past (is 61) (s .line) ≡ part value end file
     value-part =
@@ -180,17 +180,19 @@ entryAt file e = entry (e .at) (partOf file (e .place))
 abbrev pub entriesAt : List ℕ → List Spot → List Entry
 entriesAt file es = map (entryAt file) es
 
+split : (l : List ℕ) → any (is 61) l ≡ true → l ≡ upto (is 61) l ++ 61 ∷ past (is 61) l
+unfolding any upto past
+split [] e = absurd (false≢true e)
+split (x ∷ l) e =
+    by-test (is 61 x) (λ t. rw t (ap (λ (b : ℕ). b ∷ l) (eqb-true x 61 t))) (λ t. rw t (ap (λ (r : List ℕ). x ∷ r) (split l (rw t at e))))
+
+none-before : (l : List ℕ) → any (is 61) (upto (is 61) l) ≡ false
+unfolding any upto
+none-before [] = refl
+none-before (x ∷ l) = by-test (is 61 x) (λ t. rw t) (λ t. rw t (rw t (none-before l)))
+
 param-split : (l : List ℕ) → any (is 61) l ≡ true → paramOf (trim l) ≡ some (param (trim (upto (is 61) l)) (trim (past (is 61) l)))
 param-split l e = ap (λ (t : List ℕ). paramOf (trim t)) (split l e) ∙ param-of-line (upto (is 61) l) (past (is 61) l) (none-before l)
-  where
-    split : (l : List ℕ) → any (is 61) l ≡ true → l ≡ upto (is 61) l ++ 61 ∷ past (is 61) l
-    unfolding any upto past
-    split [] e = absurd (false≢true e)
-    split (x ∷ l) e = by-test (is 61 x) (λ t. rw t (ap (λ (b : ℕ). b ∷ l) (eqb-true x 61 t))) (λ t. rw t (ap (λ (r : List ℕ). x ∷ r) (split l (rw t at e))))
-    none-before : (l : List ℕ) → any (is 61) (upto (is 61) l) ≡ false
-    unfolding any upto
-    none-before [] = refl
-    none-before (x ∷ l) = by-test (is 61 x) (λ t. rw t) (λ t. rw t (rw t (none-before l)))
 
 -- what is made of one line
 module _ (file : List ℕ) (ls : List (List ℕ)) (s : LineAt) (h : InFile file s) (es : List Spot) (ps : List (List ℕ)) where
