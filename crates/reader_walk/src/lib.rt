@@ -4,7 +4,7 @@ use text_lines::Break;
 use text_lines::Span;
 use value_name::MessageType;
 ghost use Prim.Native.Nat.{_+_, _<_, _≤_};
-ghost use Rattle.reader_walk.specs.State.{notedOf, frameOf, stoppedAt, foundOf};
+ghost use Rattle.reader_walk.specs.State.{notedOf, frameOf, foundOf};
 ghost use Rattle.text.specs.Puts.{limit};
 ghost use lib.Dec.{eqb};
 ghost use lib.ListN.{length};
@@ -135,21 +135,8 @@ fn turn_after(turn: usize, first: usize, second: usize) -> usize
     turn
 }
 
-// Nothing but where the first byte stands that is not allowed.
-fn stopped(at: usize) -> Found
-    ensures { λ r. ⌜ r ≡ stoppedAt at ⌝ }
-{
-    Found {
-        stop: at,
-        frame: OUTSET,
-        first: NOTHING,
-        places: [NOWHERE; 27],
-        second: NOTHING,
-        others: [NOWHERE; 27],
-    }
-}
-
-// One walk over the file, to its end or to the first byte that is not allowed. The first of the places is where lines without a new field leave theirs.
+// One walk over the file, to its end or to the first byte that is not allowed: then nothing of its lines is handed out. The first of the places, where
+// lines without a new field leave theirs, is set back. (One struct is made: a second costs what a copy of it does.)
 pub fn walk(t: MessageType, s: &[u8]) -> Found
     requires { ⌜ length (now s) ≤ 8192 ⌝ }
     ensures { λ r. ⌜ r ≡ foundOf t (now (s .entry)) ⌝ }
@@ -165,7 +152,8 @@ pub fn walk(t: MessageType, s: &[u8]) -> Found
         let item = reader_line::line_of(t, s, at, frame.seps, turn);
         let end = item.end;
         let Break::After(n) = text_lines::break_at(s, end) else {
-            return stopped(end);
+            at = end;
+            break;
         };
         let value = item.value;
         frame = frame_in(frame, item.separator, value);
@@ -179,6 +167,13 @@ pub fn walk(t: MessageType, s: &[u8]) -> Found
         others[j] = value;
         turn = turn_after(turn, item.first, item.second);
         at = end + n;
+    }
+    if at < s.len() {
+        frame = OUTSET;
+        first = NOTHING;
+        second = NOTHING;
+        places = [NOWHERE; 27];
+        others = [NOWHERE; 27];
     }
     places[0] = NOWHERE;
     others[0] = NOWHERE;

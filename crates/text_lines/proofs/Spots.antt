@@ -60,7 +60,7 @@ pub record InFile (file : List ℕ) (s : LineAt) : Type 0 where
   pub inside : s .at + length (s .line) ≤ length file
   pub stands : s .line ≡ part (s .at) (s .at + length (s .line)) file
 
-pub AllIn : List ℕ → List LineAt → Type 0
+abbrev pub AllIn : List ℕ → List LineAt → Type 0
 AllIn file [] = 0 ≤ 0
 AllIn file (s ∷ ss) = InFile file s × AllIn file ss
 
@@ -86,24 +86,32 @@ upto-twice r =
     shorter (suc a) (suc b) [] h = refl
     shorter (suc a) (suc b) (x ∷ s) h = ap (λ (t : List ℕ). x ∷ t) (shorter a b s (omega arith))
 
-lines-in : (file : List ℕ) (n m at : ℕ) (r : List ℕ) → length r ≤ n → r ≡ drop at file → (0 < length r → at + length r ≤ length file) → AllIn file (linesFrom m at (lines r))
+no-lines : (file : List ℕ) (m at : ℕ) (r : List ℕ) → length r ≡ 0 → AllIn file (linesFrom m at (lines r))
 unfolding linesFrom lines
-lines-in file n m at [] h e g = omega arith
-lines-in file zero m at (b ∷ bs) h e g = absurd (omega arith)
-lines-in file (suc n) m at (b ∷ bs) h e g =
-    let r = b ∷ bs in
+no-lines file m at [] z = omega arith
+no-lines file m at (b ∷ bs) z = absurd (omega arith)
+
+lines-in : (file : List ℕ) (n m at : ℕ) (r : List ℕ) → length r ≤ n → r ≡ drop at file → (0 < length r → at + length r ≤ length file)
+    → AllIn file (linesFrom m at (lines r))
+unfolding linesFrom
+lines-in file zero m at r h e g = no-lines file m at r (omega arith)
+lines-in file (suc n) m at r h e g =
+    by-eq (length r) 0 (no-lines file m at r)
+    (λ z.
     let l = upto (is 10) r in
     let t = upto (is 13) l in
     let next = at + (length l + 1) in
-    let size = g (omega arith) in
+    let some : 0 < length r = omega arith in
+    let size = g some in
     let short : length t ≤ length r = omega (arith, upto-length (is 13) l, upto-length (is 10) r) in
-    let here : InFile file (lineAt m at t) = subst (λ (x : List ℕ). InFile file (lineAt m at x)) (sym (upto-twice r)) (part-in file r m at (length t) e size short) in
+    let here : InFile file (lineAt m at t) =
+    subst (λ (x : List ℕ). InFile file (lineAt m at x)) (sym (upto-twice r)) (part-in file r m at (length t) e size short) in
     let left : past (is 10) r ≡ drop next file =
     past-drop (is 10) r ∙ ap (drop (length l + 1)) e ∙ drop-drop (length l + 1) at file in
     let left-size : length (past (is 10) r) ≡ length r - (length l + 1) = ap length (past-drop (is 10) r) ∙ length-drop (length l + 1) r in
-    subst (λ (ls : List (List ℕ)). AllIn file (linesFrom m at ls)) (sym (lines-step r (omega arith)))
+    subst (λ (ls : List (List ℕ)). AllIn file (linesFrom m at ls)) (sym (lines-step r some))
     (onto-in file m at t (linesFrom (m + cond (isSep (trim t)) 1 0) next (lines (past (is 10) r))) here
-    (lines-in file n (m + cond (isSep (trim t)) 1 0) next (past (is 10) r) (omega arith) left (λ z. omega arith)))
+    (lines-in file n (m + cond (isSep (trim t)) 1 0) next (past (is 10) r) (omega arith) left (λ y. omega arith))))
 
 pub all-in : (file : List ℕ) → AllIn file (linesIn file)
 unfolding linesIn
@@ -252,12 +260,12 @@ entries-more file es e = map-append (entryAt file) es (e ∷ [])
 
 -- ---- every place lies in the file, and holds its value
 
-AllPlaced : List ℕ → List Spot → Type 0
+abbrev AllPlaced : List ℕ → List Spot → Type 0
 AllPlaced file [] = 0 ≤ 0
 AllPlaced file (e ∷ es) = ((e .place .from ≤ e .place .to) × (e .place .to ≤ length file)) × AllPlaced file es
 
 spots-placed : (file : List ℕ) (ls : List (List ℕ)) (ss : List LineAt) → AllIn file ss → AllPlaced file (spots ls ss)
-unfolding spots sift spotIn spotIf fieldIn AllPlaced
+unfolding spots sift spotIn spotIf fieldIn
 spots-placed file ls [] a = omega arith
 spots-placed file ls (s ∷ ss) a =
     let rest = spots-placed file ls ss (a .1) in
@@ -270,7 +278,7 @@ spots-placed file ls (s ∷ ss) a =
     (λ e. rw (o, e) rest))
 
 place-in : (file : List ℕ) (k : ℕ) (es : List Spot) → AllPlaced file es → (placeAt k es .from ≤ placeAt k es .to) × (placeAt k es .to ≤ length file)
-unfolding placeAt AllPlaced
+unfolding placeAt
 place-in file k [] a = (omega arith, omega arith)
 place-in file k (e ∷ es) a = by-test (eqb k (e .at)) (λ t. rw t (a .0)) (λ t. rw t (place-in file k es (a .1)))
 
