@@ -8,7 +8,7 @@ use Rattle.layout.specs.declared.Layout.the-variants.{Mfrr}
 use Rattle.text_lines.proofs.Leaves.{trimmed-holds}
 use Rattle.text_lines.specs.Entries.{placeOf}
 use Rattle.text_lines.specs.Lines.{isSep}
-use Rattle.text_lines.specs.Places.{noSpan, partOf, trimmedAt, valueSpan}
+use Rattle.text_lines.specs.Places.{HoldsText, noSpan, partOf, trimmedAt, valueSpan}
 use Rattle.text_lines.specs.Spots.{fieldIn}
 use Rattle.text_lines.specs.declared.Span.{Span}
 use Rattle.value_name.specs.declared.MessageType.{MessageType}
@@ -22,7 +22,7 @@ use lib.Dec.{eqb, leb}
 use lib.ListN.{length, getD, take, drop}
 use mathlib.Core.Bool.{Bool, true, false, _&&_, cond, and-false}
 use mathlib.Core.List.{List, [], _∷_}
-use mathlib.Core.Path.{_≡_, refl, sym, ap, ap₂, _∙_}
+use mathlib.Core.Path.{_≡_, refl, sym, ap, ap₂, _∙_, subst}
 use native.Mathlib.Omega.{arith}
 
 -- ---- a line is one kind
@@ -52,8 +52,11 @@ module _ (t : MessageType) (file : List ℕ) (at end : ℕ) (ordered : at ≤ en
   size = omega (arith, length-part at end file inside)
 
   module _ (p : Span) (placed : p ≡ trimmedAt at line) where
+    pub held : HoldsText file p (trim line)
+    held = subst (λ (q : Span). HoldsText file q (trim line)) (sym placed) (trimmed-holds file at end ordered inside)
+
     text-is : partOf file p ≡ trim line
-    text-is = ap (partOf file) placed ∙ trimmed-holds file at end ordered inside .holds
+    text-is = held .holds
 
     pub row-is : (s : Bool) → s ≡ isSep (partOf file p) → item end s 0 0 p ≡ itemIn t 1 at line
     row-is s e =
