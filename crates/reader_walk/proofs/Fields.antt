@@ -26,7 +26,7 @@ use native.Mathlib.Omega.{arith}
 -- ---- what is kept
 
 -- the number of a field that is there, 0 where none is
-pub IsNumber : ℕ → Option ℕ → Type 0
+abbrev pub IsNumber : ℕ → Option ℕ → Type 0
 IsNumber n none = n ≡ 0
 IsNumber n (some k) = (n ≡ k) × (1 ≤ k)
 
@@ -56,7 +56,6 @@ module _ (file : List ℕ) (ls : List (List ℕ)) (m : Marks) (spans : List Span
       rw (f .seen) (lt-of-lt-of-le (seen-less ls (entriesAt file es)) (pow-le-pow-right two h))
 
   number-is : (n : ℕ) (o : Option ℕ) → IsNumber n o → n ≡ orZero o
-  unfolding IsNumber
   number-is n none e = e
   number-is n (some k) e = e .0
 
@@ -66,7 +65,6 @@ module _ (file : List ℕ) (ls : List (List ℕ)) (m : Marks) (spans : List Span
 
 -- the number of the first repeat, after a repeat of k
 number-more : (n k : ℕ) (o : Option ℕ) → 1 ≤ k → IsNumber n o → IsNumber (cond (eqb n 0) k n) (first o (some k))
-unfolding IsNumber
 number-more n k none h e = rw e (refl, h)
 number-more n k (some j) h e = rw (ne-eqb n 0 (λ z. omega (arith, z, e .0, e .1))) e
 

@@ -15,7 +15,7 @@ use Rattle.text.proofs.Tests.{by-test, by-eq, and-parts}
 use Rattle.text.specs.Lists.{sift}
 use Rattle.reader_walk.proofs.Fields.{IsNumber}
 use Rattle.reader_walk.proofs.Line.{first-few, second-few}
-use Rattle.reader_walk.proofs.Walking.{from-length, from-at}
+use Rattle.reader_walk.proofs.Walking.{from-length, place-next}
 use Rattle.reader_walk.specs.State.{orZero, marksOf, marksIn, wholeOf, foundOf}
 use Rattle.reader_walk.specs.declared.Found.{Found}
 use Rattle.reader_walk.specs.declared.Marks.{Marks}
@@ -39,19 +39,19 @@ pub record Fields (file : List ℕ) (ls : List (List ℕ)) (m : Marks) (spans : 
   pub value : (k : ℕ) → 1 ≤ k → k ≤ length ls → HoldsText file (spanAt spans k) (valueAt k es)
 
 -- fields are numbered from 1
-AllPositive : List Entry → Type 0
+abbrev AllPositive : List Entry → Type 0
 AllPositive [] = 0 ≤ 0
 AllPositive (e ∷ es) = (1 ≤ e .at) × AllPositive es
 
 positive : (ls : List (List ℕ)) (ps : List Param) → AllPositive (entries ls ps)
-unfolding entries sift entryOf AllPositive
+unfolding entries sift entryOf
 positive ls [] = omega arith
 positive ls (p ∷ ps) =
     by-test (eqb (placeOf ls (p .label)) 0) (λ e. rw e (positive ls ps))
     (λ e. let n = eqb-false (placeOf ls (p .label)) 0 e in rw e (omega (arith, n), positive ls ps))
 
 number-there : (seen es : List Entry) → AllPositive es → IsNumber (orZero (again seen es)) (again seen es)
-unfolding again AllPositive IsNumber
+unfolding again
 number-there seen [] a = refl
 number-there seen (e ∷ es) a = by-test (stands (e .at) seen) (λ t. rw t (refl, a .0)) (λ t. rw t (number-there (e ∷ seen) es (a .1)))
 
@@ -67,7 +67,7 @@ fields-in file ls few =
       value = λ k a b.
           let n : k ≡ suc (k - 1) = omega arith in
           let p : spanAt (noSpan ∷ placesFrom 26 1 es) k ≡ placeAt k es =
-          ap (λ (j : ℕ). spanAt (noSpan ∷ placesFrom 26 1 es) j) n ∙ from-at 26 1 es (k - 1) (omega arith)
+          ap (λ (j : ℕ). spanAt (noSpan ∷ placesFrom 26 1 es) j) n ∙ place-next es (k - 1) (omega arith)
           ∙ ap (λ (j : ℕ). placeAt j es) (sym n) in
           subst (λ (x : Span). HoldsText file x (valueAt k (entries ls (params (outside (texts file)))))) (sym p) (field-holds file ls k);
     }
@@ -111,12 +111,10 @@ module _ (t : MessageType) (file : List ℕ) (r : Found) (w : r ≡ foundOf t fi
 -- ---- of a layout
 
 number-none : (n : ℕ) (o : Option ℕ) → IsNumber n o → n ≡ 0 → o ≡ none
-unfolding IsNumber
 number-none n none h e = refl
 number-none n (some k) h e = absurd (omega (arith, e, h .0, h .1))
 
 number-some : (n : ℕ) (o : Option ℕ) → IsNumber n o → (n ≡ 0 → ⊥) → o ≡ some n
-unfolding IsNumber
 number-some n none h e = absurd (e h)
 number-some n (some k) h e = ap some (sym (h .0))
 

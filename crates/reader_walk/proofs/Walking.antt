@@ -108,7 +108,7 @@ none-at (suc n) zero = refl
 none-at (suc n) (suc k) = none-at n k
 
 nothing-kept : (file : List ℕ) (ls : List (List ℕ)) → Kept file ls noMarks (replicate 27 noSpan) (spots ls [])
-unfolding again stands IsNumber spots sift placeAt
+unfolding again stands spots sift placeAt
 nothing-kept file ls = record { long = refl; seen = none-standing 1 ls; repeat = refl; place = λ k a b. none-at 27 k }
 
 pub begin : (t : MessageType) (s : List ℕ) → Sofar t s 0 (frame 0 0 noSpan) noMarks (replicate 27 noSpan) noMarks (replicate 27 noSpan)
@@ -140,13 +140,17 @@ unfolding placesFrom
 from-length zero k es = refl
 from-length (suc n) k es = ap suc (from-length n (suc k) es)
 
-pub from-at : (n k : ℕ) (es : List Spot) (j : ℕ) → j < n → getD (placesFrom n k es) j noSpan ≡ placeAt (k + j) es
+from-at : (n k : ℕ) (es : List Spot) (j : ℕ) → j < n → getD (placesFrom n k es) j noSpan ≡ placeAt (k + j) es
 unfolding placesFrom
 from-at zero k es j h = absurd (omega arith)
 from-at (suc n) k es zero h = let z : k ≡ k + 0 = omega arith in ap (λ (i : ℕ). placeAt i es) z
 from-at (suc n) k es (suc j) h =
     let z : suc k + j ≡ k + suc j = omega arith in
     from-at n (suc k) es j (omega arith) ∙ ap (λ (i : ℕ). placeAt i es) z
+
+-- the fields are numbered from 1
+pub place-next : (es : List Spot) (k : ℕ) → k < 26 → getD (placesFrom 26 1 es) k noSpan ≡ placeAt (suc k) es
+place-next es k h = let n : 1 + k ≡ suc k = omega arith in from-at 26 1 es k h ∙ ap (λ (j : ℕ). placeAt j es) n
 
 pub set-back : (file : List ℕ) (ls : List (List ℕ)) (m : Marks) (spans : List Span) (es : List Spot) → Kept file ls m spans es
     → set spans 0 noSpan ≡ noSpan ∷ placesFrom 26 1 es
@@ -158,7 +162,7 @@ set-back file ls m spans es f =
     each zero h = getD-set-same spans 0 noSpan noSpan (omega (arith, f .long))
     each (suc k) h =
         getD-set-other spans 0 (suc k) noSpan noSpan (λ z. omega (arith, z)) ∙ f .place (suc k) (omega arith) (omega arith)
-        ∙ sym (from-at 26 1 es k (omega arith))
+        ∙ sym (place-next es k (omega arith))
 
 -- ---- one turn
 
@@ -225,14 +229,24 @@ module _ (t : MessageType) (s : List ℕ) (at : ℕ) (f : Frame) (m : Marks) (sp
 
   -- ---- the two ends
 
-  -- a byte that is not allowed
-  pub stop : (end : ℕ) {r : Found} → at < length s → end ≡ at + plainRun (drop at s) → Bad ≡ breakOf (drop end s) → r ≡ stoppedAt end → r ≡ foundOf t s
-  unfolding foundOf
-  stop end h e g r-is =
-      let bad = left s at end h e ∙ sym g in
-      let here : allowedUpto s ≡ end = omega (arith, w .allowed, allowed-stop (drop at s) bad) in
-      let less : end < length s = omega (arith, stop-length (drop at s) bad, length-drop at s) in
-      r-is ∙ rw (here, ne-eqb end (length s) (λ z. omega arith))
+  -- what is handed out, with the first of the places set back
+  abbrev handed : ℕ → Frame → Marks → List Span → Marks → List Span → Found
+  handed stop g a ps b os = record { stop = stop; frame = g; first = a; places = set ps 0 noSpan; second = b; others = set os 0 noSpan }
+
+  -- a byte that is not allowed: all is set back
+  module _ (end : ℕ) (h : at < length s) (e : end ≡ at + plainRun (drop at s)) (g : Bad ≡ breakOf (drop end s)) where
+    bad : breakOf (drop (plainRun (drop at s)) (drop at s)) ≡ Bad
+    bad = left s at end h e ∙ sym g
+
+    pub stop-less : end < length s
+    stop-less = omega (arith, stop-length (drop at s) bad, length-drop at s)
+
+    pub stop : (n : ℕ) {k : Frame} {a b : Marks} {ps os : List Span} → n ≡ end → k ≡ frame 0 0 noSpan → a ≡ noMarks → b ≡ noMarks
+        → ps ≡ replicate 27 noSpan → os ≡ replicate 27 noSpan → handed n k a ps b os ≡ foundOf t s
+    unfolding foundOf
+    stop n n-is k-is a-is b-is ps-are os-are =
+        let here : allowedUpto s ≡ end = omega (arith, w .allowed, allowed-stop (drop at s) bad) in
+        rw (n-is, k-is, a-is, b-is, ps-are, os-are, here, ne-eqb end (length s) (λ z. omega (arith, z, stop-less)))
 
   -- the file's end
   module _ (over : length s ≤ at) where
@@ -262,14 +276,14 @@ module _ (t : MessageType) (s : List ℕ) (at : ℕ) (f : Frame) (m : Marks) (sp
         framed : {a b : ℕ} {p : Span} → f .seps ≡ a → f .inside ≡ b → f .row ≡ p → f ≡ frame a b p
         framed a b p = rw (sym a, sym b, sym p)
 
-    pub finish : record { stop = at; frame = f; first = m; places = set spans 0 noSpan; second = o; others = set others 0 noSpan } ≡ foundOf t s
-    unfolding foundOf allowedUpto
-    finish =
-        let b : allowedUpto s ≡ at + 0 = rw (drop-of-length-le s over) at (w .allowed) in
+    clean : allowedUpto s ≡ length s
+    unfolding allowedUpto
+    clean = let b : allowedUpto s ≡ at + 0 = rw (drop-of-length-le s over) at (w .allowed) in omega (arith, w .near)
+
+    whole : handed at f m spans o others ≡ wholeOf t s
+    whole =
         let size : at ≡ length s = omega (arith, w .near) in
-        let clean : allowedUpto s ≡ length s = omega arith in
         rw (
-          eq-eqb (allowedUpto s) (length s) clean,
           size,
           frame-is,
           marks-of (firstLabels t) m spans (w .walked .first),
@@ -277,3 +291,9 @@ module _ (t : MessageType) (s : List ℕ) (at : ℕ) (f : Frame) (m : Marks) (sp
           places-are (firstLabels t) m spans (w .walked .first),
           places-are (secondLabels t) o others (w .walked .second),
         )
+
+    pub finish : (n : ℕ) {k : Frame} {a b : Marks} {ps os : List Span} → n ≡ at → k ≡ f → a ≡ m → b ≡ o → ps ≡ spans → os ≡ others
+        → handed n k a ps b os ≡ foundOf t s
+    unfolding foundOf
+    finish n n-is k-is a-is b-is ps-are os-are =
+        rw (n-is, k-is, a-is, b-is, ps-are, os-are, eq-eqb (allowedUpto s) (length s) clean) whole
