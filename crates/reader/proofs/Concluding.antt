@@ -62,6 +62,10 @@ accepted-in : (r : Record) (file : List ℕ)
 unfolding readingIn
 accepted-in r file = refl
 
+made : (x : Reading) {n d : ℕ} {row : Span} {places : List Span} → x .number ≡ n → x .detail ≡ d → x .row ≡ row → x .places ≡ places
+    → x ≡ record { number = n; detail = d; layout = x .layout; row = row; cells = x .cells; gradients = x .gradients; places = places }
+made x n d row places = rw (sym n, sym d, sym row, sym places)
+
 module _ (c i : ℕ) (plan file : List ℕ) where
   pub refused-reading : (n d : ℕ) {x : Reading} → x ≡ unread n d → (n ≡ 0 → ⊥) → refused n d ≡ readOf c i plan file → x ≡ readingOf c i plan file
   unfolding readingOf
@@ -71,9 +75,9 @@ module _ (c i : ℕ) (plan file : List ℕ) where
       → x .places ≡ placesIn (labelsOf (x .layout)) file → x ≡ readingOf c i plan file
   unfolding readingOf recordWith
   accepted-reading x z d e row places =
-      let a = concluded-yes file x z ∙ e in
-      rw (sym row, sym places, sym z, sym d) at (accepted-in (recordWith (x .layout) (columnAt (x .layout) file (x .places)) (x .cells) (x .gradients)) file)
-      ∙ ap (λ (a : Answer). readingIn a file) a
+      made x z d row places
+      ∙ accepted-in (recordWith (x .layout) (columnAt (x .layout) file (x .places)) (x .cells) (x .gradients)) file
+      ∙ ap (λ (a : Answer). readingIn a file) (concluded-yes file x z ∙ e)
 
 -- ---- from the places to the reading
 

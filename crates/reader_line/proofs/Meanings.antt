@@ -5,7 +5,7 @@ use Rattle.reader_line.specs.Items.{firstLabels, secondLabels, isForeign
 use Rattle.reader_line.specs.declared.Item.{Item}
 use Rattle.layout.specs.Layouts.{layoutOf}
 use Rattle.layout.specs.declared.Layout.the-variants.{Mfrr}
-use Rattle.text_lines.proofs.Leaves.{trimmed-holds}
+use Rattle.text_lines.proofs.Leaves.{span-holds}
 use Rattle.text_lines.specs.Entries.{placeOf}
 use Rattle.text_lines.specs.Lines.{isSep}
 use Rattle.text_lines.specs.Places.{HoldsText, noSpan, partOf, trimmedAt, valueSpan}
@@ -22,7 +22,7 @@ use lib.Dec.{eqb, leb}
 use lib.ListN.{length, getD, take, drop}
 use mathlib.Core.Bool.{Bool, true, false, _&&_, cond, and-false}
 use mathlib.Core.List.{List, [], _∷_}
-use mathlib.Core.Path.{_≡_, refl, sym, ap, ap₂, _∙_, subst}
+use mathlib.Core.Path.{_≡_, refl, sym, ap, ap₂, _∙_}
 use native.Mathlib.Omega.{arith}
 
 -- ---- a line is one kind
@@ -53,7 +53,7 @@ module _ (t : MessageType) (file : List ℕ) (at end : ℕ) (ordered : at ≤ en
 
   module _ (p : Span) (placed : p ≡ trimmedAt at line) where
     pub held : HoldsText file p (trim line)
-    held = subst (λ (q : Span). HoldsText file q (trim line)) (sym placed) (trimmed-holds file at end ordered inside)
+    held = span-holds file at end ordered inside p placed
 
     text-is : partOf file p ≡ trim line
     text-is = held .holds

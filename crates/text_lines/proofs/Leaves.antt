@@ -109,6 +109,9 @@ trimmed-holds s at end h k =
     let e = length (skipEnd isBlank (part (at + a) end s)) in
     subst (λ (p : Span). HoldsText s p (trim (part at end s))) (trimmed-is s at end a e h k refl refl) (found-holds s at end a e h k refl refl)
 
+pub span-holds : (s : List ℕ) (at end : ℕ) → at ≤ end → end ≤ length s → (p : Span) → p ≡ trimmedAt at (part at end s) → HoldsText s p (trim (part at end s))
+span-holds s at end h k p e = subst (λ (q : Span). HoldsText s q (trim (part at end s))) (sym e) (trimmed-holds s at end h k)
+
 -- ---- a separator
 
 pub sep-short : (t : List ℕ) → length t < 5 → false ≡ isSep t
