@@ -6,4 +6,3 @@ pub mod Placing
 pub mod Walking
 pub mod Locating
 pub mod Going
-pub mod Readings

@@ -4,4 +4,3 @@ pub mod Small
 pub mod Example
 pub mod Held
 pub mod Validity
-pub mod Readings
