@@ -17,7 +17,7 @@ use Rattle.text.proofs.Tests.{by-test}
 use Rattle.text.specs.Bytes.{bytes, same, any}
 use Rattle.text.specs.Lists.{sift}
 use Rattle.reader_walk.proofs.Fields.{has-by}
-use Rattle.reader_walk.specs.State.{Fields}
+use Rattle.reader_walk.proofs.Told.{Fields}
 use Rattle.reader_walk.specs.declared.Marks.{Marks}
 use borrow.Author.Tests.{eq-eqb, ne-eqb, eqb-true}
 use lib.Dec.{eqb}
@@ -69,7 +69,7 @@ module _ (file : List ℕ) (m : Marks) (spans : List Span) where
   tipo-bit f =
       let h : 8 ≤ length (labelsOf Mfrr) = omega (arith, mfrr-size) in
       let one : 1 ≤ 8 = omega arith in
-      tipo-stands (given file) ∙ sym (has-by file (labelsOf Mfrr) m spans (entries (labelsOf Mfrr) (given file)) f 8 one h)
+      tipo-stands (given file) ∙ sym (has-by (labelsOf Mfrr) (entries (labelsOf Mfrr) (given file)) 8 (m .seen) (f .seen) one h)
 
   pub is-mfrr : (t : MessageType) → Fields file (secondLabels t) m spans (entries (secondLabels t) (given file)) → isMfrr t (m .seen) ≡ true
       → (t ≡ Cb) × (layoutIn t (given file) ≡ Mfrr)

@@ -13,8 +13,7 @@ use Rattle.reader.specs.Refusals.{refused, answer}
 use Rattle.reader.specs.State.{nowhere, placedAs, Stands, continued}
 use Rattle.reader.specs.declared.Located.{Located}
 use Rattle.text.proofs.Tests.{by-eq}
-use Rattle.reader_walk.proofs.Told.{repeat-none, repeat-some, seen-le, missing-by, placed-by, column-by}
-use Rattle.reader_walk.specs.State.{Fields}
+use Rattle.reader_walk.proofs.Told.{Fields, repeat-none, repeat-some, seen-le, missing-by, placed-by, column-by}
 use Rattle.reader_walk.specs.declared.Marks.{Marks}
 use borrow.Author.Tests.{lt-ltb, le-ltb, eq-eqb, ne-eqb}
 use lib.Count.{ones}
@@ -87,12 +86,12 @@ module _ (l : Layout) (file : List ℕ) (m : Marks) (places : List Span) (es : L
         none-missing = sym missing-is ∙ all-seen
 
         all-placed : Placed (sizeOf l) file places
-        all-placed = subst (λ (n : ℕ). Placed n file places) (labels-length l) (placed-by file (labelsOf l) m places es f none-missing)
+        all-placed = subst (λ (n : ℕ). Placed n file places) (labels-length l) (placed-by file (labelsOf l) m places es f)
 
         column-is : columnIn (sizeOf l) file places ≡ column 1 (labelsOf l) es
         column-is =
             ap (λ (n : ℕ). columnIn n file places) (sym (labels-length l))
-            ∙ column-by file (labelsOf l) m places es f none-missing (omega (arith, few l, labels-length l))
+            ∙ column-by file (labelsOf l) m places es f (omega (arith, few l, labels-length l))
 
         judged-on : Onward l file row es (found l row places)
         unfolding labelled continued

@@ -18,8 +18,8 @@ use Rattle.reader.specs.Refusals.{refused, answer}
 use Rattle.reader.specs.State.{nowhere, placedAs, continued, Walks, isMfrr}
 use Rattle.reader.specs.declared.Located.{Located}
 use Rattle.text.specs.Bytes.{within}
-use Rattle.reader_walk.proofs.Told.{framed-by, row-by, first-by, second-by}
-use Rattle.reader_walk.specs.State.{Fields, Whole}
+use Rattle.reader_walk.proofs.Told.{Fields, stop-by, seps-by, framed-by, row-by, first-by, second-by}
+use Rattle.reader_walk.specs.State.{foundOf}
 use Rattle.reader_walk.specs.declared.Found.{Found}
 use borrow.Author.Tests.{lt-ltb, le-ltb, le-leb, lt-leb, eq-eqb, ne-eqb}
 use lib.Count.{ones}
@@ -56,17 +56,17 @@ module _ (t : MessageType) (file : List ℕ) where
         let one : 1 ≤ length file = omega (arith, some) in
         rw (le-leb 1 (length file) one, le-leb (length file) 8192 few)
 
-    module _ (r : Found) (w : Whole t file r) where
+    module _ (r : Found) (w : r ≡ foundOf t file) where
       pub bad-byte : r .stop < length file → Walks t file (nowhere 3 (r .stop))
       unfolding messageOf reading
       bad-byte h =
-          let g : allowedUpto file < length file = omega (arith, h, w .stop) in
+          let g : allowedUpto file < length file = omega (arith, h, stop-by t file r w) in
           refusal-walks 3 (r .stop) (λ z. omega (arith, z))
-          (λ unit. ap (refused 3) (w .stop) ∙ sym (answer-no 2 _ _ _ _ sized ∙ answer-yes 3 _ _ _ _ (lt-ltb (allowedUpto file) (length file) g)))
+          (λ unit. ap (refused 3) (stop-by t file r w) ∙ sym (answer-no 2 _ _ _ _ sized ∙ answer-yes 3 _ _ _ _ (lt-ltb (allowedUpto file) (length file) g)))
 
       module _ (whole : length file ≤ r .stop) where
         clean : allowedUpto file ≡ length file
-        clean = omega (arith, whole, w .stop, allowed-length file)
+        clean = omega (arith, whole, stop-by t file r w, allowed-length file)
 
         no-bad : ltb (allowedUpto file) (length file) ≡ false
         no-bad = let g : length file ≤ allowedUpto file = omega (arith, clean) in le-ltb (allowedUpto file) (length file) g
@@ -75,7 +75,7 @@ module _ (t : MessageType) (file : List ℕ) where
         unfolding messageOf reading
         unframed e =
             refusal-walks 4 (r .frame .seps) (λ z. omega (arith, z))
-            (λ unit. ap (refused 4) (w .seps clean) ∙ sym (answer-no 2 _ _ _ _ sized ∙ answer-no 3 _ _ _ _ no-bad ∙ answer-yes 4 _ _ _ _ e))
+            (λ unit. ap (refused 4) (seps-by t file r w clean) ∙ sym (answer-no 2 _ _ _ _ sized ∙ answer-no 3 _ _ _ _ no-bad ∙ answer-yes 4 _ _ _ _ e))
 
         pub seps-not-two : (r .frame .seps ≡ 2 → ⊥) → Walks t file (nowhere 4 (r .frame .seps))
         seps-not-two n =

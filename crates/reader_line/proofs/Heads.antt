@@ -221,7 +221,7 @@ module _ (label text : List ℕ) (h : ℕ) where
 -- ---- a line is the printable bytes of a text: those of a label, blanks and '=' are, so the line goes on behind them
 
 module _ (label text : List ℕ) (h : ℕ) (d : Headed label text h) (plain : all isPlain label ≡ true) where
-  line-past : upto notPlain text ≡ label ++ (d .front ++ 61 ∷ upto notPlain (drop h text))
+  pub line-past : upto notPlain text ≡ label ++ (d .front ++ 61 ∷ upto notPlain (drop h text))
   unfolding upto
   line-past =
       let v = drop h text in

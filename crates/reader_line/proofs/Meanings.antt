@@ -1,107 +1,80 @@
 -- What a line is to the reader: a separator, the row, the value of a field, or nothing. Assumes nothing.
-use Prim.Native.Nat.{ℕ, zero, suc, _+_, _≤_, _<_}
-use Rattle.reader_line.proofs.Labels.{labels-few, star-foreign, mfrr-alone}
-use Rattle.reader_line.specs.Items.{firstLabels, secondLabels, isForeign, entryIn, IsEntry, IsItem}
+use Prim.Native.Nat.{ℕ, suc, _+_, _≤_, _<_}
+use Rattle.reader_line.proofs.Labels.{star-foreign, mfrr-alone}
+use Rattle.reader_line.specs.Items.{firstLabels, secondLabels, isForeign, item, fielded, itemIn}
 use Rattle.reader_line.specs.declared.Item.{Item}
 use Rattle.layout.specs.Layouts.{layoutOf}
 use Rattle.layout.specs.declared.Layout.the-variants.{Mfrr}
-use Rattle.text_lines.proofs.Params.{no-param}
-use Rattle.text_lines.proofs.Standing.{place-le}
-use Rattle.text_lines.specs.Entries.{placeOf, entry, entryOf}
-use Rattle.text_lines.specs.Lines.{Param, param, paramOf, isSep}
-use Rattle.text_lines.specs.Places.{HoldsText, noSpan, partOf}
+use Rattle.text_lines.proofs.Leaves.{span-holds}
+use Rattle.text_lines.specs.Entries.{placeOf}
+use Rattle.text_lines.specs.Lines.{isSep}
+use Rattle.text_lines.specs.Places.{HoldsText, noSpan, partOf, trimmedAt, valueSpan}
+use Rattle.text_lines.specs.Spots.{fieldIn}
 use Rattle.text_lines.specs.declared.Span.{Span}
 use Rattle.value_name.specs.declared.MessageType.{MessageType}
 use Rattle.value_name.specs.declared.MessageType.the-variants.{Cb, Rc, Mg, Eb, Lb, Sr, Vq, Ri, Qr}
 use Rattle.text.proofs.Cuts.{part-from, length-part, upto-take, past-drop, upto-length}
-use Rattle.text.proofs.Tests.{by-test}
+use Rattle.text.proofs.Tests.{by-test, and-parts, or-right}
 use Rattle.text.proofs.Trims.{keep-no}
 use Rattle.text.specs.Bytes.{part, upto, past, any, all, is, isBlank, firstOf, skip, skipEnd, trim}
-use borrow.Author.Tests.{eqb-true}
-use lib.Dec.{eqb, leb, eqb·suc-zero}
-use lib.ListN.{length, getD, take}
-use mathlib.Core.Bool.{Bool, true, false, cond, and-false, false≢true}
+use borrow.Author.Tests.{eqb-true, ne-eqb}
+use lib.Dec.{eqb, leb}
+use lib.ListN.{length, getD, take, drop}
+use mathlib.Core.Bool.{Bool, true, false, _&&_, cond, and-false}
 use mathlib.Core.List.{List, [], _∷_}
-use mathlib.Core.Option.{none, some}
-use mathlib.Core.Path.{_≡_, refl, sym, ap, _∙_, subst}
+use mathlib.Core.Path.{_≡_, refl, sym, ap, ap₂, _∙_}
 use native.Mathlib.Omega.{arith}
-
--- ---- the entry of a parameter
-
-entry-at : (file v : List ℕ) (p : Span) (n : ℕ) → n ≤ 26 → HoldsText file p v → IsEntry file n p (cond (eqb n 0) none (some (entry n v)))
-unfolding IsEntry
-entry-at file v p zero h w = refl
-entry-at file v p (suc n) h w = rw (eqb·suc-zero n) (refl, omega arith, h, w)
-
-pub is-entry : (file : List ℕ) (ls : List (List ℕ)) (label v : List ℕ) (p : Span) (k : ℕ) → length ls ≤ 26 → k ≡ placeOf ls label → HoldsText file p v
-    → IsEntry file k p (entryOf ls (param label v))
-unfolding entryOf
-is-entry file ls label v p k h e w =
-    rw e (entry-at file v p (placeOf ls label) (omega (arith, h, place-le ls label)) w)
-
-seconds-few : (t : MessageType) → length (secondLabels t) ≤ 26
-seconds-few Cb = labels-few Mfrr
-seconds-few Rc = omega arith
-seconds-few Mg = omega arith
-seconds-few Eb = omega arith
-seconds-few Lb = omega arith
-seconds-few Sr = omega arith
-seconds-few Vq = omega arith
-seconds-few Ri = omega arith
-seconds-few Qr = omega arith
 
 -- ---- a line is one kind
 
-abbrev pub item : ℕ → Bool → ℕ → ℕ → Span → Item
-item end s f g p = record { end = end; separator = s; first = f; second = g; value = p }
+-- below one separator, and a separator
+pub as-row : (t : MessageType) (n at : ℕ) (l : List ℕ) → eqb n 1 ≡ true → item (at + length l) (isSep (trim l)) 0 0 (trimmedAt at l) ≡ itemIn t n at l
+unfolding itemIn
+as-row t n at l e = rw (or-right (isSep (trim l)) (eqb n 1) e)
 
-pub is-row : (t : MessageType) (file x : List ℕ) (end : ℕ) (s : Bool) (p : Span) → s ≡ isSep (partOf file p) → HoldsText file p x
-    → IsItem t file x 1 (item end s 0 0 p)
-is-row t file x end s p e w = record {
-  sep = e ∙ ap isSep (w .holds);
-  row = λ h o. w;
-  no-field = λ h. (refl, refl);
-  no-row-field = λ o. (refl, refl);
-  first = λ h ne. absurd (ne refl);
-  second = λ h ne. absurd (ne refl);
-}
+pub as-separator : (t : MessageType) (n at : ℕ) (l : List ℕ) → isSep (trim l) ≡ true → item (at + length l) true 0 0 (trimmedAt at l) ≡ itemIn t n at l
+unfolding itemIn
+as-separator t n at l e = rw e
 
-pub is-separator : (t : MessageType) (file x : List ℕ) (n end : ℕ) (p : Span) → isSep (partOf file p) ≡ true → HoldsText file p x
-    → IsItem t file x n (item end true 0 0 p)
-is-separator t file x n end p e w =
-    let y : isSep x ≡ true = sym (ap isSep (w .holds)) ∙ e in
-    record {
-      sep = sym y;
-      row = λ h o. w;
-      no-field = λ h. (refl, refl);
-      no-row-field = λ o. (refl, refl);
-      first = λ h ne. absurd (false≢true (sym h ∙ y));
-      second = λ h ne. absurd (false≢true (sym h ∙ y));
-    }
+-- and any other
+pub as-field : (t : MessageType) (n at : ℕ) (l : List ℕ) → isSep (trim l) ≡ false → (n ≡ 1 → ⊥)
+    → fielded (at + length l) (fieldIn (firstLabels t) l) (fieldIn (secondLabels t) l) at l ≡ itemIn t n at l
+unfolding itemIn
+as-field t n at l e ne = rw (e, ne-eqb n 1 ne)
 
-module _ (t : MessageType) (file x : List ℕ) (n end : ℕ) (p : Span) (no-sep : isSep x ≡ false) (not-row : n ≡ 1 → ⊥) where
-  pub is-nothing : entryIn (firstLabels t) x ≡ none → entryIn (secondLabels t) x ≡ none → IsItem t file x n (item end false 0 0 p)
-  unfolding IsEntry
-  is-nothing e f = record {
-    sep = sym no-sep;
-    row = λ h o. absurd (not-row o);
-    no-field = λ h. absurd (false≢true (sym no-sep ∙ h));
-    no-row-field = λ o. absurd (not-row o);
-    first = λ h ne. rw e refl;
-    second = λ h ne. rw f refl;
-  }
+-- ---- the same of a line by its ends, and of what the code found at its trimmed place
 
-  pub is-value : (label v : List ℕ) (f g : ℕ) → paramOf x ≡ some (param label v) → f ≡ placeOf (firstLabels t) label → g ≡ placeOf (secondLabels t) label → HoldsText file p v
-      → IsItem t file x n (item end false f g p)
-  unfolding entryIn
-  is-value label v f g e hf hg w = record {
-    sep = sym no-sep;
-    row = λ h o. absurd (not-row o);
-    no-field = λ h. absurd (false≢true (sym no-sep ∙ h));
-    no-row-field = λ o. absurd (not-row o);
-    first = λ h ne. rw e (is-entry file (firstLabels t) label v p f (labels-few (layoutOf t)) hf w);
-    second = λ h ne. rw e (is-entry file (secondLabels t) label v p g (seconds-few t) hg w);
-  }
+module _ (t : MessageType) (file : List ℕ) (at end : ℕ) (ordered : at ≤ end) (inside : end ≤ length file) where
+  abbrev line : List ℕ
+  line = part at end file
+
+  size : end ≡ at + length line
+  size = omega (arith, length-part at end file inside)
+
+  module _ (p : Span) (placed : p ≡ trimmedAt at line) where
+    pub held : HoldsText file p (trim line)
+    held = span-holds file at end ordered inside p placed
+
+    text-is : partOf file p ≡ trim line
+    text-is = held .holds
+
+    pub row-is : (s : Bool) → s ≡ isSep (partOf file p) → item end s 0 0 p ≡ itemIn t 1 at line
+    row-is s e =
+        rw (placed, e ∙ ap isSep text-is) (ap (λ (k : ℕ). item k (isSep (trim line)) 0 0 (trimmedAt at line)) size ∙ as-row t 1 at line refl)
+
+    pub separator-is : (n : ℕ) {s : Bool} → s ≡ isSep (partOf file p) → s ≡ true → item end true 0 0 p ≡ itemIn t n at line
+    separator-is n e y =
+        rw placed
+        (ap (λ (k : ℕ). item k true 0 0 (trimmedAt at line)) size ∙ as-separator t n at line (sym (ap isSep text-is) ∙ sym e ∙ y))
+
+    pub field-is : (n : ℕ) {s : Bool} {i : Item} → s ≡ isSep (partOf file p) → s ≡ false → (n ≡ 1 → ⊥)
+        → i ≡ fielded end (fieldIn (firstLabels t) line) (fieldIn (secondLabels t) line) at line → i ≡ itemIn t n at line
+    field-is n e y ne i-is =
+        i-is ∙ ap (λ (k : ℕ). fielded k (fieldIn (firstLabels t) line) (fieldIn (secondLabels t) line) at line) size
+        ∙ as-field t n at line (sym (ap isSep text-is) ∙ sym e ∙ y) ne
+
+  pub below-one : (n : ℕ) {i : Item} → n ≡ 1 → i ≡ itemIn t 1 at line → i ≡ itemIn t n at line
+  below-one n e h = h ∙ ap (λ (k : ℕ). itemIn t k at line) (sym e)
 
 -- ---- a text divided at its first '='
 
@@ -117,38 +90,66 @@ unfolding any upto
 one-there p [] h = absurd (h refl)
 one-there p (x ∷ t) h = by-test (p x) (λ e. rw e) (λ e. rw e (one-there p t (λ q. h (rw e (ap suc q)))))
 
--- without '=' there is no field
-no-entry : (ls : List (List ℕ)) (x : List ℕ) → paramOf x ≡ none → entryIn ls x ≡ none
-unfolding entryIn
-no-entry ls x e = rw e
+nobody : (end at : ℕ) (l : List ℕ) → item end false 0 0 noSpan ≡ fielded end 0 0 at l
+unfolding fielded
+nobody end at l = refl
 
-pub no-value : (t : MessageType) (file : List ℕ) (p : Span) (n end e : ℕ) → isSep (partOf file p) ≡ false → (n ≡ 1 → ⊥)
-    → e ≡ firstOf 61 (partOf file p) → e ≡ length (partOf file p) → IsItem t file (partOf file p) n (item end false 0 0 p)
-no-value t file p n end e s ne he hl =
-    let x = partOf file p in
-    let none-here = no-param x (none-there (is 61) x (sym he ∙ hl)) in
-    is-nothing t file x n end p s ne (no-entry (firstLabels t) x none-here) (no-entry (secondLabels t) x none-here)
+no-field : (ls : List (List ℕ)) (l : List ℕ) → any (is 61) l ≡ false → 0 ≡ fieldIn ls l
+unfolding fieldIn
+no-field ls l e = rw e
 
-module _ (t : MessageType) (file : List ℕ) (p : Span) (e : ℕ) (he : e ≡ firstOf 61 (partOf file p)) (hl : e ≡ length (partOf file p) → ⊥) where
-  divided : paramOf (partOf file p) ≡ some (param (trim (take e (partOf file p))) (trim (part (p .from + e + 1) (p .to) file)))
-  unfolding paramOf
-  divided =
-      let x = partOf file p in
-      let u : upto (is 61) x ≡ take e x = upto-take (is 61) x ∙ ap (λ (k : ℕ). take k x) (sym he) in
-      let m : p .from + (firstOf 61 x + 1) ≡ p .from + e + 1 = omega (arith, he) in
-      let q : past (is 61) x ≡ part (p .from + e + 1) (p .to) file = past-drop (is 61) x ∙ part-from file (p .from) (p .to) (firstOf 61 x + 1) ∙ ap (λ (k : ℕ). part k (p .to) file) m in
-      rw (one-there (is 61) x (λ z. hl (he ∙ z)), u, q)
+pub its-field : (ls : List (List ℕ)) (l : List ℕ) → any (is 61) l ≡ true → placeOf ls (trim (upto (is 61) l)) ≡ fieldIn ls l
+unfolding fieldIn
+its-field ls l e = rw e
 
-  -- the value begins within the text
-  pub value-fits : p .from ≤ p .to → p .to ≤ length file → p .from + e + 1 ≤ p .to
-  value-fits h k = omega (arith, upto-length (is 61) (partOf file p), length-part (p .from) (p .to) file k, he, hl)
+with-value : (end at : ℕ) (l : List ℕ) (f g : ℕ) (v : Span) → v ≡ valueSpan at l → (eqb f 0 && eqb g 0) ≡ false → item end false f g v ≡ fielded end f g at l
+unfolding fielded
+with-value end at l f g v v-is z = rw (z, v-is)
 
-  pub a-value : (n end : ℕ) (label : List ℕ) (f g : ℕ) (v : Span) → isSep (partOf file p) ≡ false → (n ≡ 1 → ⊥) → label ≡ trim (take e (partOf file p))
-      → g ≡ placeOf (secondLabels t) label → f ≡ placeOf (firstLabels t) label → HoldsText file v (trim (part (p .from + e + 1) (p .to) file))
-      → IsItem t file (partOf file p) n (item end false f g v)
-  a-value n end label f g v s ne hx hg hf w =
-      is-value t file (partOf file p) n end v s ne (trim (take e (partOf file p))) (trim (part (p .from + e + 1) (p .to) file)) f g divided
-      (hf ∙ ap (placeOf (firstLabels t)) hx) (hg ∙ ap (placeOf (secondLabels t)) hx) w
+module _ (t : MessageType) (end at : ℕ) (l : List ℕ) (e : ℕ) (he : e ≡ firstOf 61 l) where
+  abbrev Line : Item → Type 0
+  Line i = i ≡ fielded end (fieldIn (firstLabels t) l) (fieldIn (secondLabels t) l) at l
+
+  -- without '=' there is no field
+  pub no-equals : {i : Item} → i ≡ item end false 0 0 noSpan → e ≡ length l → Line i
+  no-equals i-is h =
+      let none-here = none-there (is 61) l (sym he ∙ h) in
+      i-is ∙ nobody end at l ∙ ap₂ (λ (a b : ℕ). fielded end a b at l) (no-field (firstLabels t) l none-here) (no-field (secondLabels t) l none-here)
+
+  module _ (hl : e ≡ length l → ⊥) (label : List ℕ) (label-is : label ≡ trim (take e l)) (f g : ℕ)
+      (hg : g ≡ placeOf (secondLabels t) label) (hf : f ≡ placeOf (firstLabels t) label) where
+    here : any (is 61) l ≡ true
+    here = one-there (is 61) l (λ z. hl (he ∙ z))
+
+    fields-are : fielded end f g at l ≡ fielded end (fieldIn (firstLabels t) l) (fieldIn (secondLabels t) l) at l
+    fields-are =
+        let x : label ≡ trim (upto (is 61) l) = label-is ∙ ap trim (ap (λ (k : ℕ). take k l) he ∙ sym (upto-take (is 61) l)) in
+        ap₂ (λ (a b : ℕ). fielded end a b at l) (hf ∙ ap (placeOf (firstLabels t)) x ∙ its-field (firstLabels t) l here)
+        (hg ∙ ap (placeOf (secondLabels t)) x ∙ its-field (secondLabels t) l here)
+
+    -- a foreign label
+    pub no-label : {i : Item} → i ≡ item end false 0 0 noSpan → (eqb f 0 && eqb g 0) ≡ true → Line i
+    no-label i-is z =
+        let w = and-parts (eqb f 0) (eqb g 0) z in
+        i-is ∙ nobody end at l ∙ ap₂ (λ (a b : ℕ). fielded end a b at l) (sym (eqb-true f 0 (w .0))) (sym (eqb-true g 0 (w .1))) ∙ fields-are
+
+    -- a field's label
+    pub a-label : (v : Span) → v ≡ valueSpan at l → (eqb f 0 && eqb g 0) ≡ false → Line (item end false f g v)
+    a-label v v-is z = with-value end at l f g v v-is z ∙ fields-are
+
+-- where the value stands, by the line's ends
+module _ (file : List ℕ) (at end e : ℕ) (ordered : at ≤ end) (inside : end ≤ length file) (he : e ≡ firstOf 61 (part at end file))
+    (hl : e ≡ length (part at end file) → ⊥) where
+  pub value-fits : at + e + 1 ≤ end
+  value-fits = omega (arith, upto-length (is 61) (part at end file), length-part at end file inside)
+
+  pub value-place : trimmedAt (at + e + 1) (part (at + e + 1) end file) ≡ valueSpan at (part at end file)
+  value-place =
+      let l = part at end file in
+      let m : at + (firstOf 61 l + 1) ≡ at + e + 1 = omega (arith, he) in
+      let v : part (at + e + 1) end file ≡ past (is 61) l =
+      sym (past-drop (is 61) l ∙ part-from file at end (firstOf 61 l + 1) ∙ ap (λ (k : ℕ). part k end file) m) in
+      ap₂ (λ (k : ℕ) (x : List ℕ). trimmedAt (at + k + 1) x) he v
 
 -- ---- an empty line, and one that begins with an asterisk (42): no separator, and no label's
 
@@ -178,33 +179,39 @@ star-trim : (s : List ℕ) → trim (42 ∷ s) ≡ 42 ∷ skipEnd isBlank s
 unfolding trim skip skipEnd
 star-trim s = keep-no isBlank 42 (skipEnd isBlank s) refl
 
-star-sep : (x : List ℕ) → isSep (42 ∷ x) ≡ false
+star-sep : (s : List ℕ) → isSep (trim (42 ∷ s)) ≡ false
 unfolding isSep all
-star-sep x = and-false (leb 5 (length (42 ∷ x)))
+star-sep s = ap isSep (star-trim s) ∙ and-false (leb 5 (length (42 ∷ skipEnd isBlank s)))
 
-star-entry : (ls : List (List ℕ)) (x : List ℕ) → ((y : List ℕ) → placeOf ls (42 ∷ y) ≡ 0) → entryIn ls (42 ∷ x) ≡ none
-unfolding entryIn paramOf any upto entryOf
-star-entry ls x none-such =
-    by-test (any (is 61) x) (λ t. rw (t, star-trim (upto (is 61) x), none-such (skipEnd isBlank (upto (is 61) x)))) (λ t. rw t)
+star-field : (ls : List (List ℕ)) (s : List ℕ) → ((y : List ℕ) → placeOf ls (42 ∷ y) ≡ 0) → 0 ≡ fieldIn ls (42 ∷ s)
+unfolding fieldIn any upto
+star-field ls s none-such =
+    by-test (any (is 61) s) (λ t. rw (t, star-trim (upto (is 61) s), none-such (skipEnd isBlank (upto (is 61) s)))) (λ t. rw t)
 
 empty-sep : isSep (trim []) ≡ false
 unfolding isSep trim skip skipEnd
 empty-sep = refl
 
-empty-entry : (ls : List (List ℕ)) → entryIn ls (trim []) ≡ none
-unfolding entryIn trim skip skipEnd paramOf any
-empty-entry ls = refl
+empty-field : (ls : List (List ℕ)) → 0 ≡ fieldIn ls []
+unfolding fieldIn any
+empty-field ls = refl
 
-pub is-foreign : (t : MessageType) (file line : List ℕ) (n end : ℕ) → isForeign line ≡ true → (n ≡ 1 → ⊥)
-    → IsItem t file (trim line) n (item end false 0 0 noSpan)
+foreign-is : (t : MessageType) (n at : ℕ) (l : List ℕ) → isForeign l ≡ true → (n ≡ 1 → ⊥) → item (at + length l) false 0 0 noSpan ≡ itemIn t n at l
 unfolding isForeign
-is-foreign t file [] n end e ne = is-nothing t file (trim []) n end noSpan empty-sep ne (empty-entry (firstLabels t)) (empty-entry (secondLabels t))
-is-foreign t file (b ∷ s) n end e ne =
-    let x = skipEnd isBlank s in
-    let y : trim (b ∷ s) ≡ 42 ∷ x = ap (λ (c : ℕ). trim (c ∷ s)) (eqb-true b 42 e) ∙ star-trim s in
-    rw y
-    (is-nothing t file (42 ∷ x) n end noSpan (star-sep x) ne (star-entry (firstLabels t) x (star-foreign (layoutOf t)))
-    (star-entry (secondLabels t) x (second-star t)))
+foreign-is t n at [] e ne =
+    nobody (at + 0) at [] ∙ ap₂ (λ (a b : ℕ). fielded (at + 0) a b at []) (empty-field (firstLabels t)) (empty-field (secondLabels t))
+    ∙ as-field t n at [] empty-sep ne
+foreign-is t n at (b ∷ s) e ne =
+    let end = at + suc (length s) in
+    rw (eqb-true b 42 e)
+    (nobody end at (42 ∷ s)
+    ∙ ap₂ (λ (a b : ℕ). fielded end a b at (42 ∷ s)) (star-field (firstLabels t) s (star-foreign (layoutOf t))) (star-field (secondLabels t) s (second-star t))
+    ∙ as-field t n at (42 ∷ s) (star-sep s) ne)
+
+pub passed-over : (t : MessageType) (file : List ℕ) (at end : ℕ) → at ≤ end → end ≤ length file → (n : ℕ) {i : Item} → i ≡ item end false 0 0 noSpan
+    → isForeign (part at end file) ≡ true → (n ≡ 1 → ⊥) → i ≡ itemIn t n at (part at end file)
+passed-over t file at end h k n i-is e ne =
+    i-is ∙ ap (λ (j : ℕ). item j false 0 0 noSpan) (size t file at end h k) ∙ foreign-is t n at (part at end file) e ne
 
 -- ---- a line of a type other than CB has no second field; one of CB that has it past the two shared ones has no first
 
@@ -219,11 +226,3 @@ no-first Sr k x e h = absurd (omega arith)
 no-first Vq k x e h = absurd (omega arith)
 no-first Ri k x e h = absurd (omega arith)
 no-first Qr k x e h = absurd (omega arith)
-
--- ---- a line by its place
-
-pub by-place : (t : MessageType) (file x : List ℕ) (n : ℕ) (p : Span) (i : Item) → HoldsText file p x → IsItem t file (partOf file p) n i → IsItem t file x n i
-by-place t file x n p i w h = subst (λ (y : List ℕ). IsItem t file y n i) (w .holds) h
-
-pub below-one : (t : MessageType) (file x : List ℕ) (n : ℕ) (i : Item) → n ≡ 1 → IsItem t file x 1 i → IsItem t file x n i
-below-one t file x n i e h = subst (λ (k : ℕ). IsItem t file x k i) (sym e) h

@@ -1,42 +1,38 @@
 -- A line with the label that is expected tried first: where it ends, and what it is. Assumes nothing.
 use Prim.Native.Nat.{ℕ, _+_, _-_, _≤_, _<_}
-use Rattle.reader_line.proofs.Heads.{Headed, headed, run-past, line-param}
+use Rattle.reader_line.proofs.Heads.{Headed, headed, run-past, line-past}
 use Rattle.reader_line.proofs.Labels.{good-at}
-use Rattle.reader_line.proofs.Meanings.{item, is-value}
-use Rattle.reader_line.specs.Items.{headOf, IsExpected, IsItem}
+use Rattle.reader_line.proofs.Meanings.{its-field, as-field}
+use Rattle.reader_line.specs.Items.{firstLabels, secondLabels, headOf, IsExpected, item, lineFrom, fielded, itemIn, itemOf}
 use Rattle.reader_line.specs.declared.Expected.{Expected}
 use Rattle.reader_line.specs.declared.Item.{Item}
 use Rattle.layout.proofs.Labels.{GoodLabel}
 use Rattle.layout.specs.Layouts.{labelAt}
-use Rattle.text_lines.proofs.Params.{no-param, sep-equals}
+use Rattle.text_lines.proofs.Params.{sep-equals, equals-trim, blanks-equals, trim-end-blanks}
 use Rattle.text_lines.proofs.Steps.{run-length}
-use Rattle.text_lines.specs.Lines.{Param, param, paramOf, isSep}
-use Rattle.text_lines.specs.Places.{HoldsText, notPlain, plainRun}
+use Rattle.text_lines.specs.Entries.{placeOf}
+use Rattle.text_lines.specs.Lines.{isSep}
+use Rattle.text_lines.specs.Places.{notPlain, plainRun, trimmedAt, valueSpan}
+use Rattle.text_lines.specs.Spots.{fieldIn}
 use Rattle.text_lines.specs.declared.Span.{Span}
 use Rattle.value_name.specs.declared.MessageType.{MessageType}
-use Rattle.text.proofs.Cuts.{tail, upto-take}
-use Rattle.text.proofs.Tests.{by-test, by-eq}
+use Rattle.text.proofs.Cuts.{tail, upto-take, any-append, any-seam, upto-seam, past-seam}
+use Rattle.text.proofs.Tests.{by-test, by-eq, and-parts}
 use Rattle.text.proofs.Trims.{tidy-parts}
-use Rattle.text.specs.Bytes.{part, upto, any, is, trim}
-use borrow.Author.Tests.{eq-eqb, ne-eqb}
+use Rattle.text.specs.Bytes.{part, upto, past, any, is, firstOf, trim}
+use borrow.Author.Tests.{eq-eqb, ne-eqb, eqb-true}
 use lib.Dec.{eqb}
 use lib.ListN.{length, take, drop, length-append, length-drop}
 use lib.Seq.{drop-drop}
-use mathlib.Core.Bool.{false, cond}
-use mathlib.Core.List.{List, _∷_, _++_}
-use mathlib.Core.Option.{none, some}
-use mathlib.Core.Path.{_≡_, refl, sym, ap, _∙_, subst}
+use mathlib.Core.Bool.{true, false, _&&_, cond}
+use mathlib.Core.List.{List, _∷_, _++_, append-assoc}
+use mathlib.Core.Path.{_≡_, refl, sym, ap, ap₂, _∙_}
 use native.Mathlib.Omega.{arith}
 
 -- ---- a line that begins as it was expected to
 
-param-no-sep : (x : List ℕ) (q : Param) → paramOf x ≡ some q → isSep x ≡ false
-param-no-sep x q e =
-    by-test (any (is 61) x) (λ h. sep-equals x h)
-    (λ h. let z : none ≡ some q = sym (no-param x h) ∙ e in let y : _≡_ {A = ℕ} 0 1 = cc in absurd (omega arith))
-
 -- the line from `at` to the end of its printable bytes
-line-is : (file : List ℕ) (at end : ℕ) → end ≡ at + plainRun (drop at file) → part at end file ≡ upto notPlain (drop at file)
+line-is : (file : List ℕ) (at end : ℕ) → end ≡ at + plainRun (drop at file) → part at end file ≡ lineFrom file at
 line-is file at end e =
     let n : end - at ≡ plainRun (drop at file) = omega arith in
     ap (λ (k : ℕ). take k (drop at file)) n ∙ sym (upto-take notPlain (drop at file))
@@ -61,19 +57,63 @@ module _ (t : MessageType) (file : List ℕ) (at n h : ℕ) (x : Expected) (hx :
   expected-end end k r e =
       omega (arith, e, r, run-past label (drop at file) h begins (tidy-parts label (good .is-tidy) .0), ap plainRun (drop-drop h at file))
 
-  pub as-expected : (end : ℕ) (v : Span) → end ≡ at + h + plainRun (drop (at + h) file) → (n ≡ 1 → ⊥) → HoldsText file v (trim (part (at + h) end file))
-      → IsItem t file (trim (part at end file)) n (item end false (x .first) (x .second) v)
-  as-expected end v e ne w =
-      let whole = line-is file at end (expected-end end (plainRun (drop (at + h) file)) refl e) in
-      let value : upto notPlain (drop h (drop at file)) ≡ part (at + h) end file =
-      ap (upto notPlain) (drop-drop h at file) ∙ sym (line-is file (at + h) end e) in
-      let tidied = tidy-parts label (good .is-tidy) in
-      let q : paramOf (trim (part at end file)) ≡ some (param label (trim (part (at + h) end file))) =
-      ap (λ (l : List ℕ). paramOf (trim l)) whole ∙ line-param label (drop at file) h begins (tidied .0) (tidied .1) (good .no-equals)
-      ∙ ap (λ (l : List ℕ). some (param label (trim l))) value in
-      let no-sep = param-no-sep (trim (part at end file)) (param label (trim (part (at + h) end file))) q in
-      is-value t file (trim (part at end file)) n end v no-sep ne label (trim (part (at + h) end file)) (x .first) (x .second) q
-      (hx .first (begins .some-label)) (hx .second (begins .some-label)) w
+  abbrev line : List ℕ
+  line = lineFrom file at
+
+  -- the label with the blanks behind it, and the value
+  abbrev front : List ℕ
+  front = label ++ begins .front
+
+  abbrev value : List ℕ
+  value = upto notPlain (drop h (drop at file))
+
+  cut : line ≡ front ++ 61 ∷ value
+  cut = line-past label (drop at file) h begins (tidy-parts label (good .is-tidy) .0) ∙ sym (append-assoc label (begins .front) (61 ∷ value))
+
+  no-equals-before : any (is 61) front ≡ false
+  no-equals-before = any-append (is 61) label (begins .front) (good .no-equals) (blanks-equals (begins .front) (begins .blank))
+
+  equals : any (is 61) line ≡ true
+  equals = ap (any (is 61)) cut ∙ any-seam (is 61) front 61 value refl
+
+  before-is : upto (is 61) line ≡ front
+  before-is = ap (upto (is 61)) cut ∙ upto-seam (is 61) front 61 value no-equals-before refl
+
+  label-is : trim (upto (is 61) line) ≡ label
+  label-is = ap trim before-is ∙ trim-end-blanks label (begins .front) (begins .blank) ∙ tidy-parts label (good .is-tidy) .1
+
+  field : (ls : List (List ℕ)) → placeOf ls label ≡ fieldIn ls line
+  field ls = ap (placeOf ls) (sym label-is) ∙ its-field ls line equals
+
+  value-span : (end : ℕ) → end ≡ at + h + plainRun (drop (at + h) file) → trimmedAt (at + h) (part (at + h) end file) ≡ valueSpan at line
+  value-span end e =
+      let first : at + h ≡ at + firstOf 61 line + 1 = omega (arith, ap length before-is, length-append label (begins .front), begins .size) in
+      let rest : part (at + h) end file ≡ past (is 61) line =
+      line-is file (at + h) end e ∙ ap (upto notPlain) (sym (drop-drop h at file))
+      ∙ sym (ap (past (is 61)) cut ∙ past-seam (is 61) front 61 value no-equals-before refl) in
+      ap₂ trimmedAt first rest
+
+  some-of-both : (eqb (x .first) 0 && eqb (x .second) 0) ≡ false
+  some-of-both =
+      by-test (eqb (x .first) 0 && eqb (x .second) 0)
+      (λ z.
+      let w = and-parts (eqb (x .first) 0) (eqb (x .second) 0) z in
+      absurd (omega (arith, hx .some-field (begins .some-label), eqb-true (x .first) 0 (w .0), eqb-true (x .second) 0 (w .1))))
+      (λ z. z)
+
+  pub as-expected : (end : ℕ) (v : Span) → end ≡ at + h + plainRun (drop (at + h) file) → (n ≡ 1 → ⊥) → v ≡ trimmedAt (at + h) (part (at + h) end file)
+      → item end false (x .first) (x .second) v ≡ itemOf t file at n
+  unfolding itemOf fielded
+  as-expected end v e ne v-is =
+      let size : end ≡ at + length line = expected-end end (plainRun (drop (at + h) file)) refl e in
+      let no-sep : isSep (trim line) ≡ false = sep-equals (trim line) (equals-trim line ∙ equals) in
+      let a = hx .first (begins .some-label) ∙ field (firstLabels t) in
+      let b = hx .second (begins .some-label) ∙ field (secondLabels t) in
+      let here : item end false (x .first) (x .second) v ≡ fielded end (x .first) (x .second) at line = rw (some-of-both, v-is ∙ value-span end e) in
+      here
+      ∙ ap₂ (λ (f g : ℕ). fielded end f g at line) a b
+      ∙ ap (λ (k : ℕ). fielded k (fieldIn (firstLabels t) line) (fieldIn (secondLabels t) line) at line) size
+      ∙ as-field t n at line no-sep ne
 
 -- ---- what the code finds: h bytes of an expected label and '=', 0 where they do not stand there, and k printable bytes behind them
 
@@ -97,20 +137,13 @@ module _ (t : MessageType) (file : List ℕ) (at n : ℕ) (x : Expected) (hx : I
     pub run-inside : at + h + k ≤ length file
     run-inside = omega (arith, run-is, run-length (drop (at + h) file), length-drop (at + h) file, head-inside)
 
-    pub met : 0 < h → (v : Span) → HoldsText file v (trim (part (at + h) (at + h + k) file))
-        → (at + h + k ≡ at + plainRun (drop at file))
-        × IsItem t file (trim (part at (at + h + k) file)) n (item (at + h + k) false (x .first) (x .second) v)
-    met s v w =
-        let e = head-is (not-row s) in (
-          expected-end t file at n h x hx e s (at + h + k) k run-is refl,
-          as-expected t file at n h x hx e s (at + h + k) v (ap (λ (j : ℕ). at + h + j) run-is) (not-row s) w,
-        )
+    pub met : 0 < h → (v : Span) → v ≡ trimmedAt (at + h) (part (at + h) (at + h + k) file)
+        → item (at + h + k) false (x .first) (x .second) v ≡ itemOf t file at n
+    met s v w = as-expected t file at n h x hx (head-is (not-row s)) s (at + h + k) v (ap (λ (j : ℕ). at + h + j) run-is) (not-row s) w
 
-    pub not-met : h ≤ 0 → (i : Item) → (i .end ≡ at + h + k) × IsItem t file (trim (part at (at + h + k) file)) n i
-        → (i .end ≡ at + plainRun (drop at file)) × IsItem t file (trim (part at (i .end) file)) n i
+    pub not-met : h ≤ 0 → (i : Item) → i ≡ itemIn t n at (part at (at + h + k) file) → i ≡ itemOf t file at n
+    unfolding itemOf
     not-met s i w =
-        let z : h ≡ 0 = omega arith in
-        let a : at + h ≡ at = omega arith in (
-          omega (arith, w .0, run-is, ap (λ (j : ℕ). plainRun (drop j file)) a),
-          subst (λ (j : ℕ). IsItem t file (trim (part at j file)) n i) (sym (w .0)) (w .1),
-        )
+        let z : at + h ≡ at = omega arith in
+        let size : at + h + k ≡ at + plainRun (drop at file) = omega (arith, run-is, ap (λ (j : ℕ). plainRun (drop j file)) z) in
+        w ∙ ap (itemIn t n at) (line-is file at (at + h + k) size)

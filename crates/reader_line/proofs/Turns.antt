@@ -1,6 +1,6 @@
 -- The label that is expected at a turn: where it stands in the layouts of its type. Assumes nothing.
 use Prim.Native.Nat.{ℕ, _-_, _≤_, _<_}
-use Rattle.reader_line.proofs.Labels.{own-place, market-shared, market-foreign, mfrr-foreign}
+use Rattle.reader_line.proofs.Labels.{in-layout, own-place, market-shared, market-foreign, mfrr-foreign}
 use Rattle.reader_line.specs.Items.{secondLabels, IsExpected}
 use Rattle.reader_line.specs.declared.Expected.{Expected}
 use Rattle.layout.specs.Layouts.{labelsOf, layoutOf}
@@ -25,13 +25,13 @@ pub second-is : (t : MessageType) (x : List ℕ) (k : ℕ) → t ≡ Cb → k �
 second-is t x k e h = h ∙ ap (λ (u : MessageType). placeOf (secondLabels u) x) (sym e)
 
 pub market-two : (k : ℕ) → k ≤ 2 → IsExpected Cb (expected Market k k k)
-market-two k h = record { first = own-place Market k; second = λ s. market-shared k s h }
+market-two k h = record { first = own-place Market k; second = λ s. market-shared k s h; some-field = λ s. omega (arith, in-layout Market k s .0) }
 
 pub market-own : (k : ℕ) → 2 < k → IsExpected Cb (expected Market k k 0)
-market-own k h = record { first = own-place Market k; second = λ s. market-foreign k h }
+market-own k h = record { first = own-place Market k; second = λ s. market-foreign k h; some-field = λ s. omega arith }
 
 mfrr-field : (k : ℕ) → 2 < k → IsExpected Cb (expected Mfrr k 0 k)
-mfrr-field k h = record { first = λ s. mfrr-foreign k h; second = own-place Mfrr k }
+mfrr-field k h = record { first = λ s. mfrr-foreign k h; second = own-place Mfrr k; some-field = λ s. omega arith }
 
 pub mfrr-own : (t : MessageType) (turn : ℕ) → t ≡ Cb → 26 < turn → IsExpected t (expected Mfrr (turn - 24) 0 (turn - 24))
 mfrr-own t turn e h =
@@ -58,4 +58,5 @@ no-second Qr x o = refl
 pub only-layout : (t : MessageType) (l : Layout) (k : ℕ) → OneOf (1 ∷ 2 ∷ 3 ∷ 4 ∷ 5 ∷ 6 ∷ 7 ∷ 8 ∷ []) (tagOf the-type t) → l ≡ layoutOf t
     → IsExpected t (expected l k k 0)
 only-layout t l k o e =
-    subst (λ (m : Layout). IsExpected t (expected m k k 0)) (sym e) (record { first = own-place (layoutOf t) k; second = λ s. no-second t _ o })
+    subst (λ (m : Layout). IsExpected t (expected m k k 0)) (sym e)
+    (record { first = own-place (layoutOf t) k; second = λ s. no-second t _ o; some-field = λ s. omega (arith, in-layout (layoutOf t) k s .0) })

@@ -5,18 +5,18 @@ use Rattle.reader_line.specs.declared.Item.{Item}
 use Rattle.layout_label.specs.Labels.{padded}
 use Rattle.layout.specs.Layouts.{labelsOf, labelAt, layoutOf}
 use Rattle.layout.specs.declared.Layout.the-variants.{Mfrr}
-use Rattle.text_lines.specs.Entries.{Entry, entryOf, placeOf}
-use Rattle.text_lines.specs.Lines.{Param, paramOf, isSep}
-use Rattle.text_lines.specs.Places.{HoldsText}
+use Rattle.text_lines.specs.Entries.{placeOf}
+use Rattle.text_lines.specs.Lines.{isSep}
+use Rattle.text_lines.specs.Places.{noSpan, notPlain, trimmedAt, valueSpan}
+use Rattle.text_lines.specs.Spots.{fieldIn}
 use Rattle.text_lines.specs.declared.Span.{Span}
 use Rattle.value_name.specs.declared.MessageType.{MessageType}
 use Rattle.value_name.specs.declared.MessageType.the-variants.{Cb, Rc, Mg, Eb, Lb, Sr, Vq, Ri, Qr}
-use Rattle.text.specs.Bytes.{is, skip, starts, isBlank}
-use lib.Dec.{leb}
+use Rattle.text.specs.Bytes.{is, skip, starts, isBlank, upto, trim}
+use lib.Dec.{eqb, leb}
 use lib.ListN.{length, getD, drop}
-use mathlib.Core.Bool.{Bool, true, false, _&&_, cond}
+use mathlib.Core.Bool.{Bool, true, false, _&&_, _||_, cond}
 use mathlib.Core.List.{List, [], _∷_, _++_}
-use mathlib.Core.Option.{Option, none, some}
 use mathlib.Core.Path.{_≡_}
 
 -- the labels of a type's layout; of CB the market layout's
@@ -53,30 +53,31 @@ unfoldable pub isForeign : List ℕ → Bool
 isForeign [] = true
 isForeign (b ∷ s) = is 42 b
 
--- the fields of a label that is expected are right wherever there is such a label
+-- the fields of a label that is expected are right wherever there is such a label: it has one
 pub record IsExpected (t : MessageType) (e : Expected) : Type 0 where
   pub first : 1 ≤ length (labelAt (e .layout) (e .field)) → e .first ≡ placeOf (firstLabels t) (labelAt (e .layout) (e .field))
   pub second : 1 ≤ length (labelAt (e .layout) (e .field)) → e .second ≡ placeOf (secondLabels t) (labelAt (e .layout) (e .field))
+  pub some-field : 1 ≤ length (labelAt (e .layout) (e .field)) → 1 ≤ e .first + e .second
 
--- ---- the entry of a line's text
+-- ---- what a line is
 
-abbrev pub ifParam : List (List ℕ) → Option Param → Option Entry
-ifParam ls none = none
-ifParam ls (some p) = entryOf ls p
+abbrev pub item : ℕ → Bool → ℕ → ℕ → Span → Item
+item end s f g p = record { end = end; separator = s; first = f; second = g; value = p }
 
-unfoldable pub entryIn : List (List ℕ) → List ℕ → Option Entry
-entryIn ls x = ifParam ls (paramOf x)
+-- the bytes of the line that begins at a place: those that can be printed
+abbrev pub lineFrom : List ℕ → ℕ → List ℕ
+lineFrom file at = upto notPlain (drop at file)
 
--- the field k with its value at a place is this entry, or 0 is none
-unfoldable pub IsEntry : List ℕ → ℕ → Span → Option Entry → Type 0
-IsEntry file k p none = k ≡ 0
-IsEntry file k p (some e) = (k ≡ e .at) × (1 ≤ e .at) × (e .at ≤ 26) × HoldsText file p (e .value)
+-- a line with the fields a and b: the place of its value, or nowhere where it has none
+unfoldable pub fielded : ℕ → ℕ → ℕ → ℕ → List ℕ → Item
+fielded end a b at l = item end false a b (cond (eqb a 0 && eqb b 0) noSpan (valueSpan at l))
 
--- the line with the trimmed text x, below n separators. The row is the line below one separator; it has no field
-pub record IsItem (t : MessageType) (file x : List ℕ) (n : ℕ) (i : Item) : Type 0 where
-  pub sep : i .separator ≡ isSep x
-  pub row : isSep x ≡ false → n ≡ 1 → HoldsText file (i .value) x
-  pub no-field : (isSep x ≡ true) → (i .first ≡ 0) × (i .second ≡ 0)
-  pub no-row-field : n ≡ 1 → (i .first ≡ 0) × (i .second ≡ 0)
-  pub first : isSep x ≡ false → (n ≡ 1 → ⊥) → IsEntry file (i .first) (i .value) (entryIn (firstLabels t) x)
-  pub second : isSep x ≡ false → (n ≡ 1 → ⊥) → IsEntry file (i .second) (i .value) (entryIn (secondLabels t) x)
+-- the line of these bytes at a place, below n separators: a separator, or the row, which is the line below one; else a field's line or none
+unfoldable pub itemIn : MessageType → ℕ → ℕ → List ℕ → Item
+itemIn t n at l =
+    cond (isSep (trim l) || eqb n 1) (item (at + length l) (isSep (trim l)) 0 0 (trimmedAt at l))
+    (fielded (at + length l) (fieldIn (firstLabels t) l) (fieldIn (secondLabels t) l) at l)
+
+-- THE DEFINITION: what the line at a place of a file is
+unfoldable pub itemOf : MessageType → List ℕ → ℕ → ℕ → Item
+itemOf t file at n = itemIn t n at (lineFrom file at)

@@ -3,15 +3,15 @@ use layout::Layout;
 use text::scan;
 use text_lines::Span;
 use value_name::MessageType;
-ghost use Prim.Native.Nat.{_+_, _≤_, _<_};
-ghost use Rattle.reader_line.specs.Items.{firstLabels, secondLabels, headOf, isPrinted, isForeign, IsExpected, IsItem};
+ghost use Prim.Native.Nat.{_≤_, _<_};
+ghost use Rattle.reader_line.specs.Items.{firstLabels, secondLabels, headOf, isPrinted, isForeign, IsExpected, item, fielded, itemIn, itemOf};
 ghost use Rattle.layout.specs.Layouts.{labelsOf, labelAt};
 ghost use Rattle.text_lines.specs.Entries.{placeOf};
-ghost use Rattle.text_lines.specs.Lines.{isSep};
-ghost use Rattle.text_lines.specs.Places.{partOf, plainRun};
-ghost use Rattle.text.specs.Bytes.{part, same, trim};
+ghost use Rattle.text_lines.specs.Places.{noSpan};
+ghost use Rattle.text_lines.specs.Spots.{fieldIn};
+ghost use Rattle.text.specs.Bytes.{part, same};
 ghost use lib.Dec.{eqb};
-ghost use lib.ListN.{length, drop};
+ghost use lib.ListN.{length};
 ghost use mathlib.Core.Bool.{false, cond};
 ghost use mathlib.Core.Path.{_≡_};
 
@@ -195,7 +195,7 @@ fn head_at(l: Layout, k: usize, s: &[u8]) -> usize
 // The line below one separator: a separator, or the row.
 fn row_item(t: MessageType, s: &[u8], at: usize, end: usize) -> Item
     requires { ⌜ (at ≤ end) × (end ≤ length (now s)) × (end < 65536) ⌝ }
-    ensures { λ r. ⌜ (r .end ≡ end) × IsItem t (now (s .entry)) (trim (part at end (now (s .entry)))) 1 r ⌝ }
+    ensures { λ r. ⌜ r ≡ itemIn t 1 at (part at end (now (s .entry))) ⌝ }
 {
     let p = text_lines::trim_span(s, at, end);
     let a = p.from as usize;
@@ -209,28 +209,36 @@ fn row_item(t: MessageType, s: &[u8], at: usize, end: usize) -> Item
     }
 }
 
-// A text that is no separator: the first '=' divides it, and label and value are trimmed.
-fn param_item(t: MessageType, s: &[u8], p: Span, end: usize, seps: usize) -> Item
-    requires { ⌜ (p .from ≤ p .to) × (p .to ≤ length (now s)) × (isSep (partOf (now s) p) ≡ false) × (seps ≡ 1 → ⊥) ⌝ }
-    ensures { λ r. ⌜ (r .end ≡ end) × IsItem t (now (s .entry)) (partOf (now (s .entry)) p) seps r ⌝ }
+// A line that is nobody's.
+fn nothing(end: usize) -> Item
+    ensures { λ r. ⌜ r ≡ item end false 0 0 noSpan ⌝ }
 {
-    let a = p.from as usize;
-    let z = p.to as usize;
-    let text = &s[a..z];
-    let e = scan::first(text, b'=');
-    if e == text.len() {
-        return Item {
-            end,
-            separator: false,
-            first: 0,
-            second: 0,
-            value: p,
-        };
+    Item {
+        end,
+        separator: false,
+        first: 0,
+        second: 0,
+        value: NOWHERE,
     }
-    let label = scan::trim(&text[..e]);
+}
+
+// A line that is no separator: the first '=' divides it, and label and value are trimmed.
+fn param_item(t: MessageType, s: &[u8], at: usize, end: usize) -> Item
+    requires { ⌜ (at ≤ end) × (end ≤ length (now s)) × (end < 65536) ⌝ }
+    ensures { λ r. ⌜ r ≡ fielded end (fieldIn (firstLabels t) (part at end (now (s .entry)))) (fieldIn (secondLabels t) (part at end (now (s .entry)))) at (part at end (now (s .entry))) ⌝ }
+{
+    let line = &s[at..end];
+    let e = scan::first(line, b'=');
+    if e == line.len() {
+        return nothing(end);
+    }
+    let label = scan::trim(&line[..e]);
     let second = second_of(t, label);
     let first = first_of(t, second, label);
-    let value = text_lines::trim_span(s, a + e + 1, z);
+    if (first == 0) & (second == 0) {
+        return nothing(end);
+    }
+    let value = text_lines::trim_span(s, at + e + 1, end);
     Item {
         end,
         separator: false,
@@ -253,19 +261,13 @@ fn is_foreign(s: &[u8]) -> bool
 // A line that does not begin with the expected label.
 fn other_item(t: MessageType, s: &[u8], at: usize, end: usize, seps: usize) -> Item
     requires { ⌜ (at ≤ end) × (end ≤ length (now s)) × (end < 65536) ⌝ }
-    ensures { λ r. ⌜ (r .end ≡ end) × IsItem t (now (s .entry)) (trim (part at end (now (s .entry)))) seps r ⌝ }
+    ensures { λ r. ⌜ r ≡ itemIn t seps at (part at end (now (s .entry))) ⌝ }
 {
     if seps == 1 {
         return row_item(t, s, at, end);
     }
     if is_foreign(&s[at..end]) {
-        return Item {
-            end,
-            separator: false,
-            first: 0,
-            second: 0,
-            value: NOWHERE,
-        };
+        return nothing(end);
     }
     let p = text_lines::trim_span(s, at, end);
     let a = p.from as usize;
@@ -279,7 +281,7 @@ fn other_item(t: MessageType, s: &[u8], at: usize, end: usize, seps: usize) -> I
             value: p,
         };
     }
-    param_item(t, s, p, end, seps)
+    param_item(t, s, at, end)
 }
 
 // Where the value may begin that follows the label expected at a turn: 0 below one separator, where none is expected.
@@ -297,7 +299,7 @@ fn expected_head(e: Expected, s: &[u8], seps: usize) -> usize
 // was met are printable, so that only those behind it are looked at.
 pub fn line_of(t: MessageType, s: &[u8], at: usize, seps: usize, turn: usize) -> Item
     requires { ⌜ (at ≤ length (now s)) × (length (now s) < 65536) ⌝ }
-    ensures { λ r. ⌜ (r .end ≡ at + plainRun (drop at (now (s .entry)))) × IsItem t (now (s .entry)) (trim (part at (r .end) (now (s .entry)))) seps r ⌝ }
+    ensures { λ r. ⌜ r ≡ itemOf t (now (s .entry)) at seps ⌝ }
 {
     let e = expect(t, turn);
     let h = expected_head(e, &s[at..], seps);

@@ -1,52 +1,37 @@
 -- The walk's invariant: what it has passed and what is left make the whole; its begin, its turn, and its two ends. Assumes nothing.
-use Prim.Native.Nat.{ℕ, suc, _+_, _-_, _≤_, _<_}
-use Rattle.reader_line.specs.Items.{IsItem, firstLabels, secondLabels, entryIn}
+use Prim.Native.Nat.{ℕ, zero, suc, _+_, _-_, _≤_, _<_}
+use Rattle.reader_line.specs.Items.{firstLabels, secondLabels, fielded, lineFrom, itemIn, itemOf}
 use Rattle.reader_line.specs.declared.Item.{Item}
-use Rattle.layout.proofs.Labels.{few, labels-length}
-use Rattle.layout.specs.Layouts.{layoutOf}
-use Rattle.layout.specs.declared.Layout.the-variants.{Mfrr}
+use Rattle.text_lines.proofs.Spots.{forget, entriesAt, lines-turn, marked-in, file-entries}
 use Rattle.text_lines.proofs.Steps.{run-length, line-step, allowed-step, allowed-stop, break-length, break-some, stop-length}
-use Rattle.text_lines.specs.Entries.{stands, again, standing}
-use Rattle.text_lines.specs.Lines.{Marked, mark, marked, ifOutside, isSep, seps, lines, texts, allowedUpto}
+use Rattle.text_lines.specs.Entries.{Entry, stands, again, entries, standing}
+use Rattle.text_lines.specs.Lines.{Marked, ifInside, inside, outside, isSep, params, seps, lines, texts, allowedUpto}
 use Rattle.text_lines.specs.Mask.{maskOf}
-use Rattle.text_lines.specs.Places.{noSpan, plainRun, breakOf}
+use Rattle.text_lines.specs.Places.{noSpan, spanAt, notPlain, plainRun, breakOf}
+use Rattle.text_lines.specs.Spots.{LineAt, lineIf, linesFrom, linesIn, rowSpan, rowPlace, Spot, spots, placeAt, placesFrom, placesIn}
 use Rattle.text_lines.specs.declared.Break.the-variants.{After, Bad}
 use Rattle.text_lines.specs.declared.Span.{Span}
 use Rattle.value_name.specs.declared.MessageType.{MessageType}
-use Rattle.value_name.specs.declared.MessageType.the-variants.{Cb, Rc, Mg, Eb, Lb, Sr, Vq, Ri, Qr}
-use Rattle.text.proofs.Tests.{by-le, cond-le}
-use Rattle.text.specs.Bytes.{part, trim}
+use Rattle.text.proofs.Cuts.{upto-take}
+use Rattle.text.proofs.Tests.{by-test, by-le, cond-le}
+use Rattle.text.specs.Bytes.{part, trim, upto}
 use Rattle.text.specs.Lists.{count, onto, sift}
-use Rattle.reader_walk.proofs.Fields.{seen-small}
-use Rattle.reader_walk.proofs.Line.{frame-seps, frame-inside, walked-line}
-use Rattle.reader_walk.specs.State.{notedOf, frame, frameOf, IsNumber, Fields, Walked, Whole}
+use Rattle.reader_walk.proofs.Fields.{IsNumber, Kept, seen-small, marks-are}
+use Rattle.reader_walk.proofs.Line.{frame-seps, frame-inside, first-few, second-few, Walked, walked-line}
+use Rattle.reader_walk.specs.State.{notedOf, frame, frameOf, noMarks, marksOf, frameIn, wholeOf, stoppedAt, foundOf}
 use Rattle.reader_walk.specs.declared.Found.{Found}
 use Rattle.reader_walk.specs.declared.Frame.{Frame}
 use Rattle.reader_walk.specs.declared.Marks.{Marks}
 use Rattle.reader_walk.specs.declared.Noted.{Noted}
-use lib.ListN.{length, set, replicate, take, drop, length-drop, drop-of-length-le}
-use lib.Seq.{drop-drop}
-use mathlib.Core.Bool.{Bool, cond, false≢true}
-use mathlib.Core.List.{List, [], _∷_, _++_, append-assoc, append-nil}
+use borrow.Author.Tests.{eq-eqb, ne-eqb}
+use lib.Dec.{eqb}
+use lib.ListN.{length, getD, set, replicate, take, drop, length-drop, length-set, drop-of-length-le}
+use lib.Seq.{drop-drop, getD-set-same, getD-set-other}
+use mathlib.Core.Bool.{Bool, cond}
+use mathlib.Core.List.{List, [], _∷_, _++_, map, append-assoc, append-nil}
 use mathlib.Core.Option.{Option, none, some}
 use mathlib.Core.Path.{_≡_, refl, sym, ap, ap₂, _∙_}
 use native.Mathlib.Omega.{arith}
-
--- ---- no layout has more than 26 fields
-
-pub first-few : (t : MessageType) → length (firstLabels t) ≤ 26
-first-few t = omega (arith, labels-length (layoutOf t), few (layoutOf t))
-
-pub second-few : (t : MessageType) → length (secondLabels t) ≤ 26
-second-few Cb = omega (arith, labels-length Mfrr, few Mfrr)
-second-few Rc = omega arith
-second-few Mg = omega arith
-second-few Eb = omega arith
-second-few Lb = omega arith
-second-few Sr = omega arith
-second-few Vq = omega arith
-second-few Ri = omega arith
-second-few Qr = omega arith
 
 -- ---- one line, from at to its end, and what ends it
 
@@ -77,12 +62,23 @@ module _ (s : List ℕ) (at end : ℕ) (h : at < length s) (e : end ≡ at + pla
         let sum : at + (plainRun (drop at s) + n) ≡ end + n = omega arith in
         drop-drop (plainRun (drop at s) + n) at s ∙ ap (λ (j : ℕ). drop j s) sum
 
-    texts-step : texts (drop at s) ≡ trim (part at end s) ∷ texts (drop (end + n) s)
+    texts-step : texts (drop at s) ≡ trim (lineFrom s at) ∷ texts (drop (end + n) s)
     texts-step =
         let some-left : 0 < length (drop at s) = omega (arith, length-drop at s) in
-        let size : plainRun (drop at s) ≡ end - at = omega arith in
         line-step (drop at s) n some-left (left ∙ sym g)
-        ∙ ap₂ (λ (j : ℕ) (r : List ℕ). trim (take j (drop at s)) ∷ texts r) size rest
+        ∙ ap₂ (λ (l r : List ℕ). trim l ∷ texts r) (sym (upto-take notPlain (drop at s))) rest
+
+    lines-next : (m : ℕ) → linesFrom m at (lines (drop at s))
+        ≡ onto (lineIf m at (lineFrom s at))
+        (linesFrom (m + cond (isSep (trim (lineFrom s at))) 1 0) (end + n) (lines (drop (end + n) s)))
+    lines-next m =
+        let some-left : 0 < length (drop at s) = omega (arith, length-drop at s) in
+        let k = plainRun (drop at s) in
+        let next : at + (k + n) ≡ end + n = omega arith in
+        lines-turn (drop at s) n m at some-left (left ∙ sym g)
+        ∙ ap₂ (λ (l : List ℕ) (r : List ℕ). onto (lineIf m at l) (linesFrom (m + cond (isSep (trim l)) 1 0) (at + (k + n)) (lines r)))
+        (sym (upto-take notPlain (drop at s))) rest
+        ∙ ap (λ (a : ℕ). onto (lineIf m at (lineFrom s at)) (linesFrom (m + cond (isSep (trim (lineFrom s at))) 1 0) a (lines (drop (end + n) s)))) next
 
     allowed-more : at + allowedUpto (drop at s) ≡ (end + n) + allowedUpto (drop (end + n) s)
     allowed-more = omega (arith, allowed-step (drop at s) n (left ∙ sym g), ap allowedUpto rest)
@@ -95,8 +91,8 @@ pub record Sofar (t : MessageType) (s : List ℕ) (at : ℕ) (f : Frame) (m : Ma
   pub few-seps : f .seps ≤ at
   pub few-inside : f .inside ≤ at
   pub counted : f .seps + seps (texts (drop at s)) ≡ seps (texts s)
-  pub done : List Marked
-  pub all : done ++ marked (f .seps) (texts (drop at s)) ≡ marked 0 (texts s)
+  pub done : List LineAt
+  pub all : done ++ linesFrom (f .seps) at (lines (drop at s)) ≡ linesIn s
   pub walked : Walked t s f m spans o others done
 
 -- ---- nothing passed
@@ -106,16 +102,17 @@ unfolding standing stands maskOf
 none-standing k [] = refl
 none-standing k (l ∷ ls) = rw (sym (none-standing (suc k) ls))
 
-abbrev nothing : Marks
-nothing = record { seen = 0; again = 0 }
+none-at : (n k : ℕ) → getD (replicate n noSpan) k noSpan ≡ noSpan
+none-at zero k = refl
+none-at (suc n) zero = refl
+none-at (suc n) (suc k) = none-at n k
 
-no-fields : (file : List ℕ) (ls : List (List ℕ)) → Fields file ls nothing (replicate 27 noSpan) []
-unfolding again stands IsNumber
-no-fields file ls =
-    record { long = refl; seen = none-standing 1 ls; repeat = refl; value = λ k a b u. absurd (false≢true u) }
+nothing-kept : (file : List ℕ) (ls : List (List ℕ)) → Kept file ls noMarks (replicate 27 noSpan) (spots ls [])
+unfolding again stands spots sift placeAt
+nothing-kept file ls = record { long = refl; seen = none-standing 1 ls; repeat = refl; place = λ k a b. none-at 27 k }
 
-pub begin : (t : MessageType) (s : List ℕ) → Sofar t s 0 (frame 0 0 noSpan) nothing (replicate 27 noSpan) nothing (replicate 27 noSpan)
-unfolding sift
+pub begin : (t : MessageType) (s : List ℕ) → Sofar t s 0 (frame 0 0 noSpan) noMarks (replicate 27 noSpan) noMarks (replicate 27 noSpan)
+unfolding sift linesIn rowSpan
 begin t s =
     record {
       near = omega arith;
@@ -125,14 +122,47 @@ begin t s =
       counted = omega arith;
       done = [];
       all = refl;
-      walked =
-          record {
-            inside = refl;
-            row = λ h. absurd (omega (arith, h));
-            first = no-fields s (firstLabels t);
-            second = no-fields s (secondLabels t);
-          };
+      walked = record { inside = refl; row = refl; first = nothing-kept s (firstLabels t); second = nothing-kept s (secondLabels t) };
     }
+
+-- ---- the places, with the first set back
+
+-- two lists that are as long and have the same elements are the same
+by-places : (xs ys : List Span) → length xs ≡ length ys → ((k : ℕ) → k < length xs → getD xs k noSpan ≡ getD ys k noSpan) → xs ≡ ys
+by-places [] [] n h = refl
+by-places [] (y ∷ ys) n h = absurd (omega arith)
+by-places (x ∷ xs) [] n h = absurd (omega arith)
+by-places (x ∷ xs) (y ∷ ys) n h =
+    ap₂ (λ (z : Span) (zs : List Span). z ∷ zs) (h 0 (omega arith)) (by-places xs ys (omega arith) (λ k l. h (suc k) (omega arith)))
+
+pub from-length : (n k : ℕ) (es : List Spot) → length (placesFrom n k es) ≡ n
+unfolding placesFrom
+from-length zero k es = refl
+from-length (suc n) k es = ap suc (from-length n (suc k) es)
+
+from-at : (n k : ℕ) (es : List Spot) (j : ℕ) → j < n → getD (placesFrom n k es) j noSpan ≡ placeAt (k + j) es
+unfolding placesFrom
+from-at zero k es j h = absurd (omega arith)
+from-at (suc n) k es zero h = let z : k ≡ k + 0 = omega arith in ap (λ (i : ℕ). placeAt i es) z
+from-at (suc n) k es (suc j) h =
+    let z : suc k + j ≡ k + suc j = omega arith in
+    from-at n (suc k) es j (omega arith) ∙ ap (λ (i : ℕ). placeAt i es) z
+
+-- the fields are numbered from 1
+pub place-next : (es : List Spot) (k : ℕ) → k < 26 → getD (placesFrom 26 1 es) k noSpan ≡ placeAt (suc k) es
+place-next es k h = let n : 1 + k ≡ suc k = omega arith in from-at 26 1 es k h ∙ ap (λ (j : ℕ). placeAt j es) n
+
+pub set-back : (file : List ℕ) (ls : List (List ℕ)) (m : Marks) (spans : List Span) (es : List Spot) → Kept file ls m spans es
+    → set spans 0 noSpan ≡ noSpan ∷ placesFrom 26 1 es
+set-back file ls m spans es f =
+    by-places (set spans 0 noSpan) (noSpan ∷ placesFrom 26 1 es) (length-set spans 0 noSpan ∙ f .long ∙ ap suc (sym (from-length 26 1 es)))
+    (λ k h. each k (omega (arith, h, length-set spans 0 noSpan, f .long)))
+  where
+    each : (k : ℕ) → k < 27 → getD (set spans 0 noSpan) k noSpan ≡ getD (noSpan ∷ placesFrom 26 1 es) k noSpan
+    each zero h = getD-set-same spans 0 noSpan noSpan (omega (arith, f .long))
+    each (suc k) h =
+        getD-set-other spans 0 (suc k) noSpan noSpan (λ z. omega (arith, z)) ∙ f .place (suc k) (omega arith) (omega arith)
+        ∙ sym (place-next es k (omega arith))
 
 -- ---- one turn
 
@@ -140,66 +170,130 @@ onto-append : {B : Type 0} (o : Option B) (xs ys : List B) → (xs ++ onto o [])
 onto-append none xs ys = ap (λ (l : List _). l ++ ys) (append-nil xs)
 onto-append (some y) xs ys = append-assoc xs (y ∷ []) ys
 
+item-separator : (t : MessageType) (n at : ℕ) (l : List ℕ) → itemIn t n at l .separator ≡ isSep (trim l)
+unfolding itemIn fielded
+item-separator t n at l = by-test (isSep (trim l)) (λ e. rw e) (λ e. by-test (eqb n 1) (λ o. rw (e, o)) (λ o. rw (e, o)))
+
+item-end : (t : MessageType) (n at : ℕ) (l : List ℕ) → itemIn t n at l .end ≡ at + length l
+unfolding itemIn fielded
+item-end t n at l = by-test (isSep (trim l)) (λ e. rw e) (λ e. by-test (eqb n 1) (λ o. rw (e, o)) (λ o. rw (e, o)))
+
+-- what the line reader answered is a line of the file
+module _ (t : MessageType) (s : List ℕ) (at n : ℕ) (i : Item) (it : i ≡ itemOf t s at n) where
+  pub item-is : i ≡ itemIn t n at (lineFrom s at)
+  unfolding itemOf
+  item-is = it
+
+  pub end-is : i .end ≡ at + plainRun (drop at s)
+  end-is = ap (λ (y : Item). y .end) item-is ∙ item-end t n at (lineFrom s at)
+
 module _ (t : MessageType) (s : List ℕ) (at : ℕ) (f : Frame) (m : Marks) (spans : List Span) (o : Marks) (others : List Span)
     (w : Sofar t s at f m spans o others) where
   pub first-small : m .seen < 67108864
-  first-small = seen-small s (firstLabels t) m spans (sift (entryIn (firstLabels t)) (sift ifOutside (w .done))) (w .walked .first) (first-few t)
+  first-small = seen-small s (firstLabels t) m spans (spots (firstLabels t) (w .done)) (w .walked .first) (first-few t)
 
   pub second-small : o .seen < 67108864
-  second-small = seen-small s (secondLabels t) o others (sift (entryIn (secondLabels t)) (sift ifOutside (w .done))) (w .walked .second) (second-few t)
+  second-small = seen-small s (secondLabels t) o others (spots (secondLabels t) (w .done)) (w .walked .second) (second-few t)
 
   turn : (end n : ℕ) (i : Item) → at < length s → end ≡ at + plainRun (drop at s) → After n ≡ breakOf (drop end s)
-      → IsItem t s (trim (part at end s)) (f .seps) i
+      → i ≡ itemIn t (f .seps) at (lineFrom s at)
       → Sofar t s (end + n) (frameOf f (i .separator) (i .value)) (notedOf m (i .first) .marks) (set spans (notedOf m (i .first) .into) (i .value))
       (notedOf o (i .second) .marks) (set others (notedOf o (i .second) .into) (i .value))
-  unfolding seps count marked
+  unfolding seps count
   turn end n i h e g it =
-      let x = trim (part at end s) in
+      let l = lineFrom s at in
       let r = texts (drop (end + n) s) in
-      let step = texts-step s at end h e n g in
-      let counts : frameOf f (i .separator) (i .value) .seps ≡ f .seps + cond (isSep x) 1 0 =
-      frame-seps f (i .separator) (i .value) ∙ ap (λ (b : Bool). f .seps + cond b 1 0) (it .sep) in
-      let c : f .seps + (cond (isSep x) 1 0 + count isSep r) ≡ count isSep (texts s) = rw step at (w .counted) in
-      let a : w .done ++ onto (mark (f .seps) x) (marked (f .seps + cond (isSep x) 1 0) r) ≡ marked 0 (texts s) = rw step at (w .all) in
-      let one : cond (isSep x) 1 0 ≤ 1 = cond-le (isSep x) (omega arith) (omega arith) in
+      let counts : frameOf f (i .separator) (i .value) .seps ≡ f .seps + cond (isSep (trim l)) 1 0 =
+      frame-seps f (i .separator) (i .value) ∙ ap (λ (b : Bool). f .seps + cond b 1 0) (ap (λ (y : Item). y .separator) it ∙ item-separator t (f .seps) at l) in
+      let c : f .seps + (cond (isSep (trim l)) 1 0 + count isSep r) ≡ count isSep (texts s) = rw (texts-step s at end h e n g) at (w .counted) in
+      let a = ap (λ (ls : List LineAt). w .done ++ ls) (sym (lines-next s at end h e n g (f .seps))) ∙ w .all in
+      let one : cond (isSep (trim l)) 1 0 ≤ 1 = cond-le (isSep (trim l)) (omega arith) (omega arith) in
       record {
         near = past-near s at end h e n g;
         allowed = omega (arith, w .allowed, allowed-more s at end h e n g);
         few-seps = omega (arith, w .few-seps, counts, one, forward s at end h e n g);
         few-inside = omega (arith, w .few-inside, frame-inside f (i .separator) (i .value), forward s at end h e n g);
         counted = omega (arith, counts, c);
-        done = w .done ++ onto (mark (f .seps) x) [];
-        all = rw counts (onto-append (mark (f .seps) x) (w .done) (marked (f .seps + cond (isSep x) 1 0) r) ∙ a);
-        walked = walked-line t s f m spans o others x i it (w .done) (w .walked);
+        done = w .done ++ onto (lineIf (f .seps) at l) [];
+        all =
+            rw counts
+            (onto-append (lineIf (f .seps) at l) (w .done) (linesFrom (f .seps + cond (isSep (trim l)) 1 0) (end + n) (lines (drop (end + n) s))) ∙ a);
+        walked = walked-line t s f m spans o others (w .done) (w .walked) at l i it;
       }
 
   -- the same of what the code has
-  pub turned : (n : ℕ) (i : Item) (g : Frame) (a b : Noted) → at < length s
-      → (i .end ≡ at + plainRun (drop at s)) × IsItem t s (trim (part at (i .end) s)) (f .seps) i → After n ≡ breakOf (drop (i .end) s)
+  pub turned : (n : ℕ) (i : Item) (g : Frame) (a b : Noted) → at < length s → i ≡ itemOf t s at (f .seps) → After n ≡ breakOf (drop (i .end) s)
       → g ≡ frameOf f (i .separator) (i .value) → a ≡ notedOf m (i .first) → b ≡ notedOf o (i .second)
       → Sofar t s (i .end + n) g (a .marks) (set spans (a .into) (i .value)) (b .marks) (set others (b .into) (i .value))
-  turned n i g a b h it br p q r = rw (p, q, r) (turn (i .end) n i h (it .0) br (it .1))
+  turned n i g a b h it br p q r = rw (p, q, r) (turn (i .end) n i h (end-is t s at (f .seps) i it) br (item-is t s at (f .seps) i it))
 
   -- ---- the two ends
 
-  abbrev found : ℕ → Found
-  found stop = record { stop = stop; frame = f; first = m; places = spans; second = o; others = others }
+  -- what is handed out, with the first of the places set back
+  abbrev handed : ℕ → Frame → Marks → List Span → Marks → List Span → Found
+  handed stop g a ps b os = record { stop = stop; frame = g; first = a; places = set ps 0 noSpan; second = b; others = set os 0 noSpan }
 
-  -- a byte that is not allowed
-  pub stop : (end : ℕ) → at < length s → end ≡ at + plainRun (drop at s) → Bad ≡ breakOf (drop end s) → Whole t s (found end)
-  stop end h e g =
-      let bad = left s at end h e ∙ sym g in
-      let here : allowedUpto s ≡ end = omega (arith, w .allowed, allowed-stop (drop at s) bad) in
-      let less : end < length s = omega (arith, stop-length (drop at s) bad, length-drop at s) in
-      record { stop = sym here; seps = λ q. absurd (omega (arith, q, here, less)); lines = λ q. absurd (omega (arith, q, here, less)) }
+  -- a byte that is not allowed: all is set back
+  module _ (end : ℕ) (h : at < length s) (e : end ≡ at + plainRun (drop at s)) (g : Bad ≡ breakOf (drop end s)) where
+    bad : breakOf (drop (plainRun (drop at s)) (drop at s)) ≡ Bad
+    bad = left s at end h e ∙ sym g
+
+    pub stop-less : end < length s
+    stop-less = omega (arith, stop-length (drop at s) bad, length-drop at s)
+
+    pub stop : (n : ℕ) {k : Frame} {a b : Marks} {ps os : List Span} → n ≡ end → k ≡ frame 0 0 noSpan → a ≡ noMarks → b ≡ noMarks
+        → ps ≡ replicate 27 noSpan → os ≡ replicate 27 noSpan → handed n k a ps b os ≡ foundOf t s
+    unfolding foundOf
+    stop n n-is k-is a-is b-is ps-are os-are =
+        let here : allowedUpto s ≡ end = omega (arith, w .allowed, allowed-stop (drop at s) bad) in
+        rw (n-is, k-is, a-is, b-is, ps-are, os-are, here, ne-eqb end (length s) (λ z. omega (arith, z, stop-less)))
 
   -- the file's end
-  pub finish : length s ≤ at → Whole t s (found at)
-  unfolding seps count texts lines marked allowedUpto
-  finish h =
-      let e = drop-of-length-le s h in
-      let b : allowedUpto s ≡ at + 0 = rw e at (w .allowed) in
-      let c : f .seps + 0 ≡ seps (texts s) = rw e at (w .counted) in
-      let a : w .done ++ [] ≡ marked 0 (texts s) = rw e at (w .all) in
-      let z : f .seps ≡ f .seps + 0 = omega arith in
-      record { stop = omega (arith, b); seps = λ _. z ∙ c; lines = λ _. rw (sym a ∙ append-nil (w .done)) (w .walked) }
+  module _ (over : length s ≤ at) where
+    done-all : w .done ≡ linesIn s
+    unfolding lines linesFrom
+    done-all = let a : w .done ++ [] ≡ linesIn s = rw (drop-of-length-le s over) at (w .all) in sym (append-nil (w .done)) ∙ a
+
+    places-are : (ls : List (List ℕ)) (n : Marks) (ps : List Span) → Kept s ls n ps (spots ls (w .done)) → set ps 0 noSpan ≡ placesIn ls s
+    unfolding placesIn
+    places-are ls n ps k = set-back s ls n ps (spots ls (w .done)) k ∙ ap (λ (ss : List LineAt). noSpan ∷ placesFrom 26 1 (spots ls ss)) done-all
+
+    marks-of : (ls : List (List ℕ)) (n : Marks) (ps : List Span) → Kept s ls n ps (spots ls (w .done)) → n ≡ marksOf ls (entries ls (params (outside (texts s))))
+    marks-of ls n ps k =
+        marks-are s ls n ps (spots ls (w .done)) k
+        ∙ ap (marksOf ls) (ap (λ (ss : List LineAt). entriesAt s (spots ls ss)) done-all ∙ file-entries s ls)
+
+    frame-is : f ≡ frameIn s
+    unfolding seps count texts lines inside rowPlace
+    frame-is =
+        let c : f .seps + 0 ≡ seps (texts s) = rw (drop-of-length-le s over) at (w .counted) in
+        let z : f .seps ≡ f .seps + 0 = omega arith in
+        let i : f .inside ≡ length (inside (texts s)) =
+        w .walked .inside ∙ ap (λ (ss : List LineAt). length (sift ifInside (map forget ss))) done-all
+        ∙ ap (λ (ms : List Marked). length (sift ifInside ms)) (marked-in s) in
+        framed (z ∙ c) i (w .walked .row ∙ ap rowSpan done-all)
+      where
+        framed : {a b : ℕ} {p : Span} → f .seps ≡ a → f .inside ≡ b → f .row ≡ p → f ≡ frame a b p
+        framed a b p = rw (sym a, sym b, sym p)
+
+    clean : allowedUpto s ≡ length s
+    unfolding allowedUpto
+    clean = let b : allowedUpto s ≡ at + 0 = rw (drop-of-length-le s over) at (w .allowed) in omega (arith, w .near)
+
+    whole : handed at f m spans o others ≡ wholeOf t s
+    whole =
+        let size : at ≡ length s = omega (arith, w .near) in
+        rw (
+          size,
+          frame-is,
+          marks-of (firstLabels t) m spans (w .walked .first),
+          marks-of (secondLabels t) o others (w .walked .second),
+          places-are (firstLabels t) m spans (w .walked .first),
+          places-are (secondLabels t) o others (w .walked .second),
+        )
+
+    pub finish : (n : ℕ) {k : Frame} {a b : Marks} {ps os : List Span} → n ≡ at → k ≡ f → a ≡ m → b ≡ o → ps ≡ spans → os ≡ others
+        → handed n k a ps b os ≡ foundOf t s
+    unfolding foundOf
+    finish n n-is k-is a-is b-is ps-are os-are =
+        rw (n-is, k-is, a-is, b-is, ps-are, os-are, eq-eqb (allowedUpto s) (length s) clean) whole

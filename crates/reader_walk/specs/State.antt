@@ -1,23 +1,22 @@
--- What the walk's state says of the lines that it has passed, and what it gives of the whole file.
-use Prim.Native.Nat.{ℕ, _+_, _-_, _^_, _/_, _%_, _≤_}
-use Rattle.reader_line.specs.Items.{firstLabels, secondLabels, entryIn}
-use Rattle.text_lines.specs.Entries.{Entry, again, stands, standing, valueAt}
-use Rattle.text_lines.specs.Lines.{Marked, marked, ifInside, ifOutside, seps, texts, allowedUpto}
+-- What the walk does with one line more, and what it finds in a file. Document 02, A3: one walk, which keeps for each label where its value begins and ends.
+use Prim.Native.Nat.{ℕ, _+_, _-_, _^_, _/_, _%_}
+use Rattle.reader_line.specs.Items.{firstLabels, secondLabels}
+use Rattle.text_lines.specs.Entries.{Entry, again, entries, standing}
+use Rattle.text_lines.specs.Lines.{inside, outside, params, seps, texts, allowedUpto}
 use Rattle.text_lines.specs.Mask.{maskOf}
-use Rattle.text_lines.specs.Places.{HoldsText, spanAt}
+use Rattle.text_lines.specs.Places.{noSpan}
+use Rattle.text_lines.specs.Spots.{rowPlace, placesIn}
 use Rattle.text_lines.specs.declared.Span.{Span}
 use Rattle.value_name.specs.declared.MessageType.{MessageType}
-use Rattle.text.specs.Lists.{sift}
 use Rattle.reader_walk.specs.declared.Found.{Found}
 use Rattle.reader_walk.specs.declared.Frame.{Frame}
 use Rattle.reader_walk.specs.declared.Marks.{Marks}
 use Rattle.reader_walk.specs.declared.Noted.{Noted}
 use lib.Dec.{eqb}
-use lib.ListN.{length, getD}
-use mathlib.Core.Bool.{Bool, true, cond}
+use lib.ListN.{length, replicate}
+use mathlib.Core.Bool.{Bool, cond}
 use mathlib.Core.List.{List, []}
 use mathlib.Core.Option.{Option, none, some}
-use mathlib.Core.Path.{_≡_}
 
 -- ---- one line more, as the code does it
 
@@ -43,30 +42,51 @@ frameOf f separator p =
     cond separator (frame (f .seps + 1) (f .inside) (f .row))
     (cond (eqb (f .seps) 1) (frame (f .seps) (f .inside + 1) (cond (eqb (f .inside) 0) p (f .row))) f)
 
--- ---- what the state says
+-- ---- what is found
 
--- the number of a field that is there, 0 where none is
-unfoldable pub IsNumber : ℕ → Option ℕ → Type 0
-IsNumber n none = n ≡ 0
-IsNumber n (some k) = (n ≡ k) × (1 ≤ k)
+-- the field of the first repeat, 0 where there is none
+abbrev pub orZero : Option ℕ → ℕ
+orZero none = 0
+orZero (some k) = k
 
--- of a layout with the labels ls, after the entries es: the labels seen as bits, the first repeat, and each value's place
-pub record Fields (file : List ℕ) (ls : List (List ℕ)) (m : Marks) (spans : List Span) (es : List Entry) : Type 0 where
-  pub long : length spans ≡ 27
-  pub seen : m .seen ≡ maskOf (standing 1 ls es)
-  pub repeat : IsNumber (m .again) (again [] es)
-  pub value : (k : ℕ) → 1 ≤ k → k ≤ length ls → stands k es ≡ true → HoldsText file (spanAt spans k) (valueAt k es)
+-- the labels of a list that have an entry, as bits from the first field on, and the first repeat
+unfoldable pub marksOf : List (List ℕ) → List Entry → Marks
+marksOf ls es = record { seen = maskOf (standing 1 ls es); again = orZero (again [] es) }
 
--- after the lines `done`
-pub record Walked (t : MessageType) (file : List ℕ) (f : Frame) (m : Marks) (spans : List Span) (o : Marks) (others : List Span) (done : List Marked) : Type 0 where
-  pub inside : f .inside ≡ length (sift ifInside done)
-  pub row : 1 ≤ f .inside → HoldsText file (f .row) (getD (sift ifInside done) 0 [])
-  pub first : Fields file (firstLabels t) m spans (sift (entryIn (firstLabels t)) (sift ifOutside done))
-  pub second : Fields file (secondLabels t) o others (sift (entryIn (secondLabels t)) (sift ifOutside done))
+abbrev pub marksIn : List (List ℕ) → List ℕ → Marks
+marksIn ls file = marksOf ls (entries ls (params (outside (texts file))))
 
--- after the whole file: where all its bytes are allowed, the state says what all its lines say
-pub record Whole (t : MessageType) (file : List ℕ) (r : Found) : Type 0 where
-  pub stop : r .stop ≡ allowedUpto file
-  pub seps : allowedUpto file ≡ length file → r .frame .seps ≡ seps (texts file)
-  pub lines : allowedUpto file ≡ length file
-      → Walked t file (r .frame) (r .first) (r .places) (r .second) (r .others) (marked 0 (texts file))
+-- how many separators, how many lines between the first and the next, and where the row stands
+abbrev pub frameIn : List ℕ → Frame
+frameIn file = frame (seps (texts file)) (length (inside (texts file))) (rowPlace file)
+
+-- in a file of allowed bytes: its frame, and of each list of labels the labels seen and where each value stands
+abbrev pub wholeOf : MessageType → List ℕ → Found
+wholeOf t file =
+    record {
+      stop = length file;
+      frame = frameIn file;
+      first = marksIn (firstLabels t) file;
+      places = placesIn (firstLabels t) file;
+      second = marksIn (secondLabels t) file;
+      others = placesIn (secondLabels t) file;
+    }
+
+-- in any other: where the first byte stands that is not allowed, and nothing of its lines
+abbrev pub noMarks : Marks
+noMarks = record { seen = 0; again = 0 }
+
+abbrev pub stoppedAt : ℕ → Found
+stoppedAt n =
+    record {
+      stop = n;
+      frame = frame 0 0 noSpan;
+      first = noMarks;
+      places = replicate 27 noSpan;
+      second = noMarks;
+      others = replicate 27 noSpan;
+    }
+
+-- THE DEFINITION
+unfoldable pub foundOf : MessageType → List ℕ → Found
+foundOf t file = cond (eqb (allowedUpto file) (length file)) (wholeOf t file) (stoppedAt (allowedUpto file))

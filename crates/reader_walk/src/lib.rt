@@ -4,7 +4,7 @@ use text_lines::Break;
 use text_lines::Span;
 use value_name::MessageType;
 ghost use Prim.Native.Nat.{_+_, _<_, _≤_};
-ghost use Rattle.reader_walk.specs.State.{notedOf, frameOf, Whole};
+ghost use Rattle.reader_walk.specs.State.{notedOf, frameOf, foundOf};
 ghost use Rattle.text.specs.Puts.{limit};
 ghost use lib.Dec.{eqb};
 ghost use lib.ListN.{length};
@@ -135,10 +135,11 @@ fn turn_after(turn: usize, first: usize, second: usize) -> usize
     turn
 }
 
-// One walk over the file, to its end or to the first byte that is not allowed.
+// One walk over the file, to its end or to the first byte that is not allowed: then nothing of its lines is handed out. The first of the places, where
+// lines without a new field leave theirs, is set back. (One struct is made: a second costs what a copy of it does.)
 pub fn walk(t: MessageType, s: &[u8]) -> Found
     requires { ⌜ length (now s) ≤ 8192 ⌝ }
-    ensures { λ r. ⌜ Whole t (now (s .entry)) r ⌝ }
+    ensures { λ r. ⌜ r ≡ foundOf t (now (s .entry)) ⌝ }
 {
     let mut frame = OUTSET;
     let mut first = NOTHING;
@@ -167,6 +168,15 @@ pub fn walk(t: MessageType, s: &[u8]) -> Found
         turn = turn_after(turn, item.first, item.second);
         at = end + n;
     }
+    if at < s.len() {
+        frame = OUTSET;
+        first = NOTHING;
+        second = NOTHING;
+        places = [NOWHERE; 27];
+        others = [NOWHERE; 27];
+    }
+    places[0] = NOWHERE;
+    others[0] = NOWHERE;
     Found {
         stop: at,
         frame,

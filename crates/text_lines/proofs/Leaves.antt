@@ -2,17 +2,18 @@
 -- Assumes nothing.
 use Prim.Native.Nat.{ℕ, _+_, _-_, _≤_, _<_}
 use Rattle.text_lines.specs.Lines.{isSep}
-use Rattle.text_lines.specs.Places.{HoldsText, notPlain, plainRun, breakOf}
+use Rattle.text_lines.specs.Places.{HoldsText, trimmedAt, notPlain, plainRun, breakOf}
+use Rattle.text_lines.specs.declared.Span.{Span}
 use Rattle.text_lines.specs.declared.Break.the-variants.{After, Bad}
 use Rattle.text.proofs.Cuts.{drop-step, part-from, part-front, length-part, upto-here, upto-on, upto-over, upto-end, all-none, skip-drop}
 use Rattle.text.proofs.Trims.{end-take, end-length}
-use Rattle.text.specs.Bytes.{part, all, is, isBlank, isPlain, skip, skipEnd, trim}
+use Rattle.text.specs.Bytes.{part, all, is, isBlank, isPlain, runOf, skip, skipEnd, trim}
 use borrow.Author.Tests.{ne-eqb, le-leb, lt-leb}
 use lib.Dec.{eqb, leb}
 use lib.ListN.{length, getD, take, drop, drop-of-length-le}
 use mathlib.Core.Bool.{true, false, _&&_, and-false}
 use mathlib.Core.List.{List, [], _∷_}
-use mathlib.Core.Path.{_≡_, sym, ap, _∙_}
+use mathlib.Core.Path.{_≡_, refl, sym, ap, ap₂, _∙_, subst}
 use native.Mathlib.Omega.{arith}
 
 -- ---- the run
@@ -76,17 +77,40 @@ module _ (s : List ℕ) (at end a e : ℕ) (h : at ≤ end) (k : end ≤ length 
   pub trim-fits : at + a + e ≤ end
   trim-fits = omega (arith, end-length isBlank (part (at + a) end s), length-part at end s k, length-part (at + a) end s k)
 
-  pub trim-holds : HoldsText s (record { from = at + a; to = at + a + e }) (trim (part at end s))
-  unfolding trim
-  trim-holds =
+  front : skip isBlank (part at end s) ≡ part (at + a) end s
+  front =
       let l = part at end s in
-      let front : skip isBlank l ≡ part (at + a) end s = skip-drop isBlank l ∙ ap (λ (n : ℕ). drop n l) (sym ha) ∙ part-from s at end a in
+      skip-drop isBlank l ∙ ap (λ (n : ℕ). drop n l) (sym ha) ∙ part-from s at end a
+
+  trimmed-size : e ≡ length (trim (part at end s))
+  unfolding trim
+  trimmed-size = he ∙ ap (λ (l : List ℕ). length (skipEnd isBlank l)) (sym front)
+
+  -- what the code finds is the place of the trimmed text
+  pub trimmed-is : record { from = at + a; to = at + a + e } ≡ trimmedAt at (part at end s)
+  trimmed-is = ap₂ (λ (m n : ℕ). record { from = at + m; to = at + m + n }) ha trimmed-size
+
+  found-holds : HoldsText s (record { from = at + a; to = at + a + e }) (trim (part at end s))
+  unfolding trim
+  found-holds =
       let fits = trim-fits in
       record {
         ordered = omega arith;
         inside = omega arith;
-        holds = sym (part-front s (at + a) end e fits) ∙ ap (λ (n : ℕ). take n (part (at + a) end s)) he ∙ sym (end-take isBlank (part (at + a) end s)) ∙ ap (skipEnd isBlank) (sym front);
+        holds =
+            sym (part-front s (at + a) end e fits) ∙ ap (λ (n : ℕ). take n (part (at + a) end s)) he
+            ∙ sym (end-take isBlank (part (at + a) end s)) ∙ ap (skipEnd isBlank) (sym front);
       }
+
+-- and that place holds it
+pub trimmed-holds : (s : List ℕ) (at end : ℕ) → at ≤ end → end ≤ length s → HoldsText s (trimmedAt at (part at end s)) (trim (part at end s))
+trimmed-holds s at end h k =
+    let a = runOf isBlank (part at end s) in
+    let e = length (skipEnd isBlank (part (at + a) end s)) in
+    subst (λ (p : Span). HoldsText s p (trim (part at end s))) (trimmed-is s at end a e h k refl refl) (found-holds s at end a e h k refl refl)
+
+pub span-holds : (s : List ℕ) (at end : ℕ) → at ≤ end → end ≤ length s → (p : Span) → p ≡ trimmedAt at (part at end s) → HoldsText s p (trim (part at end s))
+span-holds s at end h k p e = subst (λ (q : Span). HoldsText s q (trim (part at end s))) (sym e) (trimmed-holds s at end h k)
 
 -- ---- a separator
 

@@ -6,3 +6,4 @@ pub mod Standing
 pub mod Bits
 pub mod Columns
 pub mod Tidy
+pub mod Spots

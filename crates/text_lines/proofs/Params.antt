@@ -97,7 +97,7 @@ unfolding all
 all-blanks zero = refl
 all-blanks (suc n) = all-blanks n
 
-blanks-equals : (b : List ℕ) → all isBlank b ≡ true → any (is 61) b ≡ false
+pub blanks-equals : (b : List ℕ) → all isBlank b ≡ true → any (is 61) b ≡ false
 blanks-equals b h = all-none (is 61) isBlank blank-not b h
 
 -- the blanks before and after the label, and before and after the value, change nothing

@@ -38,7 +38,7 @@ break-here P f c b (d ∷ cs) n h =
     (λ u. absurd (not-bad (rw (t, u) at h))))
 
 -- what holds at the end of the file, at LF and at CR LF, and of one more byte in front, holds of every turn
-by-turn : (P : List ℕ → ℕ → ℕ → Type 0) → P [] 0 0
+pub by-turn : (P : List ℕ → ℕ → ℕ → Type 0) → P [] 0 0
     → ((b : ℕ) (bs : List ℕ) (k n : ℕ) → isPlain b ≡ true → P bs k n → P (b ∷ bs) (suc k) n)
     → ((bs : List ℕ) → P (10 ∷ bs) 0 1)
     → ((cs : List ℕ) → P (13 ∷ 10 ∷ cs) 0 2)
@@ -61,14 +61,14 @@ lines-step (b ∷ []) h = by-test (is 10 b) (λ e. rw e) (λ e. rw e)
 lines-step (b ∷ c ∷ cs) h = by-test (is 10 b) (λ e. rw e) (λ e. rw e (ap (push b) (lines-step (c ∷ cs) (omega arith))))
 
 -- a byte that can be printed ends no line
-plain-not : (b e : ℕ) → e < 32 → isPlain b ≡ true → is e b ≡ false
+pub plain-not : (b e : ℕ) → e < 32 → isPlain b ≡ true → is e b ≡ false
 plain-not b e h p = ne-eqb b e (λ q. omega (arith, within-tells 32 126 b .0 p .0))
 
 -- the first line without its CR, and what follows it
-abbrev Cut : List ℕ → ℕ → ℕ → Type 0
+abbrev pub Cut : List ℕ → ℕ → ℕ → Type 0
 Cut r k n = (upto (is 13) (upto (is 10) r) ≡ take k r) × (past (is 10) r ≡ drop (k + n) r)
 
-cut : (r : List ℕ) (n : ℕ) → breakOf (drop (plainRun r) r) ≡ After n → Cut r (plainRun r) n
+pub cut : (r : List ℕ) (n : ℕ) → breakOf (drop (plainRun r) r) ≡ After n → Cut r (plainRun r) n
 unfolding upto past
 cut = by-turn Cut (refl, refl)
     (λ b bs k n p h.

@@ -3,3 +3,4 @@ pub mod Entries
 pub mod Order
 pub mod Places
 pub mod Mask
+pub mod Spots

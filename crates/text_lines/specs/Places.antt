@@ -1,9 +1,9 @@
 -- Places of a file: what the walk keeps of a value is where it begins and ends.
-use Prim.Native.Nat.{ℕ, _≤_}
+use Prim.Native.Nat.{ℕ, _+_, _≤_}
 use Rattle.text_lines.specs.declared.Break.{Break}
 use Rattle.text_lines.specs.declared.Break.the-variants.{After, Bad}
 use Rattle.text_lines.specs.declared.Span.{Span}
-use Rattle.text.specs.Bytes.{part, is, isPlain, upto}
+use Rattle.text.specs.Bytes.{part, is, isPlain, isBlank, upto, past, firstOf, runOf, trim}
 use lib.ListN.{length, getD, take, drop}
 use mathlib.Core.Bool.{Bool, _&&_, not, cond}
 use mathlib.Core.List.{List, [], _∷_, map}
@@ -20,6 +20,14 @@ pub record HoldsText (file : List ℕ) (p : Span) (t : List ℕ) : Type 0 where
   pub ordered : p .from ≤ p .to
   pub inside : p .to ≤ length file
   pub holds : partOf file p ≡ t
+
+-- the place of a text that begins at a place of the file, without the blanks at its ends
+abbrev pub trimmedAt : ℕ → List ℕ → Span
+trimmedAt at t = record { from = at + runOf isBlank t; to = at + runOf isBlank t + length (trim t) }
+
+-- the place of the value of a line that begins at a place: what follows its first '=' (61)
+abbrev pub valueSpan : ℕ → List ℕ → Span
+valueSpan at l = trimmedAt (at + firstOf 61 l + 1) (past (is 61) l)
 
 -- how many bytes from the start can be printed
 abbrev pub notPlain : ℕ → Bool

@@ -2,8 +2,8 @@
 use text::scan;
 ghost use Prim.Native.Nat.{_+_, _≤_, _<_};
 ghost use Rattle.text_lines.specs.Lines.{isSep};
-ghost use Rattle.text_lines.specs.Places.{HoldsText, plainRun, breakOf};
-ghost use Rattle.text.specs.Bytes.{part, all, isPlain, trim};
+ghost use Rattle.text_lines.specs.Places.{trimmedAt, plainRun, breakOf};
+ghost use Rattle.text.specs.Bytes.{part, all, isPlain};
 ghost use lib.ListN.{length, drop};
 ghost use mathlib.Core.Path.{_≡_};
 
@@ -86,7 +86,7 @@ pub fn break_at(s: &[u8], at: usize) -> Break
 // The place of the part at..end without the blanks at its ends.
 pub fn trim_span(s: &[u8], at: usize, end: usize) -> Span
     requires { ⌜ (at ≤ end) × (end ≤ length (now s)) × (end < 65536) ⌝ }
-    ensures { λ r. ⌜ HoldsText (now (s .entry)) r (trim (part at end (now (s .entry)))) ⌝ }
+    ensures { λ r. ⌜ r ≡ trimmedAt at (part at end (now (s .entry))) ⌝ }
 {
     let from = at + scan::lead(&s[at..end]);
     let to = from + scan::filled(&s[from..end]);

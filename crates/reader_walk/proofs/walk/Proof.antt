@@ -1,12 +1,14 @@
 -- The lines passed and what is left make the whole; a line more is passed by one turn.
-use Prim.Native.Nat.{_-_, _≤_}
+use Prim.Native.Nat.{_+_, _-_, _≤_}
 use Rattle.reader_walk.proofs.Line.{first-le, second-le, kept-le}
-use Rattle.reader_walk.proofs.Walking.{Sofar, begin, first-small, second-small, end-near, finish, past-near, turned, stop, shorter}
+use Rattle.reader_walk.proofs.Walking.{Sofar, begin, item-is, end-is, first-small, second-small, end-near, finish, past-near, turned, stop-less, stop, shorter}
+use Rattle.text_lines.specs.Places.{plainRun}
 use Rattle.reader_walk.proofs.walk.Statement.{statement}
 use Rattle.reader_walk.proofs.walk.Tie as tie
 use borrow.Author.Needs.{needs}
-use lib.ListN.{length}
-use mathlib.Core.Path.{sym, _∙_}
+use lib.ListN.{length, drop}
+use mathlib.Core.Logic.{⊎-elim}
+use mathlib.Core.Path.{_≡_, sym, _∙_}
 use native.Mathlib.Omega.{arith}
 
 abbrev Inv-loop : tie.InvT-loop
@@ -29,10 +31,13 @@ framed c = c .before .before .before .before
 -- ---- what is known of a line
 
 first-near : (c : tie.After-line-of Inv-loop μ-loop) → c .line-of .result .first ≤ 26
-first-near c = first-le _ _ _ _ _ (c .line-of .ensures .1)
+first-near c = first-le _ _ _ _ _ (item-is _ _ _ _ _ (c .line-of .ensures))
 
 second-near : (c : tie.After-line-of Inv-loop μ-loop) → c .line-of .result .second ≤ 26
-second-near c = second-le _ _ _ _ _ (c .line-of .ensures .1)
+second-near c = second-le _ _ _ _ _ (item-is _ _ _ _ _ (c .line-of .ensures))
+
+ended-at : (c : tie.After-line-of Inv-loop μ-loop) → c .line-of .result .end ≡ c .before .before .loop .at + plainRun (drop (c .before .before .loop .at) (begun c .args .s .now))
+ended-at c = end-is _ _ _ _ _ (c .line-of .ensures)
 
 kept-first : (c : tie.After-note Inv-loop μ-loop) → c .note .result .into ≤ 26
 kept-first c = kept-le _ _ _ (first-near (lined (c .before))) (c .note .ensures)
@@ -48,7 +53,7 @@ line-of-requires c κs = let z = c .before .before .before in (c .before .loop .
 
 break-at-requires : tie.Need-break-at-requires Inv-loop μ-loop
 break-at-requires c κs =
-    end-near (begun c .args .s .now) (c .before .before .loop .at) (c .line-of .result .end) (c .before .loop-test .taken) (c .line-of .ensures .0)
+    end-near (begun c .args .s .now) (c .before .before .loop .at) (c .line-of .result .end) (c .before .loop-test .taken) (ended-at c)
 
 enum-known-n : tie.Need-enum-known-n Inv-loop μ-loop
 enum-known-n c = search needs
@@ -89,7 +94,7 @@ add-at c =
     let told = frame .before .before .before in
     let ended = sym (told .n .given .1) ∙ told .before .before .break-at .ensures in
     let near =
-    past-near (begun line .args .s .now) (line .before .before .loop .at) (line .line-of .result .end) (line .before .loop-test .taken) (line .line-of .ensures .0)
+    past-near (begun line .args .s .now) (line .before .before .loop .at) (line .line-of .result .end) (line .before .loop-test .taken) (ended-at line)
     _ ended in
     omega (arith, near, begun line .good .1 .0)
 
@@ -98,7 +103,7 @@ loop-less c =
     let frame = framed (c .before) in
     let line = lined frame in
     let told = frame .before .before .before in
-    shorter _ _ _ (line .before .loop-test .taken) (line .line-of .ensures .0) _ (sym (told .n .given .1) ∙ told .before .before .break-at .ensures)
+    shorter _ _ _ (line .before .loop-test .taken) (ended-at line) _ (sym (told .n .given .1) ∙ told .before .before .break-at .ensures)
 
 loop-again : tie.Need-loop-again Inv-loop μ-loop
 loop-again c =
@@ -110,14 +115,26 @@ loop-again c =
     (sym (told .n .given .1) ∙ told .before .before .break-at .ensures)
     (frame .frame-in .ensures) (second .before .before .before .note .ensures) (second .before .note2 .ensures)
 
-returns : tie.Need-returns Inv-loop μ-loop
-returns c = finish _ _ _ _ _ _ _ _ (c .before .loop .inv) (c .loop-test .left)
+array-set-from-places-2 : tie.Need-array-set-from-places-2 Inv-loop μ-loop
+array-set-from-places-2 c = search needs
 
-returns-2 : tie.Need-returns-2 Inv-loop μ-loop
-returns-2 c =
-    let line = c .before .before .before in
-    stop _ _ _ _ _ _ _ _ (line .before .before .loop .inv) _ (line .before .loop-test .taken) (line .line-of .ensures .0)
-    (sym (c .enum-told .given .1) ∙ c .before .before .break-at .ensures)
+array-set-from-others-2 : tie.Need-array-set-from-others-2 Inv-loop μ-loop
+array-set-from-others-2 c = search needs
+
+-- the loop ended with the file, or at a byte that is not allowed; then all was set back
+returns : tie.Need-returns Inv-loop μ-loop
+returns c =
+    let left = c .before in
+    let inv = left .before .loop .inv in
+    ⊎-elim
+    (λ x.
+    ⊎-elim (λ y. absurd (omega (arith, x .0 .left, x .1, y .0 .taken)))
+    (λ y. finish _ _ _ _ _ _ _ _ inv (x .0 .left) _ (x .1) (y .1) (y .2) (y .3) (y .4) (y .5)) (c .if1 .came))
+    (λ x.
+    let end = end-is _ _ _ _ _ (x .1 .ensures) in
+    let bad = sym (x .4 .given .1) ∙ x .2 .ensures in
+    ⊎-elim (λ y. stop _ _ _ _ _ _ _ _ inv _ (x .0 .taken) end bad _ (x .5) (y .1) (y .2) (y .3) (y .4) (y .5))
+    (λ y. absurd (omega (arith, y .0 .left, x .5, stop-less _ _ _ _ _ _ _ _ inv _ (x .0 .taken) end bad))) (c .if1 .came)) (left .loop-test .came)
 
 pub walk-spec : {M : Type 1} → statement M
 walk-spec =
@@ -141,5 +158,6 @@ walk-spec =
     add-at
     loop-less
     loop-again
-    returns
-    returns-2)
+    array-set-from-places-2
+    array-set-from-others-2
+    returns)

@@ -1,6 +1,6 @@
 -- What stands past the leading blanks, and of that what stands before the last.
 use Prim.Native.Nat.{_+_, _≤_}
-use Rattle.text_lines.proofs.Leaves.{trim-fits, trim-holds}
+use Rattle.text_lines.proofs.Leaves.{trim-fits, trimmed-is}
 use Rattle.text_lines.proofs.trim_span.Statement.{statement}
 use Rattle.text_lines.proofs.trim_span.Tie as tie
 use borrow.Author.Needs.{needs}
@@ -51,7 +51,7 @@ cast-t15 c = omega (arith, ends c, c .before .before .before .before .before .pr
 returns : tie.Need-returns
 returns c =
     let z = c .before .before .before .before .before in
-    trim-holds _ _ _ _ _ (z .pre .0) (z .pre .1) (c .before .before .lead .ensures) (c .filled .ensures)
+    trimmed-is _ _ _ _ _ (z .pre .0) (z .pre .1) (c .before .before .lead .ensures) (c .filled .ensures)
 
 pub trim-span-spec : {M : Type 1} → statement M
 trim-span-spec =
