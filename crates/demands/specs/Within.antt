@@ -1,7 +1,7 @@
 -- The functions that are public because crates above or files beside them call them: one answer at most satisfies the contract of each. What some ask is
 -- in docs/DESIGN.md, D10; the others ask nothing (`Answers`, `Writes`, `Lends`).
--- Not here are four whose contract leaves open where things stand in a file (an empty text stands in many places), since no answer of the reader depends on
--- it (reader/specs/State.antt): `text_lines::trim_span`, `reader_line::line_of`, `reader_walk::walk` and `reader::judged`.
+-- Not here is `reader::judged`, whose contract leaves open what it hands out on a refusal and where a value stands, since no answer of the reader depends on
+-- it (reader/specs/State.antt).
 use Rattle.plan_row.proofs as plan_row
 use Rattle.value_ask.proofs as value_ask
 use Rattle.layout_banner.proofs as layout_banner
@@ -28,6 +28,7 @@ use Rattle.value_put.proofs as value_put
 use Rattle.report.proofs as report
 use Rattle.text_room.proofs as text_room
 use Rattle.reader_row.proofs as reader_row
+use Rattle.reader_walk.proofs as reader_walk
 use Rattle.record_rules.proofs as record-rules
 use Rattle.times_sheet.proofs as times_sheet
 use Rattle.writer_row.proofs as writer_row
@@ -77,6 +78,7 @@ pub record Within : Type 0 where
   -- text_lines
   pub text-lines-plain-run : Answers text_lines.plain_run.ended text_lines.plain_run.Reads.Asked text_lines.plain_run.Reads.Learnt
   pub text-lines-break-at : OneResult text_lines.break_at.ended text_lines.break_at.Reads.Learnt
+  pub text-lines-trim-span : OneResult text_lines.trim_span.ended text_lines.trim_span.Reads.Learnt
   pub text-lines-is-separator : Answers text_lines.is_separator.ended text_lines.is_separator.Reads.Asked text_lines.is_separator.Reads.Learnt
   -- text_room
   pub text-room-keep-unit : Answers text_room.keep_unit.ended text_room.keep_unit.Reads.Asked text_room.keep_unit.Reads.Learnt
@@ -132,6 +134,9 @@ pub record Within : Type 0 where
   pub layout-label-is-printed : Answers layout_label.is_printed.ended layout_label.is_printed.Reads.Asked layout_label.is_printed.Reads.Learnt
   -- reader_line
   pub reader-line-is-label : Answers reader_line.is_label.ended reader_line.is_label.Reads.Asked reader_line.is_label.Reads.Learnt
+  pub reader-line-line-of : OneResult reader_line.line_of.ended reader_line.line_of.Reads.Learnt
+  -- reader_walk
+  pub reader-walk-walk : OneResult reader_walk.walk.ended reader_walk.walk.Reads.Learnt
   -- value_fits
   pub value-fits-holds : Answers value_fits.holds.ended value_fits.holds.Reads.Asked value_fits.holds.Reads.Learnt
   pub value-fits-triples-are-none : Answers value_fits.triples.are_none.ended value_fits.triples.are_none.Reads.Asked value_fits.triples.are_none.Reads.Learnt
