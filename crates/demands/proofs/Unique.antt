@@ -9,7 +9,7 @@ use Rattle.reader.proofs as reader
 use Rattle.demands.specs.Shapes.{Determines}
 use Rattle.demands.specs.Within.{Within}
 use Rattle.text.proofs.Numerals.{length-text}
-use Rattle.record_check.proofs as record_check
+use Rattle.record_check.proofs as record-check
 use Rattle.writer.proofs as writer
 use lib.ListN.{length}
 use mathlib.Core.List.{List}
@@ -222,7 +222,7 @@ meets =
       reader-read = λ M. reader.read.Met.met;
       writer-write = λ M. writer.write.Met.met;
       writer-normalise = λ M. writer.normalise.Met.met;
-      record-check-is-valid = λ M. record_check.is_valid.Met.met;
+      record-check-is-valid = λ M. record-check.is_valid.Met.met;
       book-fresh = λ M. book.fresh.Met.met;
       book-command = λ M. book.Book.command.Met.met;
       book-revoke = λ M. book.Book.revoke.Met.met;

@@ -10,9 +10,9 @@ use Rattle.plan.proofs as plan
 use Rattle.reader.proofs as reader
 use Rattle.value_put.proofs as value_put
 use Rattle.report.proofs as report
-use Rattle.record_rules.proofs as record_rules
+use Rattle.record_rules.proofs as record-rules
 use Rattle.times.proofs as times
-use Rattle.record_check.proofs as record_check
+use Rattle.record_check.proofs as record-check
 use Rattle.value.proofs as value
 use Rattle.value_word.proofs as value_word
 use Rattle.writer.proofs as writer
@@ -28,8 +28,8 @@ pub record Calls : Type 0 where
   pub reader-read : Answers reader.read.ended reader.read.Reads.Asked reader.read.Reads.Learnt
   pub writer-write : Writes writer.write.ended (λ κs e. e .1 .0 .now) writer.write.Reads.Asked writer.write.Reads.Learnt
   pub writer-normalise : Writes writer.normalise.ended (λ κs e. e .1 .1 .1 .1 .0 .now) writer.normalise.Reads.Asked writer.normalise.Reads.Learnt
-  pub record-check-is-valid : Answers record_check.is_valid.ended record_check.is_valid.Reads.Asked record_check.is_valid.Reads.Learnt
-  pub record-rules-lowest-broken : Answers record_rules.lowest_broken.ended record_rules.lowest_broken.Reads.Asked record_rules.lowest_broken.Reads.Learnt
+  pub record-check-is-valid : Answers record-check.is_valid.ended record-check.is_valid.Reads.Asked record-check.is_valid.Reads.Learnt
+  pub record-rules-lowest-broken : Answers record-rules.lowest_broken.ended record-rules.lowest_broken.Reads.Asked record-rules.lowest_broken.Reads.Learnt
   pub report-brief-of-record : Answers report_brief.of_record.ended report_brief.of_record.Reads.Asked report_brief.of_record.Reads.Learnt
   -- the book: a fresh one, and the four calls
   pub book-fresh : Answers book.fresh.ended book.fresh.Reads.Asked book.fresh.Reads.Learnt
@@ -70,7 +70,7 @@ pub record Meets : Type 2 where
   pub reader-read : (M : Type 1) → reader.read.Statement.statement M
   pub writer-write : (M : Type 1) → writer.write.Statement.statement M
   pub writer-normalise : (M : Type 1) → writer.normalise.Statement.statement M
-  pub record-check-is-valid : (M : Type 1) → record_check.is_valid.Statement.statement M
+  pub record-check-is-valid : (M : Type 1) → record-check.is_valid.Statement.statement M
   pub book-fresh : (M : Type 1) → book.fresh.Statement.statement M
   pub book-command : (M : Type 1) → book.Book.command.Statement.statement M
   pub book-revoke : (M : Type 1) → book.Book.revoke.Statement.statement M

@@ -14,7 +14,7 @@ use Rattle.reader.proofs as reader
 use Rattle.reader.specs.Reader.{readOf}
 use Rattle.reader.specs.declared.Answer.{Answer}
 use Rattle.record.specs.declared.Record.{Record}
-use Rattle.record_check.proofs as record_check
+use Rattle.record_check.proofs as record-check
 use Rattle.record_check.specs.Validity.{isValid}
 use Rattle.writer.proofs as writer
 use Rattle.writer.specs.Writer.{writeOf, leftBy, normaliseOf, normalLeft}
@@ -50,7 +50,7 @@ pub record Contracts : Type 0 where
   pub normalise : (κs : _) (ca ioa : ℕ) (plan file out : Slice) (z : Written) (e : _)
       → writer.normalise.Reads.Learnt κs (ca, (ioa, (plan, (file, (out, tt))))) z e
       → (z ≡ normaliseOf (to ca ioa plan file) (length (out .now))) × (e .1 .1 .1 .1 .0 .now ≡ normalLeft (to ca ioa plan file) (out .now))
-  pub is-valid : (κs : _) (r : Record) (z : Bool) (e : _) → record_check.is_valid.Reads.Learnt κs (r, tt) z e → z ≡ isValid r
+  pub is-valid : (κs : _) (r : Record) (z : Bool) (e : _) → record-check.is_valid.Reads.Learnt κs (r, tt) z e → z ≡ isValid r
   pub fresh : (κs : _) (unit : Slice) (z : Outcome) (e : _) → book.fresh.Reads.Learnt κs (unit, tt) z e → z ≡ freshOf (unit .now)
   pub commands : (κs : _) (b : Book) (r : Record) (z : Outcome) (e : _) → book.Book.command.Reads.Learnt κs (b, (r, tt)) z e → z ≡ outcomeOf (command r) b
   pub revokes : (κs : _) (b : Book) (r : Record) (z : Outcome) (e : _) → book.Book.revoke.Reads.Learnt κs (b, (r, tt)) z e → z ≡ outcomeOf (revoke r) b

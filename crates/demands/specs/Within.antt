@@ -28,11 +28,11 @@ use Rattle.value_put.proofs as value_put
 use Rattle.report.proofs as report
 use Rattle.text_room.proofs as text_room
 use Rattle.reader_row.proofs as reader_row
-use Rattle.record_rules.proofs as record_rules
+use Rattle.record_rules.proofs as record-rules
 use Rattle.times_sheet.proofs as times_sheet
 use Rattle.writer_row.proofs as writer_row
 use Rattle.text.proofs as text
-use Rattle.record_voltvar.proofs as record_voltvar
+use Rattle.record_voltvar.proofs as record-voltvar
 use Rattle.value_word.proofs as value_word
 
 pub record Within : Type 0 where
@@ -153,17 +153,17 @@ pub record Within : Type 0 where
   pub reader-fill-value-in : OneResult reader_fill.value_in.ended reader_fill.value_in.Reads.Learnt
   pub reader-fill-record-of : OneResult reader_fill.record_of.ended reader_fill.record_of.Reads.Learnt
   -- record_voltvar
-  pub record-voltvar-in-table : Answers record_voltvar.in_table.ended record_voltvar.in_table.Reads.Asked record_voltvar.in_table.Reads.Learnt
+  pub record-voltvar-in-table : Answers record-voltvar.in_table.ended record-voltvar.in_table.Reads.Asked record-voltvar.in_table.Reads.Learnt
   -- record_rules
-  pub record-rules-of-market : Answers record_rules.of_market.ended record_rules.of_market.Reads.Asked record_rules.of_market.Reads.Learnt
-  pub record-rules-of-ramps : Answers record_rules.of_ramps.ended record_rules.of_ramps.Reads.Asked record_rules.of_ramps.Reads.Learnt
-  pub record-rules-of-order : Answers record_rules.of_order.ended record_rules.of_order.Reads.Asked record_rules.of_order.Reads.Learnt
-  pub record-rules-of-exclusion : Answers record_rules.of_exclusion.ended record_rules.of_exclusion.Reads.Asked record_rules.of_exclusion.Reads.Learnt
-  pub record-rules-of-limitation : Answers record_rules.of_limitation.ended record_rules.of_limitation.Reads.Asked record_rules.of_limitation.Reads.Learnt
-  pub record-rules-of-secondary : Answers record_rules.of_secondary.ended record_rules.of_secondary.Reads.Asked record_rules.of_secondary.Reads.Learnt
-  pub record-rules-of-volt-var : Answers record_rules.of_volt_var.ended record_rules.of_volt_var.Reads.Asked record_rules.of_volt_var.Reads.Learnt
-  pub record-rules-of-reserve : Answers record_rules.of_reserve.ended record_rules.of_reserve.Reads.Asked record_rules.of_reserve.Reads.Learnt
-  pub record-rules-lowest-of : Answers record_rules.lowest_of.ended record_rules.lowest_of.Reads.Asked record_rules.lowest_of.Reads.Learnt
+  pub record-rules-of-market : Answers record-rules.of_market.ended record-rules.of_market.Reads.Asked record-rules.of_market.Reads.Learnt
+  pub record-rules-of-ramps : Answers record-rules.of_ramps.ended record-rules.of_ramps.Reads.Asked record-rules.of_ramps.Reads.Learnt
+  pub record-rules-of-order : Answers record-rules.of_order.ended record-rules.of_order.Reads.Asked record-rules.of_order.Reads.Learnt
+  pub record-rules-of-exclusion : Answers record-rules.of_exclusion.ended record-rules.of_exclusion.Reads.Asked record-rules.of_exclusion.Reads.Learnt
+  pub record-rules-of-limitation : Answers record-rules.of_limitation.ended record-rules.of_limitation.Reads.Asked record-rules.of_limitation.Reads.Learnt
+  pub record-rules-of-secondary : Answers record-rules.of_secondary.ended record-rules.of_secondary.Reads.Asked record-rules.of_secondary.Reads.Learnt
+  pub record-rules-of-volt-var : Answers record-rules.of_volt_var.ended record-rules.of_volt_var.Reads.Asked record-rules.of_volt_var.Reads.Learnt
+  pub record-rules-of-reserve : Answers record-rules.of_reserve.ended record-rules.of_reserve.Reads.Asked record-rules.of_reserve.Reads.Learnt
+  pub record-rules-lowest-of : Answers record-rules.lowest_of.ended record-rules.lowest_of.Reads.Asked record-rules.lowest_of.Reads.Learnt
   -- book_order
   pub book-order-of-record : OneResult book_order.of_record.ended book_order.of_record.Reads.Learnt
   pub book-order-named-by : Answers book_order.named_by.ended book_order.named_by.Reads.Asked book_order.named_by.Reads.Learnt
