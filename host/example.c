@@ -1,4 +1,4 @@
-/* The README's example of a host, built and run by host/test/install: reads the message on standard input at address 7, 300. */
+/* A whole host (docs/HOST.md), built and run by host/test/install: reads the message on standard input at address 7, 300. */
 #include <halimpung.h>
 #include <stdio.h>
 

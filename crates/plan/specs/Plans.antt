@@ -27,7 +27,7 @@ planFrom (suc room) n above s =
     cond (eqb (length s) 0) (rows above)
     (onward n (planRowOf above s) (λ r. planFrom room (n + 4) (r ∷ above) (below (below (below (below s))))))
 
--- THE DEFINITION: a plan. Only the empty text has no row (docs/DECISIONS.md, reading 1).
+-- THE DEFINITION: a plan. Only the empty text has no row (docs/READINGS.md, "0 if no row").
 unfoldable pub planOf : List ℕ → Plan
 planOf s = cond (eqb (length s) 0) (wrong 0) (planFrom 64 1 [] s)
 

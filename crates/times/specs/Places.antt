@@ -1,4 +1,5 @@
--- Where the value of a label stands in a file. Document 01, "Lines of a message" and "Times"; reading 82: the trimmed value, without the blanks about it.
+-- Where the value of a label stands in a file. Document 01, "Lines of a message" and "Times": the trimmed value, without the blanks about it
+-- (docs/READINGS.md, "The times").
 -- Bytes: 13 CR, 61 '='.
 use Prim.Native.Nat.{ℕ, _+_, _-_}
 use Rattle.text_lines.specs.Lines.{lines, isSep}

@@ -1,5 +1,6 @@
 -- Start-up and ramp times. Document 01, "Times": the answer is that part of the message file which holds the value, or, where it is blank, that part of
--- the sheet. Order: the reader's, 16, 14. A refusal gives an empty part. Reading 79: the sheet is judged even where the message has the value.
+-- the sheet. Order: the reader's, 16, 14. A refusal gives an empty part. The sheet is judged even where the message has the value
+-- (docs/READINGS.md, "The times").
 use Prim.Native.Nat.{ℕ, _≤_}
 use Rattle.value_ask.specs.Values.{isFilled}
 use Rattle.report_brief.specs.Brief.{unitOf}

@@ -1,5 +1,5 @@
--- The unit sheet. Document 01, "Times": `unit=`, `avviamento=`, `rampa=`, three lines, LF (10) each, the last two holding a number. Readings 81 to 83: no
--- blanks, nothing after the third line, the unit is the message's; a number's part is what follows `=` up to the LF.
+-- The unit sheet. Document 01, "Times": `unit=`, `avviamento=`, `rampa=`, three lines, LF (10) each, the last two holding a number. docs/READINGS.md,
+-- "The times": no blanks, nothing after the third line, the unit is the message's; a number's part is what follows `=` up to the LF.
 use Prim.Native.Nat.{ℕ, _+_, _-_}
 use Rattle.text_keyline.specs.Keylines.{valueIn, below}
 use Rattle.value_number.specs.Number.{numberOf}
