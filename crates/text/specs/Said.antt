@@ -1,5 +1,5 @@
 -- What an answer that is an enum says. Document 01, "Which shape goes where": any answer that is an enum has a definition that gives this paper's number and
--- values for each of the enum's cases. That definition stands beside the enum, and is an instance of this one.
+-- values for each of the enum's cases. It stands beside the enum: `ofWrote` here, `ofWritten` in writer, `ofInForce` in book, `ofTime` in times.
 use Prim.Native.Nat.{ℕ}
 use mathlib.Core.List.{List}
 
