@@ -6,11 +6,31 @@ use Rattle.reader_row.proofs.skip_halves.Tie as tie
 use borrow.Author.Needs.{needs}
 use native.Mathlib.Omega.{arith}
 
+-- where the function begins, and where the first `;` was found
+abbrev start : tie.After-first → tie.Start
+start f =
+    let n = f .before .before .before in
+    n .before .before
+
+abbrev first-of : tie.After-known-told → tie.After-first
+first-of k =
+    let s = k .before .before .before in
+    s .before .before
+
 -- The first `;` stands in the value, or where it ends.
-cut-in : (c : tie.After-first) → c .before .before .before .before .before .args .p .from + c .first .result ≤ c .before .before .before .before .before .args .p .to
-cut-in c =
-    let z = c .before .before .before .before .before in
-    cut-fits (z .args .file .now) _ _ _ (z .pre .2) (z .pre .3) (c .first .ensures)
+cut-in : (f : tie.After-first) → start f .args .p .from + f .first .result ≤ start f .args .p .to
+cut-in f =
+    let z = start f in
+    cut-fits (z .args .file .now) _ _ _ (z .pre .2) (z .pre .3) (f .first .ensures)
+
+-- The first half ends in the row.
+half-in : (k : tie.After-known-told) → k .before .middle .given .0 .0 ≤ start (first-of k) .args .end
+half-in k =
+    let s = k .before .before .before in
+    let f = first-of k in
+    let z = start f in
+    half-fits _ _ _ _ (z .pre .2) (z .pre .3) (f .first .ensures) _ _ (z .pre .0) (z .pre .1) _ (s .before .trim-span .ensures) _ (s .skip-mark .ensures)
+    _ (k .before .middle .given .1)
 
 cast-from : tie.Need-cast-from
 cast-from c = search needs
@@ -46,35 +66,29 @@ enum-told : tie.Need-enum-told
 enum-told c = search needs
 
 returns : tie.Need-returns
-returns c =
-    let z = c .before .before .before .before .before .before .before .before .before in
-    half-no _ _ _ _ (z .pre .2) (z .pre .3) (c .before .before .before .before .first .ensures) _ _ (z .pre .0) (z .pre .1) _ (c .before .before .before .trim-span .ensures) _ (c .before .before .skip-mark .ensures) (c .enum-told .given .1)
+returns c = search half-no
 
 skip-mark-requires-2 : tie.Need-skip-mark-requires-2
 skip-mark-requires-2 c κs =
-    let z = c .before .before .before .before .before .before .before .before .before .before .before in
-    (half-fits _ _ _ _ (z .pre .2) (z .pre .3) (c .before .before .before .before .before .before .first .ensures) _ _ (z .pre .0) (z .pre .1) _ (c .before .before .before .before .before .trim-span .ensures) _ (c .before .before .before .before .skip-mark .ensures) _ (c .before .before .middle .given .1), z .pre .1, omega arith, z .pre .3)
+    let z = start (first-of (c .before)) in
+    (half-in (c .before), z .pre .1, omega arith, z .pre .3)
 
 returns-2 : tie.Need-returns-2
-returns-2 c =
-    let z = c .before .before .before .before .before .before .before .before .before .before .before .before in
-    one-on _ _ _ _ (z .pre .2) (z .pre .3) (c .before .before .before .before .before .before .before .first .ensures) _ _ (z .pre .0) (z .pre .1) _ (c .before .before .before .before .before .before .trim-span .ensures) _ (c .before .before .before .before .before .skip-mark .ensures) _ (c .before .before .before .middle .given .1) _ (c .before .if1 .taken) (c .skip-mark2 .ensures)
+returns-2 c = search one-on
 
 add-trim-span : tie.Need-add-trim-span
-add-trim-span c = omega (arith, cut-in (c .before .before .before .before .before .before))
+add-trim-span c = omega (arith, cut-in (first-of (c .before)))
 
 trim-span-requires-2 : tie.Need-trim-span-requires-2
-trim-span-requires-2 c κs = (omega (arith, cut-in (c .before .before .before .before .before .before)), omega arith, omega arith)
+trim-span-requires-2 c κs = (omega (arith, cut-in (first-of (c .before))), omega arith, omega arith)
 
 skip-mark-requires-3 : tie.Need-skip-mark-requires-3
 skip-mark-requires-3 c κs =
-    let z = c .before .before .before .before .before .before .before .before .before .before .before .before in
-    (half-fits _ _ _ _ (z .pre .2) (z .pre .3) (c .before .before .before .before .before .before .before .first .ensures) _ _ (z .pre .0) (z .pre .1) _ (c .before .before .before .before .before .before .trim-span .ensures) _ (c .before .before .before .before .before .skip-mark .ensures) _ (c .before .before .before .middle .given .1), z .pre .1, c .trim-span2 .ensures .ordered, c .trim-span2 .ensures .inside)
+    let k = c .before .before in
+    (half-in k, start (first-of k) .pre .1, c .trim-span2 .ensures .ordered, c .trim-span2 .ensures .inside)
 
 returns-3 : tie.Need-returns-3
-returns-3 c =
-    let z = c .before .before .before .before .before .before .before .before .before .before .before .before .before in
-    both-on _ _ _ _ (z .pre .2) (z .pre .3) (c .before .before .before .before .before .before .before .before .first .ensures) _ _ (z .pre .0) (z .pre .1) _ (c .before .before .before .before .before .before .before .trim-span .ensures) _ (c .before .before .before .before .before .before .skip-mark .ensures) _ (c .before .before .before .before .middle .given .1) _ _ (c .before .trim-span2 .ensures) (c .skip-mark3 .ensures)
+returns-3 c = search both-on
 
 pub skip-halves-spec : {M : Type 1} → statement M
 skip-halves-spec =
