@@ -39,7 +39,10 @@ notTriples = 0 ∷ 1 ∷ 2 ∷ 3 ∷ 4 ∷ 5 ∷ 6 ∷ 7 ∷ 8 ∷ 9 ∷ 11 ∷ 
 abbrev notNumbers : List ℕ
 notNumbers = 0 ∷ 1 ∷ 2 ∷ 3 ∷ 4 ∷ 5 ∷ 6 ∷ 7 ∷ 8 ∷ 10 ∷ 11 ∷ 12 ∷ 13 ∷ 14 ∷ []
 
--- any value but a blank is filled
+-- the blank is not filled, and any other value is
+pub filled-blank : (v : Value) → v ≡ Blank → false ≡ isFilled v
+filled-blank v e = rw e
+
 pub filled-other : (v : Value) → OneOf notBlank (tagOf the-type v) → true ≡ isFilled v
 filled-other Blank h = absurd (miss notBlank 0 tt h)
 filled-other (Id n) h = refl

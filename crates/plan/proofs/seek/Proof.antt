@@ -1,5 +1,5 @@
 -- One loop over the rows: what is read so far, and what the rest gives below it, is the plan. (r is the place where a row was read.)
-use Prim.Native.Nat.{_-_, _≤_, _<_}
+use Prim.Native.Nat.{ℕ, _-_, _≤_, _<_}
 use Rattle.plan_row.proofs.Addresses.{none-more}
 use Rattle.plan.proofs.Walks.{Sofar, empty, begin, finish, too-many, none-there, bad-line, unit-inside, row-inside, next-row}
 use Rattle.plan.proofs.seek.Statement.{statement}
@@ -9,6 +9,7 @@ use borrow.Author.Needs.{needs}
 use lib.Dec.{ltb}
 use lib.ListN.{length, take}
 use mathlib.Core.Bool.{false}
+use mathlib.Core.List.{List}
 use mathlib.Core.Logic.{inl, inr, ⊎-elim}
 use mathlib.Core.Path.{_≡_, refl, _∙_}
 use native.Mathlib.Omega.{arith}
@@ -24,7 +25,7 @@ refused-requires : tie.Need-refused-requires Inv-loop μ-loop
 refused-requires c κs = search needs
 
 returns : tie.Need-returns Inv-loop μ-loop
-returns c = empty _ _ _ _ (c .before .if1 .taken) (c .refused .ensures)
+returns c = search empty
 
 sought-key-requires : tie.Need-sought-key-requires Inv-loop μ-loop
 sought-key-requires c κs = search needs
@@ -46,7 +47,7 @@ refused-requires-3 : tie.Need-refused-requires-3 Inv-loop μ-loop
 refused-requires-3 c κs = search needs
 
 returns-2 : tie.Need-returns-2 Inv-loop μ-loop
-returns-2 c = too-many _ _ _ _ _ _ _ (c .before .before .before .loop .inv .1) (c .before .before .loop-test .taken) _ (c .before .if2 .taken) (c .refused3 .ensures)
+returns-2 c = search too-many
 
 sub-row-at : tie.Need-sub-row-at Inv-loop μ-loop
 sub-row-at c = search needs
@@ -73,17 +74,18 @@ refused-requires-4 : tie.Need-refused-requires-4 Inv-loop μ-loop
 refused-requires-4 c κs = search needs
 
 returns-3 : tie.Need-returns-3 Inv-loop μ-loop
-returns-3 c =
-    let r = c .before .before .before .before in
-    bad-line _ _ _ _ _ _ _ (r .before .before .before .before .before .loop .inv .1) (r .before .before .before .before .loop-test .taken) _ (r .before .before .before .if2 .left) (r .row-at .ensures) _ _ (c .before .before .k .given .1) (c .refused4 .ensures)
+returns-3 c = search bad-line
 
 enum-known-e : tie.Need-enum-known-e Inv-loop μ-loop
 enum-known-e c = search needs
 
 found-in-requires : tie.Need-found-in-requires Inv-loop μ-loop
 found-in-requires c κs =
-    let r = c .before .before .before .before .before in
-    unit-inside _ _ _ _ _ _ _ (r .before .before .before .before .before .loop .inv .1) (r .before .before .before .before .loop-test .taken) _ (r .before .before .before .if2 .left) (r .row-at .ensures) _ (c .before .before .before .e .given .1)
+    let e = c .before .before .before in
+    let r = e .before .before in
+    let t = r .before .before .before .before in
+    unit-inside _ _ _ _ _ _ _ (t .before .loop .inv .1) (t .loop-test .taken) _ (r .before .before .before .if2 .left) (r .row-at .ensures)
+    _ (e .e .given .1)
 
 mul-keys : tie.Need-mul-keys Inv-loop μ-loop
 mul-keys c = search needs
@@ -97,13 +99,21 @@ larger-requires c κs = search needs
 add-count : tie.Need-add-count Inv-loop μ-loop
 add-count c = search needs
 
--- where a row was read: its end is in the text
-end-inside : (c : tie.After-larger Inv-loop μ-loop) → c .before .before .before .before .e .given .0 .0 .end ≤ length (c .before .before .before .before .before .before .before .before .before .before .before .loop .rest .now)
+-- the text from the row on, where the row was read: its end is in that text
+abbrev rest-of : tie.After-larger Inv-loop μ-loop → List ℕ
+rest-of c =
+    let e = c .before .before .before .before in
+    let r = e .before .before in
+    let t = r .before .before .before .before in
+    t .before .loop .rest .now
+
+end-inside : (c : tie.After-larger Inv-loop μ-loop) → c .before .before .before .before .e .given .0 .0 .end ≤ length (rest-of c)
 end-inside c =
     let e = c .before .before .before .before in
     let r = e .before .before in
-    let l = r .before .before .before .before .before in
-    row-inside _ _ _ _ _ _ _ (l .loop .inv .1) (r .before .before .before .before .loop-test .taken) _ (r .before .before .before .if2 .left) (r .row-at .ensures) _ (e .e .given .1)
+    let t = r .before .before .before .before in
+    row-inside _ _ _ _ _ _ _ (t .before .loop .inv .1) (t .loop-test .taken) _ (r .before .before .before .if2 .left) (r .row-at .ensures)
+    _ (e .e .given .1)
 
 sub-next : tie.Need-sub-next Inv-loop μ-loop
 sub-next c = end-inside c
@@ -122,15 +132,18 @@ loop-again c =
     let f = c .before .before in
     let e = f .before .before .before in
     let r = e .before .before in
-    let l = r .before .before .before .before .before in
+    let t = r .before .before .before .before in
+    let l = t .before in
     let h : l .loop .count < length (l .loop .keys) = omega arith in (
       search needs,
-      next-row _ _ _ _ _ _ _ (l .loop .inv .1) (r .before .before .before .before .loop-test .taken) _ (r .before .before .before .if2 .left) (r .row-at .ensures) _ (e .e .given .1) _ _ (l .before .before .sought-key .ensures) (⊎-elim (λ w. inl (w .0 .taken, w .2 ∙ w .1 .ensures)) (λ w. inr (w .0 .left, w .1)) (f .if3 .came)) h,
+      next-row _ _ _ _ _ _ _ (l .loop .inv .1) (t .loop-test .taken) _ (r .before .before .before .if2 .left) (r .row-at .ensures)
+          _ (e .e .given .1) _ _ (l .before .before .sought-key .ensures)
+          (⊎-elim (λ w. inl (w .0 .taken, w .2 ∙ w .1 .ensures)) (λ w. inr (w .0 .left, w .1)) (f .if3 .came)) h,
       none-more _ _ _ _ _ (l .loop .inv .2) (c .before .larger .ensures) h,
     )
 
 returns-4 : tie.Need-returns-4 Inv-loop μ-loop
-returns-4 c = finish _ _ _ _ _ _ _ (c .before .loop .inv .1) (c .loop-test .left)
+returns-4 c = search finish
 
 pub seek-spec : {M : Type 1} → statement M
 seek-spec =

@@ -5,6 +5,15 @@ use Rattle.text.proofs.Cuts.{all-eight}
 use Rattle.text.specs.Bytes.{isPlain}
 use borrow.Author.Needs.{needs}
 
+-- where the function begins, from its last test
+abbrev start : tie.After-is-plain8 → tie.Start
+start c =
+    let six = c .before .before .before .before in
+    let four = six .before .before .before .before in
+    let two = four .before .before .before .before in
+    let one = two .before .before .before .before in
+    one .before
+
 shared-slice-read-is-plain : tie.Need-shared-slice-read-is-plain
 shared-slice-read-is-plain c = search needs
 
@@ -76,9 +85,8 @@ is-plain-requires-8 c κs = search needs
 
 returns : tie.Need-returns
 returns c =
-    let s = c .before .before .before .before .before .before .before .before .before .before .before .before .before .before .before .before .before in
-    rw (c .before .before .before .before .before .before .before .before .before .before .before .before .before .before .is-plain .ensures, c .before .before .before .before .before .before .before .before .before .before .before .before .is-plain2 .ensures, c .before .before .before .before .before .before .before .before .before .before .is-plain3 .ensures, c .before .before .before .before .before .before .before .before .is-plain4 .ensures, c .before .before .before .before .before .before .is-plain5 .ensures, c .before .before .before .before .is-plain6 .ensures, c .before .before .is-plain7 .ensures, c .is-plain8 .ensures)
-    (all-eight isPlain 0 (s .args .s .now) (s .args .i) (s .pre))
+    let s = start c in
+    cc (all-eight isPlain 0 (s .args .s .now) (s .args .i) (s .pre))
 
 pub eight-plain-spec : {M : Type 1} → statement M
 eight-plain-spec =

@@ -1,5 +1,5 @@
 -- By the value's shape: the one that is asked for, and every other.
-use Rattle.value_ask.proofs.Others.{filled-other}
+use Rattle.value_ask.proofs.Others.{filled-blank, filled-other}
 use Rattle.value_ask.proofs.is_filled.Statement.{statement}
 use Rattle.value_ask.proofs.is_filled.Tie as tie
 use borrow.Author.Needs.{needs}
@@ -8,7 +8,7 @@ enum-told : tie.Need-enum-told
 enum-told c = search needs
 
 returns : tie.Need-returns
-returns c = search needs
+returns c = filled-blank (c .before .before .args .v) (c .enum-told .given .1)
 
 returns-2 : tie.Need-returns-2
 returns-2 c = filled-other (c .before .args .v) (c .match .keys2)

@@ -6,6 +6,13 @@ use borrow.Author.Needs.{needs}
 use mir.Syntax.{w32}
 use mir.ValLaws.{toZ-ofZ}
 
+-- where the function begins, from its last test
+abbrev start : tie.After-is-spare4 → tie.Start
+start c =
+    let second = c .before .before .before .before in
+    let first = second .before .before in
+    first .before .before .before
+
 is-spare-requires : tie.Need-is-spare-requires
 is-spare-requires c κs = search needs
 
@@ -20,7 +27,14 @@ is-spare-requires-4 c κs = search needs
 
 returns : tie.Need-returns
 unfolding areListed
-returns c = let x = c .before .before .before .before .before .before .before .before .before .args .x in rw (c .before .before .before .before .before .before .is-spare .ensures, c .before .before .before .before .is-spare2 .ensures, c .before .before .is-spare3 .ensures, c .is-spare4 .ensures, toZ-ofZ w32 (x .first) (search needs), toZ-ofZ w32 (x .second) (search needs), toZ-ofZ w32 (x .third) (search needs), toZ-ofZ w32 (x .fourth) (search needs))
+returns c =
+    let x = start c .args .x in
+    cc (
+      toZ-ofZ w32 (x .first) (search needs),
+      toZ-ofZ w32 (x .second) (search needs),
+      toZ-ofZ w32 (x .third) (search needs),
+      toZ-ofZ w32 (x .fourth) (search needs),
+    )
 
 pub are-listed-spec : {M : Type 1} → statement M
 are-listed-spec =

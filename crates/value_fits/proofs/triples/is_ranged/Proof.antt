@@ -17,7 +17,18 @@ in-range-requires-3 c κs = search needs
 
 returns : tie.Need-returns
 unfolding isRanged
-returns c = let x = c .before .before .before .before .before .before .args .x in rw (c .before .before .before .before .in-range .ensures, c .before .before .in-range2 .ensures, c .in-range3 .ensures, toZ-ofZ w32 (x .low) (search needs), toZ-ofZ w32 (x .high) (search needs), toZ-ofZ w32 (x .gradient) (search needs))
+returns c =
+    let second = c .before .before in
+    let first = second .before .before in
+    let x = first .before .before .args .x in
+    rw (
+      first .in-range .ensures,
+      second .in-range2 .ensures,
+      c .in-range3 .ensures,
+      toZ-ofZ w32 (x .low) (search needs),
+      toZ-ofZ w32 (x .high) (search needs),
+      toZ-ofZ w32 (x .gradient) (search needs),
+    )
 
 pub is-ranged-spec : {M : Type 1} → statement M
 is-ranged-spec =
