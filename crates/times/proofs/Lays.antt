@@ -1,6 +1,6 @@
 -- The lines of a file at their places, and the place of a line's value. Assumes nothing.
 use Prim.Native.Nat.{ℕ, suc, _+_, _-_, _≤_}
-use Rattle.text_lines.proofs.Leaves.{trim-holds}
+use Rattle.text_lines.proofs.Leaves.{trimmed-holds}
 use Rattle.text_lines.specs.Lines.{push, lines}
 use Rattle.times_sheet.proofs.Rests.{past-length, past-place}
 use Rattle.times_sheet.specs.declared.Part.{Part}
@@ -68,12 +68,8 @@ pub record Holding (s : List ℕ) (p : Part) (t : List ℕ) : Type 0 where
 
 trimmed : (s : List ℕ) (at end : ℕ) → at ≤ end → end ≤ length s → Holding s (trimmedPart at (part at end s)) (trim (part at end s))
 trimmed s at end h k =
-    let v = part at end s in
-    let a = length v - length (skip isBlank v) in
-    let e = length (skipEnd isBlank (part (at + a) end s)) in
-    let w = trim-holds s at end a e h k refl refl in
-    let n : e ≡ length (trim v) = omega (arith, ap length (w .holds), length-part (at + a) (at + a + e) s (w .inside)) in
-    rw (sym n) (record { ordered = w .ordered; inside = w .inside; holds = w .holds })
+    let w = trimmed-holds s at end h k in
+    record { ordered = w .ordered; inside = w .inside; holds = w .holds }
 
 module _ (s : List ℕ) (at : ℕ) (u : List ℕ) (near : at + length u ≤ length s) (here : part at (at + length u) s ≡ u) where
   value-here : part (at + (length u - length (past (is 61) u))) (at + length u) s ≡ past (is 61) u
