@@ -11,6 +11,7 @@ use Rattle.layout.proofs.Markets.{market-is}
 use Rattle.layout.specs.Layouts.{isMarket}
 use Rattle.book_ledger.specs.Calls.{Call, ask}
 use Rattle.book_ledger.specs.Ledger.{answer, effect, inForce}
+use Rattle.text.proofs.Zeros.{zero-tells}
 use Rattle.value_name.specs.Names.{isUnit}
 use Rattle.book_order.specs.Orders.{pastEnd, emptyOrder, isZero, isEmpty}
 use Rattle.book_order.specs.declared.Order.{Order}
@@ -19,7 +20,6 @@ use Rattle.text.specs.Bytes.{all, is}
 use Rattle.text.specs.Puts.{roomOf}
 use borrow.Author.Tests.{leb-true, eqb-true, not-true}
 use lib.Dec.{eqb, leb}
-use lib.IntN.{ℤ, pos, negsuc}
 use lib.ListN.{length, take, drop, replicate, length-drop, take-append-drop}
 use lib.Seq.{length-take-le}
 use mathlib.Core.Bool.{Bool, true, false, false≢true, true≢false}
@@ -29,9 +29,6 @@ use native.Mathlib.Omega.{arith}
 
 -- ---- an empty place is all zero
 
-zero-is : (z : ℤ) → isZero z ≡ true → z ≡ pos 0
-zero-is (pos n) e = ap pos (eqb-true n 0 e)
-zero-is (negsuc n) e = absurd (false≢true e)
 
 pub empty-is : (o : Order) → isEmpty o ≡ true → o ≡ emptyOrder
 unfolding isEmpty
@@ -47,8 +44,8 @@ empty-is o e =
       layout = market-is (o .layout) (b .0) i;
       start = eqb-true (o .start) 0 (c .0) i;
       end = eqb-true (o .end) 0 (d .0) i;
-      first = zero-is (o .first) (f .0) i;
-      second = zero-is (o .second) (g .0) i;
+      first = zero-tells (o .first) .0 (f .0) i;
+      second = zero-tells (o .second) .0 (g .0) i;
       struck = not-true (o .struck) (g .1) i;
     }
 

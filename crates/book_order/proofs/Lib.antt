@@ -3,4 +3,3 @@ pub mod Joined
 pub mod Others
 pub mod Tested
 pub mod Untimely
-pub mod Zeros

@@ -1,10 +1,10 @@
 -- An order's tests, as the code joins them, are what the definitions say of it. Assumes nothing.
 use Prim.Native.Nat.{ℕ, _-_}
 use Rattle.book_order.proofs.Joined.{three, five, seven}
-use Rattle.book_order.proofs.Zeros.{zero-bits}
 use Rattle.book_order.specs.Orders.{live, isZero, isEmpty, isInstant, isAmount, fitsLayout, couldCome}
 use Rattle.book_order.specs.declared.Order.{Order}
 use Rattle.layout.specs.Layouts.{isMarket}
+use Rattle.text.proofs.Zeros.{zero-bits}
 use lib.Dec.{eqb, leb, ltb}
 use mathlib.Core.Bool.{Bool, not, _&&_}
 use mathlib.Core.Path.{_≡_}

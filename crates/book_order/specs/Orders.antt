@@ -7,7 +7,7 @@ use Rattle.layout.specs.declared.Layout.the-variants.{Market, Mfrr, Revocation,
 use Rattle.book_order.specs.declared.Order.{Order}
 use Rattle.text.specs.Bytes.{within}
 use lib.Dec.{eqb, leb, ltb}
-use lib.IntN.{ℤ, pos, negsuc}
+use lib.IntN.{ℤ, pos, natAbs}
 use lib.Signed.{leZ}
 use mathlib.Core.Bool.{Bool, true, false, not, _&&_, cond}
 
@@ -69,8 +69,7 @@ abbrev pub emptyOrder : Order
 emptyOrder = record { number = 0; layout = Market; start = 0; end = 0; first = pos 0; second = pos 0; struck = false }
 
 abbrev pub isZero : ℤ → Bool
-isZero (pos n) = eqb n 0
-isZero (negsuc n) = false
+isZero v = eqb (natAbs v) 0
 
 unfoldable pub isEmpty : Order → Bool
 isEmpty o =

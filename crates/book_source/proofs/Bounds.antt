@@ -3,12 +3,13 @@ use Prim.Native.Nat.{ℕ, _-_, _≤_, _<_}
 use Rattle.layout.specs.Layouts.{isCommand}
 use Rattle.layout.specs.declared.Layout.{Layout}
 use Rattle.layout.specs.declared.Layout.the-variants.{Market, Mfrr, Revocation, Generic, Exclusion, Limitation, Secondary, VoltVar, Rejection, Reserve}
-use Rattle.book_order.specs.Orders.{isZero, isAmount, fitsLayout, couldCome}
+use Rattle.book_order.specs.Orders.{isAmount, fitsLayout, couldCome}
 use Rattle.book_order.specs.declared.Order.{Order}
-use Rattle.text.proofs.Tests.{told, Tells, leb-tells, ltb-tells, eqb-tells, itself, _and_, within-tells}
-use lib.IntN.{ℤ, pos, negsuc, natAbs}
+use Rattle.text.proofs.Tests.{told, Tells, leb-tells, ltb-tells, itself, _and_, within-tells}
+use Rattle.text.proofs.Zeros.{zero-tells}
+use lib.IntN.{ℤ, pos}
 use mathlib.Core.Bool.{true, false≢true}
-use mathlib.Core.Path.{_≡_, refl, ap}
+use mathlib.Core.Path.{_≡_, refl}
 
 -- ---- the two layouts
 
@@ -39,10 +40,6 @@ fits-command Rejection apart w e = e
 fits-command Reserve apart w e = e
 
 -- ---- what fits them
-
-zero-tells : (v : ℤ) → Tells (isZero v) (v ≡ pos 0)
-zero-tells (pos n) = told (eqb-tells n 0) (λ e. ap pos e) (λ e. ap natAbs e)
-zero-tells (negsuc n) = (λ e. absurd (false≢true e), λ e. ap isZero e)
 
 pub market-tells : (apart : ℕ) (w : ℤ) → Tells (fitsLayout Market apart w) ((0 < apart) × (isAmount w ≡ true))
 market-tells apart w = ltb-tells 0 apart and itself (isAmount w)

@@ -3,7 +3,7 @@ use layout::Layout;
 use text::put;
 ghost use Prim.Native.Nat.{_+_, _≤_, _<_};
 ghost use Rattle.layout.specs.Banners.{bannerOf};
-ghost use Rattle.text.specs.Puts.{limit};
+ghost use Rattle.text.specs.Puts.{limit, Puts};
 ghost use lib.ListN.{length, take};
 ghost use lib.Seq.{sets};
 ghost use mathlib.Core.Path.{_≡_};
@@ -50,7 +50,7 @@ fn shown(out: &mut [u8], at: usize, size: usize, text: [u8; 88]) -> usize
 // The banner of a layout, put at a place.
 pub fn put(out: &mut [u8], at: usize, l: Layout) -> usize
     requires { ⌜ at + length (bannerOf l) < limit ⌝ }
-    ensures { λ r. ⌜ (r ≡ at + length (bannerOf l)) × (now (out .exit) ≡ sets (now (out .entry)) at (bannerOf l)) ⌝ }
+    ensures { λ r. ⌜ Puts (now (out .entry)) at (bannerOf l) r (now (out .exit)) ⌝ }
 {
     match l {
         Layout::Market => shown(out, at, 69, MARKET),

@@ -8,7 +8,7 @@ use Rattle.layout.specs.declared.Layout.the-variants.{Market, Mfrr, Revocation,
 use Rattle.layout.specs.declared.Layout.{Layout}
 use Rattle.text.proofs.Cuts.{all-append, starts-short, starts-append}
 use Rattle.text.proofs.Loads.{Bytes, word-back, length-bytes, bytes-cut, bytes-drop, starts-word}
-use Rattle.text.proofs.Runs.{Puts, then}
+use Rattle.text.proofs.Runs.{Run, then}
 use Rattle.text.proofs.Tables.{all-at}
 use Rattle.text.proofs.Tests.{and-parts}
 use Rattle.text.specs.Bytes.{part, all, starts}
@@ -34,15 +34,15 @@ pub text-put : (l : Label) (out : List ℕ) (i : ℕ) {a b c d e : List ℕ} →
     → e ≡ sets out i (labelText l)
 unfolding labelText
 text-put l out i {a} {b} {c} {d} {e} p q r s t =
-    let first : Puts out i (bytesOf 8 (l .first)) (i + 8) a =
+    let first : Run out i (bytesOf 8 (l .first)) (i + 8) a =
     record { place = omega (arith, length-bytes 8 (l .first)); bytes = p } in
-    let second : Puts a (i + 8) (bytesOf 8 (l .second)) (i + 16) b =
+    let second : Run a (i + 8) (bytesOf 8 (l .second)) (i + 16) b =
     record { place = omega (arith, length-bytes 8 (l .second)); bytes = q } in
-    let third : Puts b (i + 16) (bytesOf 8 (l .third)) (i + 24) c =
+    let third : Run b (i + 16) (bytesOf 8 (l .third)) (i + 24) c =
     record { place = omega (arith, length-bytes 8 (l .third)); bytes = r } in
-    let fourth : Puts c (i + 24) (bytesOf 8 (l .fourth)) (i + 32) d =
+    let fourth : Run c (i + 24) (bytesOf 8 (l .fourth)) (i + 32) d =
     record { place = omega (arith, length-bytes 8 (l .fourth)); bytes = s } in
-    let last : Puts d (i + 32) (bytesOf 4 (l .last)) (i + 36) e =
+    let last : Run d (i + 32) (bytesOf 4 (l .last)) (i + 36) e =
     record { place = omega (arith, length-bytes 4 (l .last)); bytes = t } in
     then (then (then (then first second) third) fourth) last .bytes
 

@@ -1,16 +1,15 @@
 -- A column that was read by its kinds: each value is held by its kind, and the rooms of the record hold the texts of its values.
 -- Assumes nothing.
 use Prim.Native.Nat.{ℕ, zero, suc, _≤_, _<_}
+use Rattle.reader_fill.proofs.Gradients.{none-there}
 use Rattle.reader_fill.proofs.Records.{not-good, good-is}
 use Rattle.reader_fill.proofs.Stored.{kept-in-room, record-stored}
 use Rattle.layout.proofs.Labels.{kinds-length, kind-at}
 use Rattle.layout.specs.Layouts.{kindsOf, noKind, typeOf}
 use Rattle.layout.specs.Rows.{textAt}
 use Rattle.layout.specs.declared.Layout.{Layout}
-use Rattle.value_list.specs.Forms.{amountOf, oneOf, oneIn, tripleIs, noTriple, gradientsIn, gradientsOf, gradientsRead}
-use Rattle.value_list.specs.Lists.{cutAt, consRead, everyOf, counted, someOf}
-use Rattle.value_list.specs.declared.One.{One}
-use Rattle.value_list.specs.declared.One.the-variants.{No}
+use Rattle.value_list.specs.Forms.{noTriple, gradientsIn}
+use Rattle.value_list.specs.declared.GradientsRead.{GradientsRead}
 use Rattle.value_name.proofs.RoundTrip.{unit-size}
 use Rattle.value_name.specs.Names.{isUnit}
 use Rattle.value_name.specs.declared.MessageType.{MessageType}
@@ -22,7 +21,7 @@ use Rattle.record.specs.declared.Record.{Record}
 use Rattle.text_room.specs.Rooms.{keptIn}
 use Rattle.record_rules.specs.Rules.{brokenIn}
 use Rattle.text.proofs.Tests.{by-test, and-parts}
-use Rattle.text.specs.Bytes.{all, tidy, trim, skip, skipEnd}
+use Rattle.text.specs.Bytes.{all, tidy}
 use Rattle.text.specs.Puts.{roomOf}
 use Rattle.record_valid.specs.Valid.{HoldAll, textsOf, ValidAs}
 use Rattle.record_valid.specs.Valid.HoldAll.{end as ends, next as nexts}
@@ -38,12 +37,10 @@ use Rattle.value.specs.declared.Value.{Value}
 use Rattle.value.specs.declared.Value.the-variants.{Blank, Reason, Note, Unit as UnitOf}
 use borrow.Author.Tests.{le-leb, leb-true, eqb-true}
 use lib.Dec.{eqb, leb}
-use lib.IntN.{ℤ}
 use lib.ListN.{length, getD, replicate}
 use mathlib.Core.Bool.{Bool, true, false, _&&_, cond}
 use mathlib.Core.List.{List, [], _∷_, map}
-use mathlib.Core.Logic.{_⊎_, ⊎-elim}
-use mathlib.Core.Option.{Option, none, some}
+use mathlib.Core.Logic.{⊎-elim}
 use mathlib.Core.Path.{_≡_, refl, sym, ap, _∙_, subst}
 use native.Mathlib.Omega.{arith}
 
@@ -142,22 +139,8 @@ map-at f e [] j = sym e
 map-at f e (v ∷ vs) zero = refl
 map-at f e (v ∷ vs) (suc j) = map-at f e vs j
 
--- an empty text is one part, and a triple has three
-one-part : (o : Option ℤ) → oneOf (counted 3 3 (consRead o (some []))) ≡ No
-unfolding counted consRead
-one-part none = refl
-one-part (some v) = refl
-
-no-triple : oneIn [] ≡ No
-unfolding oneIn someOf everyOf cutAt
-no-triple = one-part (amountOf (trim []))
-
-no-triples : gradientsIn [] .list .values ≡ replicate 16 noTriple
-unfolding gradientsIn gradientsRead gradientsOf someOf everyOf cutAt counted consRead trim skip skipEnd
-no-triples = ap (λ (o : One). gradientsRead (counted 1 16 (consRead (tripleIs o) (some []))) .list .values) no-triple
-
 pub no-gradients : (col : List (List ℕ)) (k : ℕ) → k ≡ 0 → gradientsIn (textAt col k) .list .values ≡ replicate 16 noTriple
-no-gradients col k e = ap (λ (n : ℕ). gradientsIn (textAt col n) .list .values) e ∙ no-triples
+no-gradients col k e = ap (λ (g : GradientsRead). g .list .values) (sym (none-there col k k refl e))
 
 kept-empty : (n : ℕ) → keptIn n [] ≡ roomOf n []
 unfolding keptIn

@@ -1,7 +1,7 @@
 -- The cells of a record whose values are held: they are those of its values exactly where there are 26 and the others are blank. Assumes nothing.
 use Prim.Native.Nat.{ℕ, _-_, _≤_}
 use Rattle.value_ask.specs.Values.{isFilled}
-use Rattle.value_fits.proofs.Blanks.{blank-is}
+use Rattle.value_ask.proofs.Others.{blank-is}
 use Rattle.value_fits.proofs.Unused.{unused-tells}
 use Rattle.layout.proofs.Labels.{few, kinds-length}
 use Rattle.layout.specs.Layouts.{kindsOf, sizeOf}

@@ -1,7 +1,7 @@
 -- The ways through the program's first two lines, and what is printed of the answer. Assumes nothing.
 use Prim.Native.Nat.{ℕ}
 use Rattle.plan_row.specs.Rows.{caAt, ioaAt}
-use Rattle.report_brief.proofs.Puts.{Was}
+use Rattle.text.specs.Puts.{Puts}
 use Rattle.text_keyline.specs.Keylines.{below}
 use Rattle.reader.specs.Reader.{readOf}
 use Rattle.reader.specs.declared.Answer.{Answer}
@@ -47,7 +47,7 @@ module _ (plan input second file : List ℕ) (a : Answer) (d : Digits) (two : se
     both-read i y r = r ∙ ap (readOf c i plan) rest-is ∙ read-at (Are i) y
 
 -- what is put at the start, of the answer
-pub print-put : (plan input l : List ℕ) (a : Answer) (r : ℕ) (m : List ℕ) → a ≡ heardOf plan input → Was l 0 (reportOf a) r m
+pub print-put : (plan input l : List ℕ) (a : Answer) (r : ℕ) (m : List ℕ) → a ≡ heardOf plan input → Puts l 0 (reportOf a) r m
     → (r ≡ length (printedOf plan input)) × (m ≡ sets l 0 (printedOf plan input))
 unfolding printedOf
 print-put plan input l a r m e p =

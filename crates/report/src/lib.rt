@@ -6,7 +6,7 @@ ghost use Prim.Native.Nat.{_+_, _<_};
 ghost use Rattle.report_brief.specs.Brief.{sixLines};
 ghost use Rattle.report.specs.Program.{heardOf, printedOf};
 ghost use Rattle.report.specs.Report.{twoLines, reportOf};
-ghost use Rattle.text.specs.Puts.{limit};
+ghost use Rattle.text.specs.Puts.{limit, Puts};
 ghost use lib.ListN.{length};
 ghost use lib.Seq.{sets};
 ghost use mathlib.Core.Path.{_≡_};
@@ -14,7 +14,7 @@ ghost use mathlib.Core.Path.{_≡_};
 // The six lines of a record.
 pub fn put_record(out: &mut [u8], at: usize, r: Record) -> usize
     requires { ⌜ at + 200 < limit ⌝ }
-    ensures { λ n. ⌜ (n ≡ at + length (sixLines r)) × (now (out .exit) ≡ sets (now (out .entry)) at (sixLines r)) ⌝ }
+    ensures { λ n. ⌜ Puts (now (out .entry)) at (sixLines r) n (now (out .exit)) ⌝ }
 {
     report_brief::put_lines(out, at, report_brief::of_record(r))
 }
@@ -22,7 +22,7 @@ pub fn put_record(out: &mut [u8], at: usize, r: Record) -> usize
 // The two lines of a refusal.
 pub fn put_refusal(out: &mut [u8], at: usize, number: u8, detail: usize) -> usize
     requires { ⌜ at + 200 < limit ⌝ }
-    ensures { λ n. ⌜ (n ≡ at + length (twoLines number detail)) × (now (out .exit) ≡ sets (now (out .entry)) at (twoLines number detail)) ⌝ }
+    ensures { λ n. ⌜ Puts (now (out .entry)) at (twoLines number detail) n (now (out .exit)) ⌝ }
 {
     let a = report_brief::put_number(out, at, b"result=", number as u64);
     report_brief::put_number(out, a, b"detail=", detail as u64)
@@ -31,7 +31,7 @@ pub fn put_refusal(out: &mut [u8], at: usize, number: u8, detail: usize) -> usiz
 // What is printed of an answer.
 pub fn put_answer(out: &mut [u8], at: usize, a: Answer) -> usize
     requires { ⌜ at + 200 < limit ⌝ }
-    ensures { λ n. ⌜ (n ≡ at + length (reportOf a)) × (now (out .exit) ≡ sets (now (out .entry)) at (reportOf a)) ⌝ }
+    ensures { λ n. ⌜ Puts (now (out .entry)) at (reportOf a) n (now (out .exit)) ⌝ }
 {
     if a.number == 0 {
         let content = a.content;

@@ -1,6 +1,7 @@
 -- A line is put as its key, its value and its end, and the lines are put one after another. Assumes nothing.
 use Prim.Native.Nat.{ℕ, _+_}
 use Rattle.layout.specs.Layouts.{typeOf}
+use Rattle.text.specs.Puts.{Puts}
 use Rattle.value_name.specs.Types.{codeOf}
 use Rattle.value_name.specs.declared.MessageType.{MessageType}
 use Rattle.value_ask.specs.Values.{isFilled, instantIn}
@@ -12,27 +13,23 @@ use Rattle.text.proofs.Runs.{puts, puts-of, puts-none, then, same-puts}
 use Rattle.text.specs.Bytes.{bytes}
 use Rattle.text.specs.Digits.{wholeText}
 use Rattle.value.specs.declared.Value.{Value}
-use lib.ListN.{length, take}
+use lib.ListN.{take}
 use mathlib.Core.Bool.{true, false}
 use lib.Seq.{sets}
 use mathlib.Core.List.{List, [], _∷_, _++_, append-assoc}
 use mathlib.Core.Path.{_≡_, refl, sym}
 
--- what a contract says of a text that was put
-abbrev pub Was : List ℕ → ℕ → List ℕ → ℕ → List ℕ → Type 0
-Was l at t r m = (r ≡ at + length t) × (m ≡ sets l at t)
-
 pub line-put : (key v l : List ℕ) (at a : ℕ) (l₁ : List ℕ) (b : ℕ) (l₂ : List ℕ) (r : ℕ) (m : List ℕ)
-    → Was l at key a l₁ → Was l₁ a v b l₂ → (r ≡ b + 1) × (m ≡ sets l₂ b (10 ∷ [])) → Was l at (lineText key v) r m
+    → Puts l at key a l₁ → Puts l₁ a v b l₂ → (r ≡ b + 1) × (m ≡ sets l₂ b (10 ∷ [])) → Puts l at (lineText key v) r m
 line-put key v l at a l₁ b l₂ r m p q e =
     same-puts (lineText key v) refl (then (then (puts {t = key} p) (puts {t = v} q)) (puts-of {t = 10 ∷ []} 1 refl e))
 
 -- what was put, in another writing
-pub same-text : (t u l : List ℕ) (at r : ℕ) (m : List ℕ) → t ≡ u → Was l at t r m → Was l at u r m
+pub same-text : (t u l : List ℕ) (at r : ℕ) (m : List ℕ) → t ≡ u → Puts l at t r m → Puts l at u r m
 same-text t u l at r m e p = same-puts u e (puts {t = t} p)
 
 -- two texts, one after the other
-pub two-put : (t u l : List ℕ) (at a : ℕ) (l₁ : List ℕ) (b : ℕ) (l₂ : List ℕ) → Was l at t a l₁ → Was l₁ a u b l₂ → Was l at (t ++ u) b l₂
+pub two-put : (t u l : List ℕ) (at a : ℕ) (l₁ : List ℕ) (b : ℕ) (l₂ : List ℕ) → Puts l at t a l₁ → Puts l₁ a u b l₂ → Puts l at (t ++ u) b l₂
 two-put t u l at a l₁ b l₂ p q = same-puts (t ++ u) refl (then (puts {t = t} p) (puts {t = u} q))
 
 -- a line that ends where the next begins, in one text
@@ -46,8 +43,8 @@ module _ (e r t : List ℕ) where
 -- the first three lines: what stands between two values is one text
 module _ (l : List ℕ) (at a : ℕ) (l₁ : List ℕ) (b : ℕ) (l₂ : List ℕ) (c : ℕ) (l₃ : List ℕ) (d : ℕ) (l₄ : List ℕ) (r : ℕ) (m : List ℕ) where
   pub head-put : (t : MessageType) (n : ℕ) (code : List ℕ) → code ≡ codeOf t
-      → Was l at (bytes "result=0" ++ 10 ∷ bytes "type=") a l₁ → Was l₁ a code b l₂ → Was l₂ b (10 ∷ bytes "number=") c l₃
-      → Was l₃ c (wholeText 9 n) d l₄ → (r ≡ d + 1) × (m ≡ sets l₄ d (10 ∷ [])) → Was l at (headText t n) r m
+      → Puts l at (bytes "result=0" ++ 10 ∷ bytes "type=") a l₁ → Puts l₁ a code b l₂ → Puts l₂ b (10 ∷ bytes "number=") c l₃
+      → Puts l₃ c (wholeText 9 n) d l₄ → (r ≡ d + 1) × (m ≡ sets l₄ d (10 ∷ [])) → Puts l at (headText t n) r m
   head-put t n code e p q s u w =
       let top = bytes "result=0" ++ 10 ∷ bytes "type=" in
       let key : List ℕ = 10 ∷ bytes "number=" in
@@ -63,10 +60,10 @@ module _ (l : List ℕ) (at a : ℕ) (l₁ : List ℕ) (b : ℕ) (l₂ : List �
 module _ (b : Brief) (l : List ℕ) (at a : ℕ) (l₁ : List ℕ) (c : ℕ) (l₂ : List ℕ) (d : ℕ) (l₃ : List ℕ) where
   module _ (e : ℕ) (l₄ : List ℕ) (f : ℕ) (l₅ : List ℕ) (g : ℕ) (l₆ : List ℕ) (r : ℕ) (m : List ℕ) where
     pub six-put : (t : MessageType) (u : List ℕ) → t ≡ typeOf (b .layout) → u ≡ take (b .size) (b .unit)
-        → Was l at (headText t (b .number)) a l₁ → Was l₁ a (lineText (bytes "unit=") u) c l₂
-        → Was l₂ c (bytes "start=") d l₃ → Was l₃ d (instantText (b .start)) e l₄
-        → Was l₄ e (10 ∷ bytes "end=") f l₅ → Was l₅ f (instantText (b .end)) g l₆
-        → (r ≡ g + 1) × (m ≡ sets l₆ g (10 ∷ [])) → Was l at (sixOf b) r m
+        → Puts l at (headText t (b .number)) a l₁ → Puts l₁ a (lineText (bytes "unit=") u) c l₂
+        → Puts l₂ c (bytes "start=") d l₃ → Puts l₃ d (instantText (b .start)) e l₄
+        → Puts l₄ e (10 ∷ bytes "end=") f l₅ → Puts l₅ f (instantText (b .end)) g l₆
+        → (r ≡ g + 1) × (m ≡ sets l₆ g (10 ∷ [])) → Puts l at (sixOf b) r m
     unfolding sixOf
     six-put t u i j p q s v w x y =
         let head = headText t (b .number) in
@@ -85,8 +82,8 @@ module _ (b : Brief) (l : List ℕ) (at a : ℕ) (l₁ : List ℕ) (c : ℕ) (l�
 
 -- an instant, and nothing for a blank
 pub instant-put : (v : Value) (n : ℕ) (l : List ℕ) (at r : ℕ) (m : List ℕ) → isFilled v ≡ true → n ≡ instantIn v
-    → Was l at (wholeText 9 n) r m → Was l at (instantText v) r m
+    → Puts l at (wholeText 9 n) r m → Puts l at (instantText v) r m
 instant-put v n l at r m e f p = same-text (wholeText 9 n) (instantText v) l at r m (filled-is v n e f) p
 
-pub blank-put : (v : Value) (l : List ℕ) (at : ℕ) → isFilled v ≡ false → Was l at (instantText v) at l
+pub blank-put : (v : Value) (l : List ℕ) (at : ℕ) → isFilled v ≡ false → Puts l at (instantText v) at l
 blank-put v l at e = same-puts (instantText v) (blank-is v e) (puts-none l at)

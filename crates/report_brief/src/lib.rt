@@ -14,9 +14,8 @@ ghost use Rattle.report_brief.specs.Brief.{instantText, lineText, toldOf
 ghost use Rattle.value_name.specs.Types.{codeOf};
 ghost use Rattle.text.specs.Bytes.{bytes};
 ghost use Rattle.text.specs.Digits.{wholeText};
-ghost use Rattle.text.specs.Puts.{limit, wroteOf, bufferOf};
+ghost use Rattle.text.specs.Puts.{limit, Puts, wroteOf, bufferOf};
 ghost use lib.ListN.{length};
-ghost use lib.Seq.{sets};
 ghost use mathlib.Core.List.{_++_};
 ghost use mathlib.Core.Path.{_≡_};
 
@@ -74,7 +73,7 @@ pub fn of_record(r: Record) -> Brief
 
 fn put_line(out: &mut [u8], at: usize, key: &[u8], v: &[u8]) -> usize
     requires { ⌜ at + length (now key) + length (now v) + 1 < limit ⌝ }
-    ensures { λ r. ⌜ (r ≡ at + length (lineText (now (key .entry)) (now (v .entry)))) × (now (out .exit) ≡ sets (now (out .entry)) at (lineText (now (key .entry)) (now (v .entry)))) ⌝ }
+    ensures { λ r. ⌜ Puts (now (out .entry)) at (lineText (now (key .entry)) (now (v .entry))) r (now (out .exit)) ⌝ }
 {
     let a = put::put_text(out, at, key);
     let b = put::put_text(out, a, v);
@@ -83,7 +82,7 @@ fn put_line(out: &mut [u8], at: usize, key: &[u8], v: &[u8]) -> usize
 
 pub fn put_number(out: &mut [u8], at: usize, key: &[u8], n: u64) -> usize
     requires { ⌜ at + length (now key) + 11 < limit ⌝ }
-    ensures { λ r. ⌜ (r ≡ at + length (lineText (now (key .entry)) (wholeText 9 n))) × (now (out .exit) ≡ sets (now (out .entry)) at (lineText (now (key .entry)) (wholeText 9 n))) ⌝ }
+    ensures { λ r. ⌜ Puts (now (out .entry)) at (lineText (now (key .entry)) (wholeText 9 n)) r (now (out .exit)) ⌝ }
 {
     let a = put::put_text(out, at, key);
     let b = put::put_whole(out, a, 9, n);
@@ -93,7 +92,7 @@ pub fn put_number(out: &mut [u8], at: usize, key: &[u8], n: u64) -> usize
 // A date as its instant, a blank as nothing.
 fn put_instant(out: &mut [u8], at: usize, v: Value) -> usize
     requires { ⌜ at + 10 < limit ⌝ }
-    ensures { λ r. ⌜ (r ≡ at + length (instantText v)) × (now (out .exit) ≡ sets (now (out .entry)) at (instantText v)) ⌝ }
+    ensures { λ r. ⌜ Puts (now (out .entry)) at (instantText v) r (now (out .exit)) ⌝ }
 {
     if value_ask::is_filled(v) {
         return put::put_whole(out, at, 9, value_ask::instant_in(v));
@@ -104,7 +103,7 @@ fn put_instant(out: &mut [u8], at: usize, v: Value) -> usize
 // The first three lines: the result, the type and the number. What stands between two values is one text.
 fn put_head(out: &mut [u8], at: usize, t: MessageType, n: u64) -> usize
     requires { ⌜ at + 200 < limit ⌝ }
-    ensures { λ r. ⌜ (r ≡ at + length (lineText (bytes "result=") (bytes "0") ++ lineText (bytes "type=") (codeOf t) ++ lineText (bytes "number=") (wholeText 9 n))) × (now (out .exit) ≡ sets (now (out .entry)) at (lineText (bytes "result=") (bytes "0") ++ lineText (bytes "type=") (codeOf t) ++ lineText (bytes "number=") (wholeText 9 n))) ⌝ }
+    ensures { λ r. ⌜ Puts (now (out .entry)) at (lineText (bytes "result=") (bytes "0") ++ lineText (bytes "type=") (codeOf t) ++ lineText (bytes "number=") (wholeText 9 n)) r (now (out .exit)) ⌝ }
 {
     let code = value_name::code(t);
     let a = put::put_text(out, at, b"result=0\ntype=");
@@ -117,7 +116,7 @@ fn put_head(out: &mut [u8], at: usize, t: MessageType, n: u64) -> usize
 // The six lines.
 pub fn put_lines(out: &mut [u8], at: usize, b: Brief) -> usize
     requires { ⌜ at + 200 < limit ⌝ }
-    ensures { λ n. ⌜ (n ≡ at + length (sixOf b)) × (now (out .exit) ≡ sets (now (out .entry)) at (sixOf b)) ⌝ }
+    ensures { λ n. ⌜ Puts (now (out .entry)) at (sixOf b) n (now (out .exit)) ⌝ }
 {
     let l = b.layout;
     let unit = b.unit;

@@ -2,6 +2,7 @@ pub mod Tests
 pub mod Cuts
 pub mod Trims
 pub mod Numerals
+pub mod Zeros
 pub mod Backs
 pub mod Runs
 pub mod Tables

@@ -6,7 +6,7 @@ use Rattle.text.proofs.Numerals.{length-text, digits-last}
 use Rattle.text.proofs.Tests.{by-le}
 use Rattle.text.specs.Bytes.{part}
 use Rattle.text.specs.Digits.{digitsText, wholeText}
-use Rattle.text.specs.Puts.{wroteOf, bufferOf, roomOf}
+use Rattle.text.specs.Puts.{wroteOf, bufferOf, roomOf, Puts}
 use Rattle.text.specs.declared.put.Wrote.the-variants.{To, NoRoom}
 use borrow.Author.Tests.{le-leb, lt-leb}
 use lib.ListN.{length, getD, take, drop, set, replicate, length-append, length-drop, length-replicate, drop-of-length-le, take-append-drop}
@@ -33,23 +33,23 @@ sets-append l at (b ∷ t) u =
 
 -- ---- a put, as its contract states it, and puts one after another
 
--- t was put at a place: r is the place past it, and m the buffer
-pub record Puts (l : List ℕ) (at : ℕ) (t : List ℕ) (r : ℕ) (m : List ℕ) : Type 0 where
+-- the same as a record, whose type shows antt what was put
+pub record Run (l : List ℕ) (at : ℕ) (t : List ℕ) (r : ℕ) (m : List ℕ) : Type 0 where
   pub place : r ≡ at + length t
   pub bytes : m ≡ sets l at t
 
-pub puts : {l : List ℕ} {at : ℕ} {t : List ℕ} {r : ℕ} {m : List ℕ} → (r ≡ at + length t) × (m ≡ sets l at t) → Puts l at t r m
+pub puts : {l : List ℕ} {at : ℕ} {t : List ℕ} {r : ℕ} {m : List ℕ} → Puts l at t r m → Run l at t r m
 puts p = record { place = p .0; bytes = p .1 }
 
 -- of a text whose length the contract gives as a number
-pub puts-of : {l : List ℕ} {at : ℕ} {t : List ℕ} {r : ℕ} {m : List ℕ} (k : ℕ) → length t ≡ k → (r ≡ at + k) × (m ≡ sets l at t) → Puts l at t r m
+pub puts-of : {l : List ℕ} {at : ℕ} {t : List ℕ} {r : ℕ} {m : List ℕ} (k : ℕ) → length t ≡ k → (r ≡ at + k) × (m ≡ sets l at t) → Run l at t r m
 puts-of k e p = record { place = omega (arith, e, p .0); bytes = p .1 }
 
 -- nothing was put
-pub puts-none : (l : List ℕ) (at : ℕ) → Puts l at [] at l
+pub puts-none : (l : List ℕ) (at : ℕ) → Run l at [] at l
 puts-none l at = record { place = omega arith; bytes = refl }
 
-pub then : {l : List ℕ} {at : ℕ} {t : List ℕ} {a : ℕ} {l₁ : List ℕ} {u : List ℕ} {b : ℕ} {l₂ : List ℕ} → Puts l at t a l₁ → Puts l₁ a u b l₂ → Puts l at (t ++ u) b l₂
+pub then : {l : List ℕ} {at : ℕ} {t : List ℕ} {a : ℕ} {l₁ : List ℕ} {u : List ℕ} {b : ℕ} {l₂ : List ℕ} → Run l at t a l₁ → Run l₁ a u b l₂ → Run l at (t ++ u) b l₂
 then {l} {at} {t} {a} {l₁} {u} {b} {l₂} p q =
     record {
       place = omega (arith, p .place, q .place, length-append t u);
@@ -57,7 +57,7 @@ then {l} {at} {t} {a} {l₁} {u} {b} {l₂} p q =
     }
 
 -- back to a contract, of another writing of the same text
-pub same-puts : {l : List ℕ} {at : ℕ} {t : List ℕ} {r : ℕ} {m : List ℕ} (u : List ℕ) → t ≡ u → Puts l at t r m → (r ≡ at + length u) × (m ≡ sets l at u)
+pub same-puts : {l : List ℕ} {at : ℕ} {t : List ℕ} {r : ℕ} {m : List ℕ} (u : List ℕ) → t ≡ u → Run l at t r m → Puts l at u r m
 same-puts u e p = rw (sym e) (p .place, p .bytes)
 
 -- ---- a text from its front on
@@ -166,7 +166,7 @@ digit-end l p (suc j) n h = absurd (omega arith)
 
 -- a number without leading zeros
 pub whole-put : (l m : List ℕ) (at k n size r : ℕ) → wholeText k n ≡ digitsText size n → (r ≡ at + size) × (m ≡ sets l at (digitsText size n))
-    → (r ≡ at + length (wholeText k n)) × (m ≡ sets l at (wholeText k n))
+    → Puts l at (wholeText k n) r m
 whole-put l m at k n size r e p =
     same-puts (wholeText k n) (sym e) (puts-of size (length-text size n) p)
 
@@ -179,7 +179,7 @@ none-put at t = sets-past [] at t (omega arith)
 part-back : (l m t : List ℕ) → m ≡ sets [] 0 t → m ++ l ≡ l
 part-back l m t e = rw (e, none-put 0 t)
 
-module _ (l m t : List ℕ) (at n : ℕ) (first : (n ≡ 0 + length t) × (m ≡ sets [] 0 t)) where
+module _ (l m t : List ℕ) (at n : ℕ) (first : Puts [] 0 t n m) where
   -- there is no room, and nothing was changed
   pub refused-write : length (m ++ l) < at + n → (NoRoom n ≡ wroteOf l at t) × (m ++ l ≡ bufferOf l at t)
   unfolding wroteOf bufferOf
@@ -191,7 +191,7 @@ module _ (l m t : List ℕ) (at n : ℕ) (first : (n ≡ 0 + length t) × (m ≡
 
   -- there is, and what came back of the part from the place on stands behind what stood before it
   pub done-write : (r : ℕ) (m₂ : List ℕ) → at + n ≤ length (m ++ l)
-      → (r ≡ 0 + length t) × (m₂ ≡ sets (take (length (m ++ l) - at) (drop at (m ++ l))) 0 t)
+      → Puts (take (length (m ++ l) - at) (drop at (m ++ l))) 0 t r m₂
       → (To (at + n) ≡ wroteOf l at t) × (take at (m ++ l) ++ (m₂ ++ drop (length (m ++ l) - at) (drop at (m ++ l))) ≡ bufferOf l at t)
   unfolding wroteOf bufferOf
   done-write r m₂ h second =

@@ -5,7 +5,7 @@ use crate::words;
 ghost use Prim.Native.Nat.{_+_, _-_, min, _≤_, _<_};
 ghost use Rattle.text.specs.Bytes.{part};
 ghost use Rattle.text.specs.Digits.{digitsText, wholeText};
-ghost use Rattle.text.specs.Puts.{limit};
+ghost use Rattle.text.specs.Puts.{limit, Puts};
 ghost use lib.ListN.{length, take};
 ghost use lib.Seq.{sets};
 ghost use mathlib.Core.List.{[], _∷_};
@@ -83,7 +83,7 @@ fn put_first(out: &mut [u8], at: usize, t: &[u8], n: usize)
 // One test of the room for the whole text.
 pub fn put_text(out: &mut [u8], at: usize, t: &[u8]) -> usize
     requires { ⌜ at + length (now t) < limit ⌝ }
-    ensures { λ r. ⌜ (r ≡ at + length (now (t .entry))) × (now (out .exit) ≡ sets (now (out .entry)) at (now (t .entry))) ⌝ }
+    ensures { λ r. ⌜ Puts (now (out .entry)) at (now (t .entry)) r (now (out .exit)) ⌝ }
 {
     let n = room_for(out, at, t.len());
     if n != 0 {
@@ -133,7 +133,7 @@ pub fn put_digits(out: &mut [u8], at: usize, k: usize, n: u64) -> usize
 // n without leading zeros, of at most k + 1 digits.
 pub fn put_whole(out: &mut [u8], at: usize, k: usize, n: u64) -> usize
     requires { ⌜ (at + 10 < limit) × (k ≤ 9) ⌝ }
-    ensures { λ r. ⌜ (r ≡ at + length (wholeText k n)) × (now (out .exit) ≡ sets (now (out .entry)) at (wholeText k n)) ⌝ }
+    ensures { λ r. ⌜ Puts (now (out .entry)) at (wholeText k n) r (now (out .exit)) ⌝ }
 {
     let size = digits::whole_size(n, k);
     put_digits(out, at, size, n)

@@ -1,6 +1,7 @@
 -- THE THEOREMS: where a time stands. In the file it is the record's value, in the sheet a number, where the record has none; the two calls refuse alike;
 -- and a part is empty exactly on refusal. Assumes nothing.
 use Prim.Native.Nat.{ℕ, suc, _+_, _≤_, _<_}
+use Rattle.value_ask.proofs.Others.{blank-is}
 use Rattle.value_ask.specs.Values.{isFilled}
 use Rattle.report_brief.specs.Brief.{unitOf}
 use Rattle.layout.proofs.Labels.{labels-length}
@@ -31,12 +32,12 @@ use Rattle.times.specs.declared.Time.the-variants.{File, Sheet, Refused}
 use Rattle.times.specs.declared.Time.{Time}
 use Rattle.value.specs.Kinds.{valueOf}
 use Rattle.value.specs.declared.Got.the-variants.{Read}
-use Rattle.value.specs.declared.Value.the-variants.{Blank, Id, Unit, When, Amount, Count, Reason, Note, Word, List as Numbers, Triples, Voltage, Regulator, Change, Reactive}
+use Rattle.value.specs.declared.Value.the-variants.{Blank}
 use Rattle.value.specs.declared.Value.{Value}
 use borrow.Author.Tests.{eqb-true, eqb-false, ltb-true}
 use lib.Dec.{eqb}
 use lib.ListN.{length}
-use mathlib.Core.Bool.{Bool, true, false, cond, false≢true, true≢false}
+use mathlib.Core.Bool.{Bool, true, false, cond, false≢true}
 use mathlib.Core.List.{List, [], _∷_}
 use mathlib.Core.Path.{_≡_, refl, sym, ap, ap₂, _∙_, subst}
 use native.Mathlib.Omega.{arith}
@@ -93,23 +94,6 @@ same-chosen true true true false false p q s t n d = refl
 same-chosen true true false f h p q s t n d = refl
 same-chosen true false g f h p q s t n d = refl
 same-chosen false m g f h p q s t n d = refl
-
-blank-is : (v : Value) → isFilled v ≡ false → v ≡ Blank
-blank-is Blank e = refl
-blank-is (Id n) e = absurd (true≢false e)
-blank-is (Unit n) e = absurd (true≢false e)
-blank-is (When d) e = absurd (true≢false e)
-blank-is (Amount v) e = absurd (true≢false e)
-blank-is (Count n) e = absurd (true≢false e)
-blank-is (Reason n) e = absurd (true≢false e)
-blank-is (Note n) e = absurd (true≢false e)
-blank-is (Word w) e = absurd (true≢false e)
-blank-is (Numbers x) e = absurd (true≢false e)
-blank-is (Triples n) e = absurd (true≢false e)
-blank-is (Voltage v) e = absurd (true≢false e)
-blank-is (Regulator v) e = absurd (true≢false e)
-blank-is (Change v) e = absurd (true≢false e)
-blank-is (Reactive v) e = absurd (true≢false e)
 
 -- ---- the field of the record
 

@@ -1,4 +1,4 @@
--- What a question says of the values of every other shape: the arm `_` of a match on a value. Assumes nothing.
+-- What a question says of the values of every other shape, the arm `_` of a match on a value; and that the blank alone is not filled. Assumes nothing.
 use Prim.Native.Nat.{ℕ}
 use Rattle.value_ask.specs.Values.{isFilled, numberIn, countIn, sizeIn, instantIn, amountIn, wordNumber, triplesIn, notNegative}
 use Rattle.value.proofs.Value.{the-type}
@@ -6,7 +6,7 @@ use Rattle.value.specs.declared.Value.{Value}
 use Rattle.value.specs.declared.Value.the-variants.{Blank, Id, Unit, When, Amount, Count, Reason, Note, Word, List as Numbers, Triples, Voltage, Regulator, Change, Reactive}
 use denote.Enum.Declared.{tagOf}
 use lib.IntN.{pos}
-use mathlib.Core.Bool.{true, false}
+use mathlib.Core.Bool.{true, false, true≢false}
 use mathlib.Core.List.{List, [], _∷_}
 use mathlib.Core.Path.{_≡_, refl}
 use types.Run.{OneOf, miss}
@@ -59,6 +59,24 @@ filled-other (Voltage v) h = refl
 filled-other (Regulator v) h = refl
 filled-other (Change v) h = refl
 filled-other (Reactive v) h = refl
+
+-- and the blank is the one value that is not
+pub blank-is : (v : Value) → isFilled v ≡ false → v ≡ Blank
+blank-is Blank e = refl
+blank-is (Id n) e = absurd (true≢false e)
+blank-is (Unit n) e = absurd (true≢false e)
+blank-is (When d) e = absurd (true≢false e)
+blank-is (Amount v) e = absurd (true≢false e)
+blank-is (Count n) e = absurd (true≢false e)
+blank-is (Reason n) e = absurd (true≢false e)
+blank-is (Note n) e = absurd (true≢false e)
+blank-is (Word w) e = absurd (true≢false e)
+blank-is (Numbers x) e = absurd (true≢false e)
+blank-is (Triples n) e = absurd (true≢false e)
+blank-is (Voltage v) e = absurd (true≢false e)
+blank-is (Regulator v) e = absurd (true≢false e)
+blank-is (Change v) e = absurd (true≢false e)
+blank-is (Reactive v) e = absurd (true≢false e)
 
 -- any value but an identifier has no number
 pub number-other : (v : Value) → OneOf notId (tagOf the-type v) → 0 ≡ numberIn v

@@ -6,7 +6,7 @@ use Rattle.value_date.specs.declared.Date.{Date}
 use Rattle.value_date.specs.declared.Dated.the-variants.{Is, Bad}
 use Rattle.text.proofs.Cuts.{drop-step}
 use Rattle.text.proofs.Numerals.{taken, below, length-text}
-use Rattle.text.proofs.Runs.{Puts, puts, puts-of, then}
+use Rattle.text.proofs.Runs.{Run, puts, puts-of, then}
 use Rattle.text.proofs.Tests.{Tells, leb-tells, within-tells, _and_, and-parts, by-test, by-le, cond-le}
 use Rattle.text.specs.Bytes.{all, isDigit}
 use Rattle.text.specs.Digits.{digitsOf, digitsText}
@@ -276,8 +276,8 @@ letter-length z = refl
 pub mark-put : (l l₁ l₂ : List ℕ) (at a b k n r : ℕ) → (a ≡ at + 1) × (l₁ ≡ sets l at (b ∷ [])) → (r ≡ a + k) × (l₂ ≡ sets l₁ a (digitsText k n))
     → (r ≡ at + 1 + k) × (l₂ ≡ sets l at (b ∷ digitsText k n))
 mark-put l l₁ l₂ at a b k n r p q =
-    let x : Puts l at (b ∷ []) a l₁ = puts p in
-    let y : Puts l₁ a (digitsText k n) r l₂ = puts-of k (length-text k n) q in
+    let x : Run l at (b ∷ []) a l₁ = puts p in
+    let y : Run l₁ a (digitsText k n) r l₂ = puts-of k (length-text k n) q in
     (omega (arith, p .0, q .0), then x y .bytes)
 
 -- a blank, then a letter
@@ -285,12 +285,12 @@ pub letter-put : (l l₁ l₂ : List ℕ) (at a b r : ℕ) (z : Bool) → (a ≡
     → (r ≡ at + 2) × (l₂ ≡ sets l at (letterText z))
 unfolding letterText
 letter-put l l₁ l₂ at a b r z p e q =
-    let x : Puts l at (32 ∷ []) a l₁ = puts p in
-    let y : Puts l₁ a (b ∷ []) r l₂ = puts q in
+    let x : Run l at (32 ∷ []) a l₁ = puts p in
+    let y : Run l₁ a (b ∷ []) r l₂ = puts q in
     (omega (arith, p .0, q .0), then x y .bytes ∙ ap (λ (c : ℕ). sets l at (32 ∷ c ∷ [])) e)
 
 -- what `mark-put` gives, as a put
-marked : (l m : List ℕ) (at b k n r : ℕ) → (r ≡ at + 1 + k) × (m ≡ sets l at (b ∷ digitsText k n)) → Puts l at (b ∷ digitsText k n) r m
+marked : (l m : List ℕ) (at b k n r : ℕ) → (r ≡ at + 1 + k) × (m ≡ sets l at (b ∷ digitsText k n)) → Run l at (b ∷ digitsText k n) r m
 marked l m at b k n r p = record { place = omega (arith, p .0, length-text k n); bytes = p .1 }
 
 -- three parts
@@ -299,7 +299,7 @@ module _ (l l₁ l₂ l₃ : List ℕ) (at a b r : ℕ) (d : Date) where
       → (r ≡ b + 1 + 4) × (l₃ ≡ sets l₂ b (45 ∷ digitsText 4 (d .year))) → (r ≡ at + 10) × (l₃ ≡ sets l at (dayText d))
   unfolding dayText
   day-put p q s =
-      let x : Puts l at (digitsText 2 (d .day)) a l₁ = puts-of 2 (length-text 2 (d .day)) p in
+      let x : Run l at (digitsText 2 (d .day)) a l₁ = puts-of 2 (length-text 2 (d .day)) p in
       let y = marked l₁ l₂ a 45 2 (d .month) b q in
       let z = marked l₂ l₃ b 45 4 (d .year) r s in
       (omega (arith, p .0, q .0, s .0), then (then x y) z .bytes)
@@ -317,7 +317,7 @@ module _ (l l₁ l₂ l₃ : List ℕ) (at a b r : ℕ) (d : Date) where
       → (r ≡ at + 21) × (l₃ ≡ sets l at (dateText d))
   unfolding dateText
   date-put p q s =
-      let x : Puts l at (dayText d) a l₁ = puts-of 10 (day-length d) p in
-      let y : Puts l₁ a (timeText d) b l₂ = puts-of 9 (time-length d) q in
-      let z : Puts l₂ b (letterText (d .legal)) r l₃ = puts-of 2 (letter-length (d .legal)) s in
+      let x : Run l at (dayText d) a l₁ = puts-of 10 (day-length d) p in
+      let y : Run l₁ a (timeText d) b l₂ = puts-of 9 (time-length d) q in
+      let z : Run l₂ b (letterText (d .legal)) r l₃ = puts-of 2 (letter-length (d .legal)) s in
       (omega (arith, p .0, q .0, s .0), then (then x y) z .bytes)

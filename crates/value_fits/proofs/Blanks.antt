@@ -1,31 +1,13 @@
--- A value that is not filled is the blank, and what a kind may then hold. Assumes nothing.
+-- What a kind holds of a value that is filled, and of one that is not. Assumes nothing.
+use Rattle.value_ask.proofs.Others.{blank-is}
 use Rattle.value_ask.specs.Values.{isFilled}
 use Rattle.value_fits.specs.Fits.{fits, holds}
 use Rattle.value_name.specs.declared.MessageType.{MessageType}
 use Rattle.value.specs.Texts.{Rooms}
 use Rattle.value.specs.declared.Kind.{Kind}
 use Rattle.value.specs.declared.Value.{Value}
-use Rattle.value.specs.declared.Value.the-variants.{Blank, Id, Unit, When, Amount, Count, Reason, Note, Word, List as Numbers, Triples, Voltage, Regulator, Change, Reactive}
-use mathlib.Core.Bool.{Bool, true, false, _&&_, _||_, true≢false}
+use mathlib.Core.Bool.{Bool, true, false, _&&_, _||_}
 use mathlib.Core.Path.{_≡_, refl}
-
--- no other value is empty
-pub blank-is : (v : Value) → isFilled v ≡ false → v ≡ Blank
-blank-is Blank e = refl
-blank-is (Id n) e = absurd (true≢false e)
-blank-is (Unit n) e = absurd (true≢false e)
-blank-is (When d) e = absurd (true≢false e)
-blank-is (Amount v) e = absurd (true≢false e)
-blank-is (Count n) e = absurd (true≢false e)
-blank-is (Reason n) e = absurd (true≢false e)
-blank-is (Note n) e = absurd (true≢false e)
-blank-is (Word w) e = absurd (true≢false e)
-blank-is (Numbers x) e = absurd (true≢false e)
-blank-is (Triples n) e = absurd (true≢false e)
-blank-is (Voltage v) e = absurd (true≢false e)
-blank-is (Regulator v) e = absurd (true≢false e)
-blank-is (Change v) e = absurd (true≢false e)
-blank-is (Reactive v) e = absurd (true≢false e)
 
 -- the two halves of `holds` where the other says nothing
 alone : (b : Bool) → b ≡ ((b && true) || false)

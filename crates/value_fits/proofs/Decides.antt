@@ -1,8 +1,8 @@
 -- THE THEOREM: the test holds exactly where the kind may hold the value. Assumes nothing.
 use Prim.Native.Nat.{ℕ, _^_, _≤_}
+use Rattle.value_ask.proofs.Others.{blank-is}
 use Rattle.value_ask.specs.Values.{isFilled}
 use Rattle.value_date.specs.Date.{isReal}
-use Rattle.value_fits.proofs.Blanks.{blank-is}
 use Rattle.value_fits.proofs.ByNumber.{shapeAt, type-back, shape-is}
 use Rattle.value_fits.proofs.Gradients.{triples-tell}
 use Rattle.value_fits.proofs.Ranges.{range-tells, listed-tells}

@@ -1,6 +1,7 @@
 -- Triples in their room: what their tests tell, and the steps of a loop over the first n. Assumes nothing.
-use Prim.Native.Nat.{ℕ, _+_, _-_, _≤_, _<_}
-use Rattle.value_fits.proofs.Ranges.{range-tells, zero-tells}
+use Prim.Native.Nat.{ℕ, _-_, _≤_, _<_}
+use Rattle.value_fits.proofs.Ranges.{range-tells}
+use Rattle.text.proofs.Zeros.{zero-tells}
 use Rattle.value_fits.proofs.Unused.{unused-tells}
 use Rattle.value_fits.specs.Fits.{isRanged, isNoTriple, areTriples}
 use Rattle.value_list.specs.Forms.{TripleRange, Each, ValidGradients, noTriple}

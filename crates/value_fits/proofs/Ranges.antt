@@ -1,10 +1,11 @@
--- Numbers that can be written, and lists of up to four: what their tests tell, and that a number's bits are zero where it is. Assumes nothing.
-use Prim.Native.Nat.{ℕ, suc, _^_, _-_, _≤_}
+-- Numbers that can be written, and lists of up to four: what their tests tell. Assumes nothing.
+use Prim.Native.Nat.{ℕ, _≤_}
 use Rattle.value_fits.specs.Fits.{inRange, isSpare, areListed}
 use Rattle.value_list.specs.Forms.{InRange, ValidNumbers, numbersOf}
 use Rattle.value_list.specs.declared.Numbers.{Numbers as Few}
 use Rattle.text.proofs.Tests.{told, Tells, leb-tells, eqb-tells, itself, _and_, by-le}
-use borrow.Author.Tests.{lt-ltb, le-ltb, ne-eqb}
+use Rattle.text.proofs.Zeros.{zero-tells}
+use borrow.Author.Tests.{lt-ltb, le-ltb}
 use lib.Dec.{eqb, ltb}
 use lib.IntN.{ℤ, pos, negsuc, natAbs}
 use lib.ListN.{length, getD, take, length-take, List·getD-eq-default}
@@ -12,21 +13,9 @@ use lib.Seq.{getD-take}
 use mathlib.Core.Bool.{true, _||_}
 use mathlib.Core.List.{List, [], _∷_}
 use mathlib.Core.Path.{_≡_, refl, sym, ap, _∙_}
-use mir.Syntax.{w32}
-use mir.Val.{SFits, ofZ}
 use native.Mathlib.Omega.{arith}
 
 -- ---- one number
-
--- no bit of an `i32` is set exactly where it is zero
-pub zero-bits : (v : ℤ) → SFits w32 v → eqb (ofZ w32 v) 0 ≡ eqb (natAbs v) 0
-zero-bits (pos n) h = refl
-zero-bits (negsuc n) h =
-    ne-eqb (2 ^ 32 - suc n) 0 (λ e. omega (arith, e, h .sfits)) ∙ sym (ne-eqb (suc n) 0 (λ e. omega (arith, e)))
-
-pub zero-tells : (v : ℤ) → Tells (eqb (natAbs v) 0) (v ≡ pos 0)
-zero-tells (pos n) = told (eqb-tells n 0) (λ e. ap pos e) (λ e. ap natAbs e)
-zero-tells (negsuc n) = told (eqb-tells (suc n) 0) (λ e. absurd (omega (arith, e))) (λ e. ap natAbs e)
 
 pub range-tells : (v : ℤ) → Tells (inRange v) (InRange v)
 unfolding inRange

@@ -1,8 +1,9 @@
 -- Putting a list element by element, and how long its text is, for any element and any text of one.
 -- Assumes nothing.
 use Prim.Native.Nat.{ℕ, _+_, _-_, _*_, _≤_, _<_}
+use Rattle.text.specs.Puts.{Puts}
 use Rattle.value_list.specs.Lists.{runText, listText}
-use Rattle.text.proofs.Runs.{Puts, puts-none, then, same-puts, sets-append}
+use Rattle.text.proofs.Runs.{Run, puts-none, then, same-puts, sets-append}
 use lib.ListN.{length, getD, drop, length-append, drop-of-length-le}
 use lib.Seq.{sets, length-sets, drop-cons}
 use mathlib.Core.List.{List, [], _∷_, _++_}
@@ -42,11 +43,11 @@ module _ {A : Type 0} (text : A → List ℕ) (sep : ℕ) where
 
   -- the separator and the next
   pub next-put : {l : List A} {first : List ℕ} {at i p : ℕ} {now : List ℕ} {q p₂ : ℕ} {now₁ now₂ : List ℕ} (z a : A) → Putting l first at i p now → a ≡ getD l i z → i < length l
-      → Puts now p (sep ∷ []) q now₁ → Puts now₁ q (text a) p₂ now₂ → Putting l first at (i + 1) p₂ now₂
+      → Run now p (sep ∷ []) q now₁ → Run now₁ q (text a) p₂ now₂ → Putting l first at (i + 1) p₂ now₂
   next-put {l = l} {i = i} {p = p} {now = now} {p₂ = p₂} {now₂ = now₂} z a f ea h e₁ e₂ =
       let r = runText text sep (drop (i + 1) l) in
       let s : runText text sep (drop i l) ≡ (sep ∷ text a) ++ r = rw ea (run-step l i z h) in
-      let t : Puts now p (sep ∷ text a) p₂ now₂ = then e₁ e₂ in
+      let t : Run now p (sep ∷ text a) p₂ now₂ = then e₁ e₂ in
       let w : sets now₂ p₂ r ≡ sets now p ((sep ∷ text a) ++ r) = rw (t .bytes, t .place) (sets-append now p (sep ∷ text a) r) in
       record {
         place = omega (arith, f .place, ap length s, length-append (sep ∷ text a) r, t .place);
@@ -55,14 +56,14 @@ module _ {A : Type 0} (text : A → List ℕ) (sep : ℕ) where
 
   -- the first element, and then all others
   pub all-put : {l : List A} {first : List ℕ} {at p : ℕ} {now : List ℕ} {i p₂ : ℕ} {now₂ : List ℕ} (z a : A) → a ≡ getD l 0 z → 1 ≤ length l
-      → Puts first at (text a) p now → Putting l now p i p₂ now₂ → length l ≤ i → (p₂ ≡ at + length (listText text sep l)) × (now₂ ≡ sets first at (listText text sep l))
+      → Run first at (text a) p now → Putting l now p i p₂ now₂ → length l ≤ i → Puts first at (listText text sep l) p₂ now₂
   all-put {l = l} {p = p} {now = now} {i = i} {p₂ = p₂} {now₂ = now₂} z a ea h e f g =
       let s : runText text sep (drop i l) ≡ [] = run-end l i g in
-      let rest : Puts now p (runText text sep (drop 1 l)) p₂ now₂ =
+      let rest : Run now p (runText text sep (drop 1 l)) p₂ now₂ =
       record { place = omega (arith, f .place, ap length s); bytes = ap (sets now₂ p₂) (sym s) ∙ f .bytes } in
       same-puts (listText text sep l) (sym (rw ea (list-step l z h))) (then e rest)
 
-  pub none-put : (l : List A) (first : List ℕ) (at : ℕ) → length l ≡ 0 → (at ≡ at + length (listText text sep l)) × (first ≡ sets first at (listText text sep l))
+  pub none-put : (l : List A) (first : List ℕ) (at : ℕ) → length l ≡ 0 → Puts first at (listText text sep l) at first
   unfolding listText
   none-put [] first at e = same-puts [] refl (puts-none first at)
   none-put (a ∷ l) first at e = absurd (omega arith)

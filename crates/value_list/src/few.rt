@@ -5,10 +5,9 @@ use text::put;
 use value_number::NumberAt;
 ghost use Prim.Native.Nat.{_+_, _≤_, _<_};
 ghost use Rattle.value_list.specs.Forms.{listOf, numbersIn, numbersText, profileOf, bandsOf};
-ghost use Rattle.text.specs.Puts.{limit};
+ghost use Rattle.text.specs.Puts.{limit, Puts};
 ghost use lib.IntN.{pos};
 ghost use lib.ListN.{length, getD};
-ghost use lib.Seq.{sets};
 ghost use mathlib.Core.List.{[], _∷_};
 ghost use mathlib.Core.Path.{_≡_};
 
@@ -88,7 +87,7 @@ fn held(x: Numbers) -> usize
 // The numbers with the separator between them, put at a place.
 pub fn put(out: &mut [u8], at: usize, x: Numbers, sep: u8) -> usize
     requires { ⌜ at + 100 < limit ⌝ }
-    ensures { λ r. ⌜ (r ≡ at + length (numbersText sep x)) × (now (out .exit) ≡ sets (now (out .entry)) at (numbersText sep x)) ⌝ }
+    ensures { λ r. ⌜ Puts (now (out .entry)) at (numbersText sep x) r (now (out .exit)) ⌝ }
 {
     let n = held(x);
     if n == 0 {

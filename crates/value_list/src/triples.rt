@@ -11,9 +11,8 @@ use text::scan;
 ghost use Prim.Native.Nat.{_+_, _<_, min};
 ghost use Rattle.value_list.specs.Forms.{oneIn, noTriple, gradientsIn, tripleText, gradientsText};
 ghost use Rattle.text.specs.Bytes.{trim};
-ghost use Rattle.text.specs.Puts.{limit};
-ghost use lib.ListN.{length, replicate};
-ghost use lib.Seq.{sets};
+ghost use Rattle.text.specs.Puts.{limit, Puts};
+ghost use lib.ListN.{replicate};
 ghost use mathlib.Core.Bool.{true, false};
 ghost use mathlib.Core.Path.{_≡_};
 
@@ -80,7 +79,7 @@ pub fn read(s: &[u8]) -> GradientsRead
 
 fn put_triple(out: &mut [u8], at: usize, t: Triple) -> usize
     requires { ⌜ at + 100 < limit ⌝ }
-    ensures { λ r. ⌜ (r ≡ at + length (tripleText t)) × (now (out .exit) ≡ sets (now (out .entry)) at (tripleText t)) ⌝ }
+    ensures { λ r. ⌜ Puts (now (out .entry)) at (tripleText t) r (now (out .exit)) ⌝ }
 {
     let three = Numbers {
         count: 3,
@@ -102,7 +101,7 @@ fn at_most_16(n: usize) -> usize
 // The first n triples, put at a place.
 pub fn put(out: &mut [u8], at: usize, values: [Triple; 16], n: usize) -> usize
     requires { ⌜ at + 2000 < limit ⌝ }
-    ensures { λ r. ⌜ (r ≡ at + length (gradientsText values n)) × (now (out .exit) ≡ sets (now (out .entry)) at (gradientsText values n)) ⌝ }
+    ensures { λ r. ⌜ Puts (now (out .entry)) at (gradientsText values n) r (now (out .exit)) ⌝ }
 {
     let held = at_most_16(n);
     if held == 0 {

@@ -7,12 +7,11 @@ ghost use Prim.Native.Nat.{_+_, _-_, _^_, _≤_, _<_};
 ghost use Rattle.value_number.specs.Number.{fractionOf, joinedDigits, unsignedOf, numberOf, fractionText, decimalsText, signText, numberText, beforeAt, zeroFits, areShort};
 ghost use Rattle.value_number.specs.Parts.{ended, partEnd, partNumber, isOfNumber, partBody, withSign};
 ghost use Rattle.text.specs.Bytes.{all, is, upto, isDigit, isBlank, runOf};
-ghost use Rattle.text.specs.Puts.{limit};
+ghost use Rattle.text.specs.Puts.{limit, Puts};
 ghost use Rattle.text.specs.declared.digits.Digits.the-variants.{Are};
 ghost use lib.Dec.{eqb};
 ghost use lib.IntN.{pos, negℤ, natAbs};
 ghost use lib.ListN.{length, getD, drop};
-ghost use lib.Seq.{sets};
 ghost use mathlib.Core.Bool.{false, cond};
 ghost use mathlib.Core.List.{_∷_};
 ghost use mathlib.Core.Path.{_≡_};
@@ -247,7 +246,7 @@ fn without_zeros(f: u64) -> Decimals
 
 fn put_sign(out: &mut [u8], at: usize, v: i32) -> usize
     requires { ⌜ at + 1 < limit ⌝ }
-    ensures { λ r. ⌜ (r ≡ at + length (signText v)) × (now (out .exit) ≡ sets (now (out .entry)) at (signText v)) ⌝ }
+    ensures { λ r. ⌜ Puts (now (out .entry)) at (signText v) r (now (out .exit)) ⌝ }
 {
     if v < 0 {
         return put::put_byte(out, at, b'-');
@@ -257,7 +256,7 @@ fn put_sign(out: &mut [u8], at: usize, v: i32) -> usize
 
 fn put_decimals(out: &mut [u8], at: usize, d: Decimals) -> usize
     requires { ⌜ (at + 4 < limit) × (d .size ≤ 3) ⌝ }
-    ensures { λ r. ⌜ (r ≡ at + length (decimalsText (d .size) (d .value))) × (now (out .exit) ≡ sets (now (out .entry)) at (decimalsText (d .size) (d .value))) ⌝ }
+    ensures { λ r. ⌜ Puts (now (out .entry)) at (decimalsText (d .size) (d .value)) r (now (out .exit)) ⌝ }
 {
     let k = d.size;
     if k == 0 {
@@ -270,7 +269,7 @@ fn put_decimals(out: &mut [u8], at: usize, d: Decimals) -> usize
 // The shortest form of v thousandths, put at a place.
 pub fn put(out: &mut [u8], at: usize, v: i32) -> usize
     requires { ⌜ at + 20 < limit ⌝ }
-    ensures { λ r. ⌜ (r ≡ at + length (numberText v)) × (now (out .exit) ≡ sets (now (out .entry)) at (numberText v)) ⌝ }
+    ensures { λ r. ⌜ Puts (now (out .entry)) at (numberText v) r (now (out .exit)) ⌝ }
 {
     let m = magnitude(v);
     let d = without_zeros(m % 1000);

@@ -1,7 +1,7 @@
 -- A value's text, put by its leaf. Assumes nothing.
 use Prim.Native.Nat.{ℕ, _+_, _≤_, _<_}
 use Rattle.value_name.specs.declared.MessageType.{MessageType}
-use Rattle.text.specs.Puts.{limit}
+use Rattle.text.specs.Puts.{limit, Puts}
 use Rattle.value.specs.Texts.{Rooms, valueText}
 use Rattle.value.specs.declared.Value.{Value}
 use lib.ListN.{length, take, length-take}
@@ -12,11 +12,11 @@ use native.Mathlib.Omega.{arith}
 
 -- the value v is w, whose text a leaf has put
 pub shown : (t : MessageType) (R : Rooms) (v w : Value) (l m : List ℕ) (at r : ℕ) (text : List ℕ) → v ≡ w → text ≡ valueText t R w
-    → (r ≡ at + length text) × (m ≡ sets l at text) → (r ≡ at + length (valueText t R v)) × (m ≡ sets l at (valueText t R v))
+    → Puts l at text r m → Puts l at (valueText t R v) r m
 shown t R v w l m at r text e f p = rw (e, sym f) p
 
 -- a leaf that says its text's length as a number
-pub sized : (l m : List ℕ) (at r : ℕ) (text : List ℕ) (k : ℕ) → length text ≡ k → (r ≡ at + k) × (m ≡ sets l at text) → (r ≡ at + length text) × (m ≡ sets l at text)
+pub sized : (l m : List ℕ) (at r : ℕ) (text : List ℕ) (k : ℕ) → length text ≡ k → (r ≡ at + k) × (m ≡ sets l at text) → Puts l at text r m
 sized l m at r text k e p = rw e p
 
 -- a part of a room, which fits

@@ -13,10 +13,8 @@ use value_number;
 use value_word;
 ghost use Prim.Native.Nat.{_+_, _<_};
 ghost use Rattle.value_put.specs.Rooms.{Narrow};
-ghost use Rattle.text.specs.Puts.{limit, wroteOf, bufferOf};
+ghost use Rattle.text.specs.Puts.{limit, wroteOf, bufferOf, Puts};
 ghost use Rattle.value.specs.Texts.{rooms, valueText, isWritten};
-ghost use lib.ListN.{length};
-ghost use lib.Seq.{sets};
 ghost use mathlib.Core.Path.{_≡_};
 
 // The text of a value, put at a place; the bytes of texts and the triples come from their rooms, which are a record's or parts of a file.
@@ -31,8 +29,7 @@ pub fn put_value(
     gradients: [Triple; 16],
 ) -> usize
     requires { ⌜ (at + 2000 < limit) × Narrow (now unit) (now reason) (now note) ⌝ }
-    ensures { λ r. ⌜ (r ≡ at + length (valueText t (rooms (now (unit .entry)) (now (reason .entry)) (now (note .entry)) gradients) v))
-        × (now (out .exit) ≡ sets (now (out .entry)) at (valueText t (rooms (now (unit .entry)) (now (reason .entry)) (now (note .entry)) gradients) v)) ⌝ }
+    ensures { λ r. ⌜ Puts (now (out .entry)) at (valueText t (rooms (now (unit .entry)) (now (reason .entry)) (now (note .entry)) gradients) v) r (now (out .exit)) ⌝ }
 {
     match v {
         Value::Blank => at,

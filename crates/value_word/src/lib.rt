@@ -4,11 +4,10 @@ pub mod names;
 use text::put;
 use text::scan;
 use text::words;
-ghost use Prim.Native.Nat.{_+_, _-_, _≤_, _<_};
-ghost use Rattle.text.specs.Puts.{limit};
+ghost use Prim.Native.Nat.{_+_, _-_, _<_};
+ghost use Rattle.text.specs.Puts.{limit, Puts};
 ghost use Rattle.value_word.specs.Words.{commandWords, modeWords, settingWords, word, wordIn, roomSpelling, spellingOf};
-ghost use lib.ListN.{length, getD};
-ghost use lib.Seq.{sets};
+ghost use lib.ListN.{getD};
 ghost use mathlib.Core.List.{[]};
 ghost use mathlib.Core.Path.{_≡_};
 
@@ -139,7 +138,7 @@ pub fn read(first: u8, last: u8, s: &[u8]) -> Word
 // The word w, put at a place.
 pub fn put(out: &mut [u8], at: usize, w: u8) -> usize
     requires { ⌜ at + 20 < limit ⌝ }
-    ensures { λ r. ⌜ (r ≡ at + length (word w)) × (now (out .exit) ≡ sets (now (out .entry)) at (word w)) ⌝ }
+    ensures { λ r. ⌜ Puts (now (out .entry)) at (word w) r (now (out .exit)) ⌝ }
 {
     let m = spell(w);
     let mut text = [0u8; 24];

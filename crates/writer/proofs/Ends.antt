@@ -2,7 +2,7 @@
 use Prim.Native.Nat.{ℕ, _+_, _-_, _≤_, _<_}
 use Rattle.record.specs.declared.Record.{Record}
 use Rattle.text.proofs.Runs.{none-put}
-use Rattle.text.specs.Puts.{bufferOf}
+use Rattle.text.specs.Puts.{bufferOf, Puts}
 use Rattle.record_check.specs.Validity.{isValid}
 use Rattle.writer.specs.Writer.{fitted, writeOf, leftBy}
 use Rattle.writer.specs.declared.Written.{Written}
@@ -22,14 +22,14 @@ module _ (t out : List ℕ) where
   abbrev pub Put : Written → List ℕ → Type 0
   Put w m = (w ≡ fitted t (length out)) × (m ≡ bufferOf out 0 t)
 
-  pub put-end : (n : ℕ) (m : List ℕ) → (n ≡ 0 + length t) × (m ≡ sets out 0 t) → length t ≤ length out → Put (Length n) m
+  pub put-end : (n : ℕ) (m : List ℕ) → Puts out 0 t n m → length t ≤ length out → Put (Length n) m
   unfolding fitted bufferOf
   put-end n m p h =
       let z : 0 + length t ≤ length out = omega arith in
       rw (le-leb (length t) (length out) h, le-leb (0 + length t) (length out) z) (ap Length (omega (arith, p .0)), p .1 ∙ sets-eq t out 0 z)
 
   -- the length was asked on an empty part, which came back as it was
-  module _ (n : ℕ) (m : List ℕ) (first : (n ≡ 0 + length t) × (m ≡ sets [] 0 t)) where
+  module _ (n : ℕ) (m : List ℕ) (first : Puts [] 0 t n m) where
     part-back : m ++ out ≡ out
     part-back = rw (first .1, none-put 0 t)
 
@@ -49,7 +49,7 @@ module _ (t out : List ℕ) where
         let o : length (take (length t) out) ≤ 0 + length t = omega (arith, k) in
         sets-eq t (take (length t) out) 0 z ∙ rw (drop-of-length-le (take (length t) out) o) (append-nil t)
 
-    pub roomy-end : n ≤ length out → (k : ℕ) (m₂ : List ℕ) → (k ≡ 0 + length t) × (m₂ ≡ sets (take (n - 0) (m ++ out)) 0 t) → Put (Length k) (m₂ ++ drop (n - 0) (m ++ out))
+    pub roomy-end : n ≤ length out → (k : ℕ) (m₂ : List ℕ) → Puts (take (n - 0) (m ++ out)) 0 t k m₂ → Put (Length k) (m₂ ++ drop (n - 0) (m ++ out))
     unfolding fitted bufferOf
     roomy-end h k m₂ p =
         let e = part-back in

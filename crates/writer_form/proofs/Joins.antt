@@ -4,14 +4,10 @@ use Prim.Native.Nat.{ℕ, zero, suc, _+_, _*_, _≤_, _<_}
 use Rattle.layout.specs.Rows.{tailText, rowText}
 use Rattle.writer_form.specs.Written.{linesText}
 use lib.ListN.{length, getD, take, drop, length-append, take-append-drop}
-use lib.Seq.{sets, take-suc}
+use lib.Seq.{take-suc}
 use mathlib.Core.List.{List, [], _∷_, _++_, append-nil, append-assoc}
 use mathlib.Core.Path.{_≡_, refl, sym, ap, _∙_}
 use native.Mathlib.Omega.{arith}
-
--- what a contract says of a text that was put
-abbrev pub Was : List ℕ → ℕ → List ℕ → ℕ → List ℕ → Type 0
-Was l at t r m = (r ≡ at + length t) × (m ≡ sets l at t)
 
 module _ (text : List (List ℕ) → List ℕ) (none : text [] ≡ []) (more : (x : List ℕ) (xs : List (List ℕ)) → text (x ∷ xs) ≡ text (x ∷ []) ++ text xs) where
   join : (xs ys : List (List ℕ)) → text (xs ++ ys) ≡ text xs ++ text ys

@@ -1,5 +1,6 @@
 -- A parameter line is put as its label, the `=`, what stands after it, and its end; the lines are put one after another. Assumes nothing.
 use Prim.Native.Nat.{ℕ, zero, suc, _+_, _-_, _≤_, _<_}
+use Rattle.text.specs.Puts.{Puts}
 use Rattle.value_ask.specs.Values.{isFilled}
 use Rattle.layout_label.specs.Labels.{padded}
 use Rattle.layout.proofs.Labels.{few, labels-length, label-at, good-label}
@@ -9,12 +10,12 @@ use Rattle.layout.specs.declared.Layout.{Layout}
 use Rattle.value_name.specs.declared.MessageType.{MessageType}
 use Rattle.record.specs.Records.{cell, fieldOf}
 use Rattle.record.specs.declared.Cell.{Cell}
-use Rattle.text.proofs.Runs.{Puts, puts, puts-of, puts-none, then, same-puts}
+use Rattle.text.proofs.Runs.{Run, puts, puts-of, puts-none, then, same-puts}
 use Rattle.value.specs.Texts.{Rooms, valueText}
 use Rattle.value.specs.declared.Value.{Value}
 use Rattle.value.specs.declared.Value.the-variants.{Blank}
 use Rattle.writer_form.proofs.Columns.{columnOf, blank-text, column-length, text-at, field-short}
-use Rattle.writer_form.proofs.Joins.{Was, one-line-more, lines-short, first-lines}
+use Rattle.writer_form.proofs.Joins.{one-line-more, lines-short, first-lines}
 use Rattle.writer_form.specs.Held.{Spoken, Held}
 use Rattle.writer_form.specs.Written.{linesText, afterEquals, paramLine, paramLines}
 use lib.ListN.{length, getD, take, replicate, length-append, length-replicate}
@@ -39,21 +40,21 @@ after-short (b ∷ s) = omega arith
 
 -- a text that is not empty, after a space; and none
 pub put-said : (s : List ℕ) → 1 ≤ length s → (l : List ℕ) (at a : ℕ) (l₁ : List ℕ) (b : ℕ) (m : List ℕ)
-    → (a ≡ at + 1) × (l₁ ≡ sets l at (32 ∷ [])) → Was l₁ a s b m → Was l at (afterEquals s) b m
+    → (a ≡ at + 1) × (l₁ ≡ sets l at (32 ∷ [])) → Puts l₁ a s b m → Puts l at (afterEquals s) b m
 put-said s h l at a l₁ b m p q = same-puts (afterEquals s) (after-is s h) (then (puts-of {t = 32 ∷ []} 1 refl p) (puts {t = s} q))
 
-pub put-empty : (s : List ℕ) → length s ≡ 0 → (l : List ℕ) (at : ℕ) → Was l at (afterEquals s) at l
+pub put-empty : (s : List ℕ) → length s ≡ 0 → (l : List ℕ) (at : ℕ) → Puts l at (afterEquals s) at l
 unfolding afterEquals
 put-empty [] h l at = same-puts [] refl (puts-none l at)
 put-empty (b ∷ s) h l at = absurd (omega (arith, h))
 
 module _ (t : MessageType) (r : Rooms) (v : Value) (l : List ℕ) (at : ℕ) where
-  pub put-none : isFilled v ≡ false → Was l at (afterEquals (valueText t r v)) at l
+  pub put-none : isFilled v ≡ false → Puts l at (afterEquals (valueText t r v)) at l
   unfolding afterEquals
   put-none e = same-puts (afterEquals (valueText t r v)) (sym (ap afterEquals (blank-text t r v e))) (puts-none l at)
 
   pub put-some : Spoken t r v → isFilled v ≡ true → (a : ℕ) (l₁ : List ℕ) (b : ℕ) (m : List ℕ)
-      → (a ≡ at + 1) × (l₁ ≡ sets l at (32 ∷ [])) → Was l₁ a (valueText t r v) b m → Was l at (afterEquals (valueText t r v)) b m
+      → (a ≡ at + 1) × (l₁ ≡ sets l at (32 ∷ [])) → Puts l₁ a (valueText t r v) b m → Puts l at (afterEquals (valueText t r v)) b m
   put-some s e a l₁ b m p q = put-said (valueText t r v) (s .speaks e) l at a l₁ b m p q
 
 -- ---- a line
@@ -66,7 +67,7 @@ padded-length name h = omega (arith, length-append name (replicate (36 - length 
 module _ (name s w : List ℕ) (short : length name ≤ 36) (same : s ≡ w)
     (l : List ℕ) (at a : ℕ) (l₁ : List ℕ) (b : ℕ) (l₂ : List ℕ) (c : ℕ) (l₃ : List ℕ) (r : ℕ) (m : List ℕ) where
   pub line-put : (text : List ℕ) → (a ≡ at + 36) × (l₁ ≡ sets l at text) → text ≡ padded name → (b ≡ a + 1) × (l₂ ≡ sets l₁ a (61 ∷ []))
-      → Was l₂ b (afterEquals s) c l₃ → (r ≡ c + 1) × (m ≡ sets l₃ c (10 ∷ [])) → Was l at (linesText (paramLine name w ∷ [])) r m
+      → Puts l₂ b (afterEquals s) c l₃ → (r ≡ c + 1) × (m ≡ sets l₃ c (10 ∷ [])) → Puts l at (linesText (paramLine name w ∷ [])) r m
   unfolding linesText paramLine
   line-put text p is q u z =
       let eq : padded name ++ (61 ∷ []) ++ afterEquals s ++ (10 ∷ []) ≡ padded name ++ (61 ∷ afterEquals w) ++ (10 ∷ []) =
@@ -142,7 +143,7 @@ all-lines-short l r cells held g =
 -- the first k lines are put
 pub record Sofar (l : Layout) (col : List (List ℕ)) (out : List ℕ) (at k p : ℕ) (m : List ℕ) : Type 0 where
   pub near : k ≤ sizeOf l
-  pub done : Puts out at (linesText (take k (linesWith l col))) p m
+  pub done : Run out at (linesText (take k (linesWith l col))) p m
 
 module _ (l : Layout) (col : List (List ℕ)) (out : List ℕ) (at : ℕ) where
   pub start : Sofar l col out at 0 at out
@@ -157,7 +158,7 @@ module _ (l : Layout) (col : List (List ℕ)) (out : List ℕ) (at : ℕ) where
     place-low n h = omega (arith, s .done .place, first-lines (linesWith l col) k)
 
     pub turn : k < sizeOf l → (text : List ℕ) → textAt col (suc k) ≡ text → (q : ℕ) (m′ : List ℕ)
-        → Was m p (linesText (paramLine (labelAt l (k + 1)) text ∷ [])) q m′
+        → Puts m p (linesText (paramLine (labelAt l (k + 1)) text ∷ [])) q m′
         → Sofar l col out at (k + 1) q m′
     turn h text is q m′ w =
         let line = paramLine (labelAt l (suc k)) text in
@@ -173,7 +174,7 @@ module _ (l : Layout) (col : List (List ℕ)) (out : List ℕ) (at : ℕ) where
               (then (s .done) (puts {t = linesText (line ∷ [])} (rw add-one at w))));
         }
 
-    pub finish : sizeOf l ≤ k → Was out at (linesText (linesWith l col)) p m
+    pub finish : sizeOf l ≤ k → Puts out at (linesText (linesWith l col)) p m
     finish h = same-puts (linesText (linesWith l col)) (ap linesText (take-all k (linesWith l col) (omega (arith, lines-count l col full)))) (s .done)
 
 -- with the texts of a record's values

@@ -9,14 +9,12 @@ use value_name::MessageType;
 ghost use Prim.Native.Nat.{_+_, _≤_, _<_};
 ghost use Rattle.layout.specs.Layouts.{labelAt, labelsOf, sizeOf, typeOf};
 ghost use Rattle.text_lines.specs.Places.{Placed, columnIn};
-ghost use Rattle.text.specs.Puts.{limit};
+ghost use Rattle.text.specs.Puts.{limit, Puts};
 ghost use Rattle.value.specs.Texts.{rooms, valueText};
 ghost use Rattle.writer_form.specs.Held.{Spoken, Held};
 ghost use Rattle.writer_form.specs.Written.{linesText, afterEquals, paramLine, paramLines, valuesIn};
 ghost use lib.ListN.{length};
-ghost use lib.Seq.{sets};
 ghost use mathlib.Core.List.{[], _∷_, map};
-ghost use mathlib.Core.Path.{_≡_};
 
 // What stands after `=`: unless the value is blank, a space and the value.
 fn put_after(
@@ -30,8 +28,7 @@ fn put_after(
     gradients: [Triple; 16],
 ) -> usize
     requires { ⌜ (at + 2500 < limit) × Spoken t (rooms (now unit) (now reason) (now note) gradients) v ⌝ }
-    ensures { λ r. ⌜ (r ≡ at + length (afterEquals (valueText t (rooms (now (unit .entry)) (now (reason .entry)) (now (note .entry)) gradients) v)))
-        × (now (out .exit) ≡ sets (now (out .entry)) at (afterEquals (valueText t (rooms (now (unit .entry)) (now (reason .entry)) (now (note .entry)) gradients) v))) ⌝ }
+    ensures { λ r. ⌜ Puts (now (out .entry)) at (afterEquals (valueText t (rooms (now (unit .entry)) (now (reason .entry)) (now (note .entry)) gradients) v)) r (now (out .exit)) ⌝ }
 {
     if !value_ask::is_filled(v) {
         return at;
@@ -53,8 +50,7 @@ fn put_line(
     gradients: [Triple; 16],
 ) -> usize
     requires { ⌜ (at + 3000 < limit) × (1 ≤ k) × (k ≤ sizeOf l) × Spoken (typeOf l) (rooms (now unit) (now reason) (now note) gradients) v ⌝ }
-    ensures { λ r. ⌜ (r ≡ at + length (linesText (paramLine (labelAt l k) (valueText (typeOf l) (rooms (now (unit .entry)) (now (reason .entry)) (now (note .entry)) gradients) v) ∷ [])))
-        × (now (out .exit) ≡ sets (now (out .entry)) at (linesText (paramLine (labelAt l k) (valueText (typeOf l) (rooms (now (unit .entry)) (now (reason .entry)) (now (note .entry)) gradients) v) ∷ []))) ⌝ }
+    ensures { λ r. ⌜ Puts (now (out .entry)) at (linesText (paramLine (labelAt l k) (valueText (typeOf l) (rooms (now (unit .entry)) (now (reason .entry)) (now (note .entry)) gradients) v) ∷ [])) r (now (out .exit)) ⌝ }
 {
     let padded = layout_label::put(out, at, layout_label::of_field(l, k));
     let equals = put::put_byte(out, padded, b'=');
@@ -83,8 +79,7 @@ pub fn put_lines(
     gradients: [Triple; 16],
 ) -> usize
     requires { ⌜ (at + 90000 < limit) × Held l (rooms (now unit) (now reason) (now note) gradients) cells ⌝ }
-    ensures { λ r. ⌜ (r ≡ at + length (linesText (paramLines (labelsOf l) (map (valueText (typeOf l) (rooms (now (unit .entry)) (now (reason .entry)) (now (note .entry)) gradients)) (valuesIn l cells)))))
-        × (now (out .exit) ≡ sets (now (out .entry)) at (linesText (paramLines (labelsOf l) (map (valueText (typeOf l) (rooms (now (unit .entry)) (now (reason .entry)) (now (note .entry)) gradients)) (valuesIn l cells))))) ⌝ }
+    ensures { λ r. ⌜ Puts (now (out .entry)) at (linesText (paramLines (labelsOf l) (map (valueText (typeOf l) (rooms (now (unit .entry)) (now (reason .entry)) (now (note .entry)) gradients)) (valuesIn l cells)))) r (now (out .exit)) ⌝ }
 {
     let size = layout::size(l);
     let mut p = at;
@@ -101,8 +96,7 @@ pub fn put_lines(
 // The line of the field k with the text of its value, and its end.
 fn put_text_line(out: &mut [u8], at: usize, l: Layout, k: usize, text: &[u8]) -> usize
     requires { ⌜ (at + 9000 < limit) × (1 ≤ k) × (k ≤ sizeOf l) × (length (now text) ≤ 8192) ⌝ }
-    ensures { λ r. ⌜ (r ≡ at + length (linesText (paramLine (labelAt l k) (now (text .entry)) ∷ [])))
-        × (now (out .exit) ≡ sets (now (out .entry)) at (linesText (paramLine (labelAt l k) (now (text .entry)) ∷ []))) ⌝ }
+    ensures { λ r. ⌜ Puts (now (out .entry)) at (linesText (paramLine (labelAt l k) (now (text .entry)) ∷ [])) r (now (out .exit)) ⌝ }
 {
     let named = layout_label::put(out, at, layout_label::of_field(l, k));
     let equals = put::put_byte(out, named, b'=');
@@ -123,8 +117,7 @@ pub fn put_text_lines(
     places: [Span; 27],
 ) -> usize
     requires { ⌜ (at + 300000 < limit) × Placed (sizeOf l) (now file) places × (length (now file) ≤ 8192) ⌝ }
-    ensures { λ r. ⌜ (r ≡ at + length (linesText (paramLines (labelsOf l) (columnIn (sizeOf l) (now (file .entry)) places))))
-        × (now (out .exit) ≡ sets (now (out .entry)) at (linesText (paramLines (labelsOf l) (columnIn (sizeOf l) (now (file .entry)) places)))) ⌝ }
+    ensures { λ r. ⌜ Puts (now (out .entry)) at (linesText (paramLines (labelsOf l) (columnIn (sizeOf l) (now (file .entry)) places))) r (now (out .exit)) ⌝ }
 {
     let size = layout::size(l);
     let mut p = at;

@@ -1,5 +1,6 @@
 -- A message is put as its banner, an empty line, its parameter lines, and its row between separators. Assumes nothing.
 use Prim.Native.Nat.{ℕ, _+_, _≤_}
+use Rattle.text.specs.Puts.{Puts}
 use Rattle.writer_lines.proofs.Lines.{linesWith, linesOf}
 use Rattle.layout.specs.Banners.{bannerOf}
 use Rattle.layout.specs.Rows.{rowOf}
@@ -12,7 +13,6 @@ use Rattle.text.proofs.Cuts.{length-part}
 use Rattle.text.proofs.Runs.{puts, puts-of, then, same-puts}
 use Rattle.value.specs.Texts.{Rooms}
 use Rattle.writer_form.proofs.Columns.{columnOf}
-use Rattle.writer_form.proofs.Joins.{Was}
 use Rattle.writer_form.specs.Written.{linesText, plusLine, block, writtenOf, messageText}
 use borrow.Author.Tests.{leb-true}
 use lib.ListN.{length}
@@ -49,12 +49,12 @@ belowRow = 10 ∷ aboveRow
 -- a column of texts
 module _ (l : Layout) (col : List (List ℕ)) (out : List ℕ) (at a : ℕ) (l₁ : List ℕ) (b : ℕ) (l₂ : List ℕ)
     (c : ℕ) (l₃ : List ℕ) (d : ℕ) (l₄ : List ℕ) (e : ℕ) (l₅ : List ℕ) (q : ℕ) (m : List ℕ) where
-  pub written-put : Was out at (bannerOf l) a l₁ → (b ≡ a + 1) × (l₂ ≡ sets l₁ a (10 ∷ []))
-      → Was l₂ b (linesText (linesWith l col)) c l₃ → Was l₃ c aboveRow d l₄
-      → (row : List ℕ) → row ≡ rowOf l col → Was l₄ d row e l₅ → Was l₅ e belowRow q m → Was out at (writtenOf l col) q m
+  pub written-put : Puts out at (bannerOf l) a l₁ → (b ≡ a + 1) × (l₂ ≡ sets l₁ a (10 ∷ []))
+      → Puts l₂ b (linesText (linesWith l col)) c l₃ → Puts l₃ c aboveRow d l₄
+      → (row : List ℕ) → row ≡ rowOf l col → Puts l₄ d row e l₅ → Puts l₅ e belowRow q m → Puts out at (writtenOf l col) q m
   unfolding writtenOf linesText block
   written-put banner empty lines above row is put below =
-      let own : Was l₄ d (rowOf l col) e l₅ = subst (λ (x : List ℕ). Was l₄ d x e l₅) is put in
+      let own : Puts l₄ d (rowOf l col) e l₅ = subst (λ (x : List ℕ). Puts l₄ d x e l₅) is put in
       same-puts (writtenOf l col) refl
       (then (puts {t = bannerOf l} banner)
       (then (then (puts-of {t = 10 ∷ []} 1 refl empty) (puts {t = linesText (linesWith l col)} lines))
@@ -63,9 +63,9 @@ module _ (l : Layout) (col : List (List ℕ)) (out : List ℕ) (at a : ℕ) (l�
 -- the texts of a record's values
 module _ (l : Layout) (r : Rooms) (cells : List Cell) (out : List ℕ) (at a : ℕ) (l₁ : List ℕ) (b : ℕ) (l₂ : List ℕ)
     (c : ℕ) (l₃ : List ℕ) (d : ℕ) (l₄ : List ℕ) (e : ℕ) (l₅ : List ℕ) (q : ℕ) (m : List ℕ) where
-  pub message-put : Was out at (bannerOf l) a l₁ → (b ≡ a + 1) × (l₂ ≡ sets l₁ a (10 ∷ []))
-      → Was l₂ b (linesText (linesOf l r cells)) c l₃ → Was l₃ c aboveRow d l₄
-      → Was l₄ d (rowOf l (columnOf l r cells)) e l₅ → Was l₅ e belowRow q m → Was out at (messageText l r cells) q m
+  pub message-put : Puts out at (bannerOf l) a l₁ → (b ≡ a + 1) × (l₂ ≡ sets l₁ a (10 ∷ []))
+      → Puts l₂ b (linesText (linesOf l r cells)) c l₃ → Puts l₃ c aboveRow d l₄
+      → Puts l₄ d (rowOf l (columnOf l r cells)) e l₅ → Puts l₅ e belowRow q m → Puts out at (messageText l r cells) q m
   unfolding messageText
   message-put banner empty lines above row below =
       written-put l (columnOf l r cells) out at a l₁ b l₂ c l₃ d l₄ e l₅ q m banner empty lines above (rowOf l (columnOf l r cells)) refl row below

@@ -8,13 +8,11 @@ ghost use Prim.Native.Nat.{_+_, _≤_, _<_};
 ghost use Rattle.layout.specs.Layouts.{sizeOf};
 ghost use Rattle.layout.specs.Rows.{rowOf};
 ghost use Rattle.text_lines.specs.Places.{HoldsText, Placed, columnIn};
-ghost use Rattle.text.specs.Puts.{limit};
+ghost use Rattle.text.specs.Puts.{limit, Puts};
 ghost use Rattle.value.specs.Texts.{rooms};
 ghost use Rattle.writer_form.specs.Held.{Held};
 ghost use Rattle.writer_form.specs.Written.{writtenOf, messageText};
 ghost use lib.ListN.{length};
-ghost use lib.Seq.{sets};
-ghost use mathlib.Core.Path.{_≡_};
 
 // A message of a layout: banner, an empty line, its parameter lines, and its row between separators.
 pub fn put_message(
@@ -28,8 +26,7 @@ pub fn put_message(
     gradients: [Triple; 16],
 ) -> usize
     requires { ⌜ (at + 200000 < limit) × Held l (rooms (now unit) (now reason) (now note) gradients) cells ⌝ }
-    ensures { λ r. ⌜ (r ≡ at + length (messageText l (rooms (now (unit .entry)) (now (reason .entry)) (now (note .entry)) gradients) cells))
-        × (now (out .exit) ≡ sets (now (out .entry)) at (messageText l (rooms (now (unit .entry)) (now (reason .entry)) (now (note .entry)) gradients) cells)) ⌝ }
+    ensures { λ r. ⌜ Puts (now (out .entry)) at (messageText l (rooms (now (unit .entry)) (now (reason .entry)) (now (note .entry)) gradients) cells) r (now (out .exit)) ⌝ }
 {
     let head = layout_banner::put(out, at, l);
     let body = put::put_byte(out, head, b'\n');
@@ -50,8 +47,7 @@ pub fn put_copied(
 ) -> usize
     requires { ⌜ (at + 400000 < limit) × Placed (sizeOf l) (now file) places × (length (now file) ≤ 8192)
         × HoldsText (now file) row (rowOf l (columnIn (sizeOf l) (now file) places)) ⌝ }
-    ensures { λ r. ⌜ (r ≡ at + length (writtenOf l (columnIn (sizeOf l) (now (file .entry)) places)))
-        × (now (out .exit) ≡ sets (now (out .entry)) at (writtenOf l (columnIn (sizeOf l) (now (file .entry)) places))) ⌝ }
+    ensures { λ r. ⌜ Puts (now (out .entry)) at (writtenOf l (columnIn (sizeOf l) (now (file .entry)) places)) r (now (out .exit)) ⌝ }
 {
     let head = layout_banner::put(out, at, l);
     let body = put::put_byte(out, head, b'\n');

@@ -1,5 +1,6 @@
 -- The row is put as its first value, then each other one after its `;`, and the half-bands of SR after them. Assumes nothing.
 use Prim.Native.Nat.{ℕ, suc, _+_, _≤_, _<_}
+use Rattle.text.specs.Puts.{Puts}
 use Rattle.value_ask.specs.Values.{isFilled}
 use Rattle.layout.proofs.Layout.{the-type}
 use Rattle.layout.proofs.Rows.{first-field, row-few, row-some, row-fields, row-cut}
@@ -14,12 +15,12 @@ use Rattle.record.specs.Records.{fieldOf}
 use Rattle.record.specs.declared.Cell.{Cell}
 use Rattle.value_put.proofs.Sizes.{text-short}
 use Rattle.writer_row.proofs.Halves.{halved, blank-halves}
-use Rattle.text.proofs.Runs.{Puts, puts, puts-of, puts-none, then, same-puts}
+use Rattle.text.proofs.Runs.{Run, puts, puts-of, puts-none, then, same-puts}
 use Rattle.text.proofs.Tests.{by-test}
 use Rattle.value.specs.Texts.{Rooms, valueText}
 use Rattle.value.specs.declared.Value.{Value}
 use Rattle.writer_form.proofs.Columns.{columnOf, text-at, field-short}
-use Rattle.writer_form.proofs.Joins.{Was, row-first, no-value-more, one-value-more, row-short, first-values}
+use Rattle.writer_form.proofs.Joins.{row-first, no-value-more, one-value-more, row-short, first-values}
 use Rattle.writer_form.specs.Held.{Held, Halved}
 use borrow.Author.Tests.{leb-true}
 use denote.Enum.Declared.{tagOf}
@@ -68,7 +69,7 @@ module _ (l : Layout) (r : Rooms) (cells : List Cell) where
 pub record Sofar (l : Layout) (r : Rooms) (cells : List Cell) (out : List ℕ) (at i p : ℕ) (m : List ℕ) : Type 0 where
   pub some : 1 ≤ i
   pub near : i ≤ length (rowFields l)
-  pub done : Puts out at (tailText (drop 1 (take i (textsOf l r cells)))) p m
+  pub done : Run out at (tailText (drop 1 (take i (textsOf l r cells)))) p m
 
 module _ (l : Layout) (r : Rooms) (cells : List Cell) (out : List ℕ) (at : ℕ) where
   pub start : Sofar l r cells out at 1 at out
@@ -92,7 +93,7 @@ module _ (l : Layout) (r : Rooms) (cells : List Cell) (out : List ℕ) (at : ℕ
           ∙ ap (valueText (typeOf l) r) z
           ∙ sym (append-nil (getD (textsOf l r cells) i []) ∙ value-text l r cells i k h f))
 
-      pub turn : (a : ℕ) (l₁ : List ℕ) (q : ℕ) (m′ : List ℕ) → (a ≡ p + 1) × (l₁ ≡ sets m p (59 ∷ [])) → Was l₁ a (valueText t r v) q m′ → Sofar l r cells out at (i + 1) q m′
+      pub turn : (a : ℕ) (l₁ : List ℕ) (q : ℕ) (m′ : List ℕ) → (a ≡ p + 1) × (l₁ ≡ sets m p (59 ∷ [])) → Puts l₁ a (valueText t r v) q m′ → Sofar l r cells out at (i + 1) q m′
       turn a l₁ q m′ mark w =
           let done = tailText (drop 1 (take i (textsOf l r cells))) in
           let more = tailText (drop 1 (take (suc i) (textsOf l r cells))) in
@@ -108,7 +109,7 @@ module _ (l : Layout) (r : Rooms) (cells : List Cell) (out : List ℕ) (at : ℕ
 
 -- with the first value
 module _ (l : Layout) (r : Rooms) (cells : List Cell) (out : List ℕ) (at : ℕ) (t : MessageType) (is-type : t ≡ typeOf l) (v : Value) (z : v ≡ fieldOf cells 1)
-    (a : ℕ) (l₁ : List ℕ) (w : Was out at (valueText t r v) a l₁) (i p : ℕ) (m : List ℕ) (s : Sofar l r cells l₁ a i p m) where
+    (a : ℕ) (l₁ : List ℕ) (w : Puts out at (valueText t r v) a l₁) (i p : ℕ) (m : List ℕ) (s : Sofar l r cells l₁ a i p m) where
   first-text : valueText t r v ≡ getD (textsOf l r cells) 0 []
   first-text =
       ap (λ (x : MessageType). valueText x r v) is-type
@@ -126,7 +127,7 @@ module _ (l : Layout) (r : Rooms) (cells : List Cell) (out : List ℕ) (at : ℕ
         fields-short l r cells held g,
       )
 
-  pub finish : length (rowFields l) ≤ i → Was out at (rowText (textsOf l r cells)) p m
+  pub finish : length (rowFields l) ≤ i → Puts out at (rowText (textsOf l r cells)) p m
   finish h =
       let rest = tailText (drop 1 (take i (textsOf l r cells))) in
       let e : valueText t r v ++ rest ≡ rowText (textsOf l r cells) =
@@ -138,11 +139,11 @@ module _ (l : Layout) (r : Rooms) (cells : List Cell) (out : List ℕ) (at : ℕ
 -- ---- the half-bands, put
 
 module _ (t : MessageType) (r : Rooms) (v : Value) (l : List ℕ) (at a : ℕ) (l₁ : List ℕ) (b : ℕ) (m : List ℕ) (mark : (a ≡ at + 1) × (l₁ ≡ sets l at (59 ∷ []))) where
-  pub put-no-halves : isFilled v ≡ false → (b ≡ a + 1) × (m ≡ sets l₁ a (59 ∷ [])) → Was l at (tailText (halves (valueText t r v))) b m
+  pub put-no-halves : isFilled v ≡ false → (b ≡ a + 1) × (m ≡ sets l₁ a (59 ∷ [])) → Puts l at (tailText (halves (valueText t r v))) b m
   put-no-halves e w =
       same-puts (tailText (halves (valueText t r v))) (blank-halves t r v e) (then (puts-of {t = 59 ∷ []} 1 refl mark) (puts-of {t = 59 ∷ []} 1 refl w))
 
-  pub put-two-halves : Halved t r v → isFilled v ≡ true → Was l₁ a (valueText t r v) b m → Was l at (tailText (halves (valueText t r v))) b m
+  pub put-two-halves : Halved t r v → isFilled v ≡ true → Puts l₁ a (valueText t r v) b m → Puts l at (tailText (halves (valueText t r v))) b m
   put-two-halves s e w =
       same-puts (tailText (halves (valueText t r v))) (sym (s .halves-are e)) (then (puts-of {t = 59 ∷ []} 1 refl mark) (puts {t = valueText t r v} w))
 
@@ -166,8 +167,8 @@ unfolding fieldsOf command technical sr
 six-text r cells = text-at Secondary r cells 6 (lit≤ tt) (leb-true 6 (sizeOf Secondary) refl)
 
 module _ (l : Layout) (r : Rooms) (cells : List Cell) (out : List ℕ) (at : ℕ) where
-  pub plain-row : OneOf (0 ∷ 1 ∷ 2 ∷ 3 ∷ 4 ∷ 5 ∷ 7 ∷ 8 ∷ 9 ∷ []) (tagOf the-type l) → (p : ℕ) (m : List ℕ) → Was out at (rowText (textsOf l r cells)) p m
-      → Was out at (rowOf l (columnOf l r cells)) p m
+  pub plain-row : OneOf (0 ∷ 1 ∷ 2 ∷ 3 ∷ 4 ∷ 5 ∷ 7 ∷ 8 ∷ 9 ∷ []) (tagOf the-type l) → (p : ℕ) (m : List ℕ) → Puts out at (rowText (textsOf l r cells)) p m
+      → Puts out at (rowOf l (columnOf l r cells)) p m
   unfolding tailText
   plain-row o p m w =
       let fields = rowText (textsOf l r cells) in
@@ -180,7 +181,7 @@ module _ (l : Layout) (s : l ≡ Secondary) (r : Rooms) (cells : List Cell) (v :
   six-halved held = rw z (halved r cells (rw s at held))
 
   pub banded-row : (out : List ℕ) (at a : ℕ) (l₁ : List ℕ) (b : ℕ) (m : List ℕ)
-      → Was out at (rowText (textsOf l r cells)) a l₁ → Was l₁ a (tailText (halves (valueText Sr r v))) b m → Was out at (rowOf l (columnOf l r cells)) b m
+      → Puts out at (rowText (textsOf l r cells)) a l₁ → Puts l₁ a (tailText (halves (valueText Sr r v))) b m → Puts out at (rowOf l (columnOf l r cells)) b m
   banded-row out at a l₁ b m w u =
       let fields = rowText (textsOf l r cells) in
       let bands = tailText (halves (valueText Sr r v)) in

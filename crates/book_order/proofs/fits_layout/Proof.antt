@@ -1,8 +1,8 @@
 -- By the layout: each of the two test by test as the definition says, and every other.
 use Rattle.book_order.proofs.Others.{fits-other}
-use Rattle.book_order.proofs.Zeros.{zero-bits}
 use Rattle.book_order.proofs.fits_layout.Statement.{statement}
 use Rattle.book_order.proofs.fits_layout.Tie as tie
+use Rattle.text.proofs.Zeros.{zero-bits}
 use borrow.Author.Needs.{needs}
 use mir.Syntax.{w32}
 use mir.ValLaws.{toZ-ofZ}

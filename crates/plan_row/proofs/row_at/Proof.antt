@@ -118,7 +118,12 @@ stands-requires : tie.Need-stands-requires
 stands-requires c κs = search needs
 
 returns-3 : tie.Need-returns-3
-returns-3 c = search twice
+returns-3 c =
+    let w = c .before .before .before in
+    let o = ca-of w in
+    twice _ _ _ (o .before .before .before .number-line .ensures) _ _ (o .before .ca .given .1)
+    _ (w .before .before .before .number-line2 .ensures) _ _ (w .before .ioa .given .1) _ _ (c .before .before .key-of .ensures)
+    (c .before .stands .ensures) (c .if1 .taken)
 
 add-third : tie.Need-add-third
 add-third c = let w = c .before .before .before in omega (arith, short (ca-of w), three w .inside)

@@ -1,8 +1,8 @@
 -- Test by test as the definition says, the last of bits in place of a number.
-use Rattle.value_fits.proofs.Ranges.{zero-bits}
 use Rattle.value_fits.proofs.numbers.is_spare.Statement.{statement}
 use Rattle.value_fits.proofs.numbers.is_spare.Tie as tie
 use Rattle.value_fits.specs.Fits.{isSpare}
+use Rattle.text.proofs.Zeros.{zero-bits}
 use borrow.Author.Needs.{needs}
 use mir.Syntax.{w32}
 use mir.ValLaws.{toZ-ofZ}

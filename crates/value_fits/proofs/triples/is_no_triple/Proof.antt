@@ -1,8 +1,8 @@
 -- Test by test as the definition says, of bits in place of numbers.
-use Rattle.value_fits.proofs.Ranges.{zero-bits}
 use Rattle.value_fits.proofs.triples.is_no_triple.Statement.{statement}
 use Rattle.value_fits.proofs.triples.is_no_triple.Tie as tie
 use Rattle.value_fits.specs.Fits.{isNoTriple}
+use Rattle.text.proofs.Zeros.{zero-bits}
 use borrow.Author.Needs.{needs}
 
 returns : tie.Need-returns
