@@ -29,7 +29,6 @@ use native.Mathlib.Omega.{arith}
 
 -- ---- an empty place is all zero
 
-
 pub empty-is : (o : Order) → isEmpty o ≡ true → o ≡ emptyOrder
 unfolding isEmpty
 empty-is o e =
