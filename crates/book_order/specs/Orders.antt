@@ -1,5 +1,4 @@
--- What an order is to the book. Document 01, "The book of commands". Nothing but these definitions looks into an order, so that a request that changes
--- what an order carries, how it is struck or by what it is named changes them alone.
+-- What an order is to the book. Document 01, "The book of commands". What an order carries, how it is struck and by what it is named is said here alone.
 use Prim.Native.Nat.{ℕ, _-_}
 use Rattle.layout.specs.Layouts.{isMarket}
 use Rattle.layout.specs.declared.Layout.{Layout}
@@ -77,7 +76,7 @@ isEmpty o =
     && (isMarket (o .layout)
     && (eqb (o .start) 0 && (eqb (o .end) 0 && (isZero (o .first) && (isZero (o .second) && not (o .struck))))))
 
--- ---- what some valid CB record gives (crate given: exactly these)
+-- ---- what some valid CB record gives (crate book_source: exactly these)
 
 -- the instants that dates give: 01-01-2001 00:00:00 L to 31-12-2099 23:59:59 S
 abbrev pub isInstant : ℕ → Bool

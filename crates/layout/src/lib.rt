@@ -1,5 +1,5 @@
-// The ten layouts of messages. Its specs/ is the one table of fields, labels, kinds, rows and banners; the crates label, kind and banner tie the
-// code's own tables to it, and this one its sizes and the order of its rows.
+// The ten layouts of messages. Its specs/ is the one table of fields, labels, kinds, rows and banners; the crates layout_label, layout_kind and
+// layout_banner tie the code's own tables to it, and this one its sizes and the order of its rows.
 pub mod fields;
 pub mod row;
 

@@ -137,7 +137,7 @@ plain-within xs x ys e = sift-past paramOf xs x ys (no-param x e)
 pub plain-line : (x : List ℕ) (xs : List (List ℕ)) → any (is 61) x ≡ false → params (x ∷ xs) ≡ params xs
 plain-line x xs e = plain-within [] x xs e
 
--- ---- spaced: lines that say the same parameters, one by one (`spaced` of crate lines says of which lines this is so)
+-- ---- spaced: lines that say the same parameters, one by one (`spaced` of crate text_lines says of which lines this is so)
 
 sift-map : {A B : Type 0} (f : A → Option B) (xs : List A) → sift f xs ≡ sift (λ (o : Option B). o) (map f xs)
 unfolding sift

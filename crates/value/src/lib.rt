@@ -1,4 +1,4 @@
-// Every kind of value that a message can hold, and how it is read from its trimmed text. (The crate render puts it as text.)
+// Every kind of value that a message can hold, and how it is read from its trimmed text. (The crate value_put puts it as text.)
 pub mod read;
 
 use value_date::Date;

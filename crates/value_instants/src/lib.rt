@@ -1,1 +1,1 @@
-// Theorems on the instants that dates give, and on the order of dates: definitions in specs/, theorems in proofs/.
+// Theorems on the instants that dates give, and on the order of dates (no code): definitions in specs/, theorems in proofs/.
