@@ -6,7 +6,7 @@ use Rattle.layout.specs.declared.Layout.the-variants.{Market, Mfrr, Revocation,
 use Rattle.book_order.specs.declared.Order.{Order}
 use Rattle.text.specs.Bytes.{within}
 use lib.Dec.{eqb, leb, ltb}
-use lib.IntN.{ℤ, pos, natAbs}
+use lib.IntN.{ℤ, pos, negsuc, natAbs}
 use lib.Signed.{leZ}
 use mathlib.Core.Bool.{Bool, true, false, not, _&&_, cond}
 
