@@ -13,7 +13,8 @@ use Rattle.reader.specs.declared.Answer.{Answer}
 use Rattle.reader_theorems.proofs.Alike.{sound-reading}
 use Rattle.reader_theorems.proofs.Validity.{tidy-body}
 use Rattle.record.proofs.Places.{At, unit-at, reason-at, note-at, gradients-at}
-use Rattle.record.specs.Records.{Typed, joined, typed, badOf, cellsOf, reasonField, noteField, gradientsField, recordOf}
+use Rattle.layout.specs.FieldNumbers.{reasonField, noteField, gradientsField}
+use Rattle.record.specs.Records.{Typed, joined, typed, badOf, cellsOf, recordOf}
 use Rattle.record.specs.declared.Record.{Record}
 use Rattle.record_rules.specs.Rules.{brokenIn}
 use Rattle.text.proofs.Tests.{by-test, and-parts}
