@@ -12,9 +12,11 @@ use Rattle.layout.specs.Rows.{textAt}
 use Rattle.reader.proofs.Concluding.{concluded-no, concluded-yes}
 use Rattle.reader.specs.Reader.{readOf}
 use Rattle.reader.specs.Refusals.{refused}
-use Rattle.reader.specs.State.{columnAt, Reads}
+use Rattle.reader.specs.Readings.{readingOf}
+use Rattle.reader.specs.State.{columnAt}
 use Rattle.reader.specs.declared.Answer.{Answer}
 use Rattle.reader.specs.declared.Reading.{Reading}
+use Rattle.reader_theorems.proofs.Readings.{Reads, reads-of}
 use Rattle.reader_theorems.proofs.Small.{detail-small, number-small}
 use Rattle.record.specs.declared.Record.{Record}
 use Rattle.text.specs.Puts.{wroteOf, bufferOf}
@@ -25,7 +27,10 @@ use mathlib.Core.List.{List}
 use mathlib.Core.Path.{_≡_, sym, ap, _∙_, subst}
 use native.Mathlib.Omega.{arith}
 
-module _ (ca ioa : ℕ) (plan file : List ℕ) (x : Reading) (reads : Reads ca ioa plan file x) where
+module _ (ca ioa : ℕ) (plan file : List ℕ) (x : Reading) (is : x ≡ readingOf ca ioa plan file) where
+  reads : Reads ca ioa plan file x
+  reads = reads-of ca ioa plan file x is
+
   abbrev answer : Answer
   answer = readOf ca ioa plan file
 

@@ -1,29 +1,27 @@
 -- What was read leads to the answer: from the places to the reading, and from the reading to a refusal or the record. Assumes nothing.
 use Prim.Native.Nat.{ℕ}
 use Rattle.reader_fill.specs.Filled.{recordWith}
-use Rattle.layout.specs.Layouts.{sizeOf}
-use Rattle.layout.specs.Rows.{rowOf}
+use Rattle.layout.specs.Layouts.{labelsOf}
 use Rattle.layout.specs.declared.Layout.{Layout}
-use Rattle.text_lines.specs.Places.{partOf, Placed}
+use Rattle.text_lines.specs.Places.{partOf}
+use Rattle.text_lines.specs.Spots.{rowPlace, placesIn}
 use Rattle.text_lines.specs.declared.Span.{Span}
-use Rattle.value_list.specs.declared.Triple.{Triple}
-use Rattle.reader.proofs.Firsts.{NoneHolds, accepted-none, none-given}
-use Rattle.reader.proofs.Firsts.NoneHolds.{next}
-use Rattle.reader.specs.Messages.{valuesOf, isBad, columnRecord}
-use Rattle.reader.specs.Reader.{valued}
-use Rattle.reader.specs.Refusals.{Refusal, refused, accepted, answer}
-use Rattle.reader.specs.State.{columnAt, continued, Locates, finished, Judges, Values, concluded, Reads}
+use Rattle.value.specs.declared.Value.the-variants.{Blank}
+use Rattle.value_list.specs.Forms.{noTriple}
+use Rattle.reader.specs.Messages.{columnRecord}
+use Rattle.reader.specs.Reader.{valued, readOf}
+use Rattle.reader.specs.Readings.{unread, readingIn, readingOf}
+use Rattle.reader.specs.Refusals.{refused, accepted, answer}
+use Rattle.reader.specs.State.{columnAt, continued, Locates, finished, Values, concluded}
 use Rattle.reader.specs.declared.Answer.{Answer}
 use Rattle.reader.specs.declared.Located.{Located}
 use Rattle.reader.specs.declared.Reading.{Reading}
-use Rattle.record.specs.declared.Cell.{Cell}
-use Rattle.text.proofs.Cuts.{same-true}
-use Rattle.text.specs.Bytes.{all}
-use borrow.Author.Tests.{eq-eqb, ne-eqb, not-false}
-use lib.ListN.{take}
-use mathlib.Core.Bool.{false}
-use mathlib.Core.List.{List, _∷_}
-use mathlib.Core.Path.{_≡_, refl, sym, ap, ap₂, _∙_, subst}
+use Rattle.record.specs.Records.{cell}
+use Rattle.record.specs.declared.Record.{Record}
+use borrow.Author.Tests.{eq-eqb, ne-eqb}
+use lib.ListN.{replicate, take}
+use mathlib.Core.List.{List}
+use mathlib.Core.Path.{_≡_, refl, sym, ap, ap₂, _∙_}
 
 -- ---- the answer of a reading
 
@@ -35,14 +33,6 @@ module _ (file : List ℕ) (x : Reading) where
   pub concluded-yes : x .number ≡ 0 → accepted (recordWith (x .layout) (columnAt (x .layout) file (x .places)) (x .cells) (x .gradients)) ≡ concluded file x
   unfolding concluded finished
   concluded-yes e = rw (eq-eqb (x .number) 0 e)
-
--- ---- where none holds
-
-first-false : {x : Refusal} {xs : List Refusal} → NoneHolds (x ∷ xs) → x .holds ≡ false
-first-false (next e f) = e
-
-fourth-false : {a b c x : Refusal} {xs : List Refusal} → NoneHolds (a ∷ b ∷ c ∷ x ∷ xs) → x .holds ≡ false
-fourth-false (next e (next f (next g h))) = first-false h
 
 -- ---- the reading of the places
 
@@ -60,66 +50,65 @@ module _ (file unit : List ℕ) (x : Located) where
   unfolding continued
   continued-yes e = rw (eq-eqb (x .number) 0 e)
 
--- where nothing is refused, the record is that of the values, none of them is bad, and the row is theirs
-module _ (l : Layout) (unit row : List ℕ) (col : List (List ℕ)) (n d : ℕ) (cells : List Cell) (gs : List Triple)
-    (j : Judges l unit row col n d cells gs) (z : n ≡ 0) where
-  accepted-is : accepted (recordWith l col cells gs) ≡ answer (valued l unit row col) (columnRecord l col)
-  unfolding finished
-  accepted-is = rw (eq-eqb n 0 z) at j
+-- ---- the reading that the definition gives
 
-  none-holds : NoneHolds (valued l unit row col)
-  unfolding valued all
-  none-holds = accepted-none (valued l unit row col) (columnRecord l col) refl (sym (ap (λ (a : Answer). a .number) accepted-is))
+refused-in : (n d : ℕ) (file : List ℕ) → (n ≡ 0 → ⊥) → unread n d ≡ readingIn (refused n d) file
+unfolding readingIn
+refused-in n d file z = rw (ne-eqb n 0 z)
 
-  body-same : recordWith l col cells gs ≡ columnRecord l col
-  body-same = ap (λ (a : Answer). a .content) (accepted-is ∙ none-given (columnRecord l col) none-holds)
+accepted-in : (r : Record) (file : List ℕ)
+    → record { number = 0; detail = 0; layout = r .layout; row = rowPlace file; cells = r .cells; gradients = r .gradients; places = placesIn (labelsOf (r .layout)) file }
+    ≡ readingIn (accepted r) file
+unfolding readingIn
+accepted-in r file = refl
 
-  none-bad : isBad (valuesOf l col) ≡ false
-  unfolding valued
-  none-bad = first-false none-holds
+pub made : (x : Reading) {n d : ℕ} {row : Span} {places : List Span} → x .number ≡ n → x .detail ≡ d → x .row ≡ row → x .places ≡ places
+    → x ≡ record { number = n; detail = d; layout = x .layout; row = row; cells = x .cells; gradients = x .gradients; places = places }
+made x n d row places = rw (sym n, sym d, sym row, sym places)
 
-  row-same : row ≡ rowOf l col
-  unfolding valued
-  row-same = same-true row (rowOf l col) (not-false _ (fourth-false none-holds))
+module _ (c i : ℕ) (plan file : List ℕ) where
+  pub refused-reading : (n d : ℕ) {x : Reading} → x ≡ unread n d → (n ≡ 0 → ⊥) → refused n d ≡ readOf c i plan file → x ≡ readingOf c i plan file
+  unfolding readingOf
+  refused-reading n d x-is z e = x-is ∙ refused-in n d file z ∙ ap (λ (a : Answer). readingIn a file) e
+
+  pub accepted-reading : (x : Reading) → x .number ≡ 0 → x .detail ≡ 0 → concluded file x ≡ readOf c i plan file → x .row ≡ rowPlace file
+      → x .places ≡ placesIn (labelsOf (x .layout)) file → x ≡ readingOf c i plan file
+  unfolding readingOf recordWith
+  accepted-reading x z d e row places =
+      made x z d row places
+      ∙ accepted-in (recordWith (x .layout) (columnAt (x .layout) file (x .places)) (x .cells) (x .gradients)) file
+      ∙ ap (λ (a : Answer). readingIn a file) (concluded-yes file x z ∙ e)
+
+-- ---- from the places to the reading
 
 module _ (c i : ℕ) (plan file : List ℕ) (x : Located) (h : Locates c i plan file x) where
   abbrev col : List (List ℕ)
   col = columnAt (x .layout) file (x .places)
 
-  -- a reading of these places, with no value read of them yet
-  abbrev unread : List Cell → List Triple → Reading
-  unread cells gs =
-      record { number = x .number; detail = x .detail; layout = x .layout; row = x .row; cells = cells; gradients = gs; places = x .places }
+  -- a refusal of the plan or of the file's lines
+  pub refused-located : (x .number ≡ 0 → ⊥)
+      → record { number = x .number; detail = x .detail; layout = x .layout; row = x .row; cells = replicate 26 (cell Blank); gradients = replicate 16 noTriple; places = x .places }
+      ≡ readingOf c i plan file
+  refused-located n =
+      let k = h .cleared n in
+      refused-reading c i plan file (x .number) (x .detail) (rw (k .0, k .1, k .2)) n (continued-no file (take (x .size) (x .unit)) x n ∙ h .answers)
 
-  pub refused-reads : (x .number ≡ 0 → ⊥) → (cells : List Cell) (gs : List Triple)
-      → Reads c i plan file (unread cells gs)
-  refused-reads n cells gs =
-      record {
-        placed = λ z. absurd (n z);
-        readable = λ z. absurd (n z);
-        own-row = λ z. absurd (n z);
-        content-is = λ z. absurd (n z);
-        answers = sym (concluded-no file (unread cells gs) n) ∙ continued-no file (take (x .size) (x .unit)) x n ∙ h .answers;
-      }
+  -- what is judged of the values leads to the answer
+  values-led : x .number ≡ 0 → (unit : List ℕ) → unit ≡ take (x .size) (x .unit) → (y : Reading) → Values (x .layout) unit file (x .row) (x .places) y
+      → concluded file y ≡ readOf c i plan file
+  unfolding concluded
+  values-led z unit u y v =
+      ap₂ (λ (l : Layout) (ps : List Span). finished l (columnAt l file ps) (y .number) (y .detail) (y .cells) (y .gradients)) (v .layout-is) (v .places-are)
+      ∙ v .judges ∙ ap (judgedFor file x) u ∙ continued-yes file (take (x .size) (x .unit)) x z ∙ h .answers
+
+  pub values-refused : x .number ≡ 0 → (unit : List ℕ) → unit ≡ take (x .size) (x .unit) → (y : Reading) → Values (x .layout) unit file (x .row) (x .places) y
+      → (y .number ≡ 0 → ⊥) → {r : Reading} → r ≡ unread (y .number) (y .detail) → r ≡ readingOf c i plan file
+  values-refused z unit u y v n r-is =
+      refused-reading c i plan file (y .number) (y .detail) r-is n (concluded-no file y n ∙ values-led z unit u y v)
 
   pub values-read : x .number ≡ 0 → (unit : List ℕ) → unit ≡ take (x .size) (x .unit) → (y : Reading) → Values (x .layout) unit file (x .row) (x .places) y
-      → Reads c i plan file y
-  unfolding concluded
-  values-read z unit u y v =
-      record {
-        placed = λ e.
-            subst (λ (l : Layout). Placed (sizeOf l) file (y .places)) (sym (v .layout-is))
-            (subst (Placed (sizeOf (x .layout)) file) (sym (v .places-are)) (h .stands z .placed));
-        readable = λ e.
-            ap₂ (λ (l : Layout) (ps : List Span). isBad (valuesOf l (columnAt l file ps))) (v .layout-is) (v .places-are)
-            ∙ none-bad (x .layout) unit (partOf file (x .row)) col (y .number) (y .detail) (y .cells) (y .gradients) (v .judges) e;
-        own-row = λ e.
-            let r = row-same (x .layout) unit (partOf file (x .row)) col (y .number) (y .detail) (y .cells) (y .gradients) (v .judges) e in
-            rw (v .layout-is, v .row-is, v .places-are) record { ordered = h .stands z .ordered; inside = h .stands z .inside; holds = r };
-        content-is = λ e.
-            rw (v .layout-is, v .places-are)
-            (body-same (x .layout) unit (partOf file (x .row)) col (y .number) (y .detail) (y .cells) (y .gradients) (v .judges) e);
-        answers =
-            ap₂ (λ (l : Layout) (ps : List Span). finished l (columnAt l file ps) (y .number) (y .detail) (y .cells) (y .gradients)) (v .layout-is) (v .places-are)
-            ∙ v .judges ∙ ap (judgedFor file x) u ∙ continued-yes file (take (x .size) (x .unit)) x z ∙ h .answers;
-      }
+      → y .number ≡ 0 → y .detail ≡ 0 → y ≡ readingOf c i plan file
+  values-read z unit u y v n d =
+      let k = h .exact z in
+      accepted-reading c i plan file y n d (values-led z unit u y v) (v .row-is ∙ k .1)
+      (v .places-are ∙ k .2 ∙ ap (λ (l : Layout). placesIn (labelsOf l) file) (sym (v .layout-is)))

@@ -11,9 +11,10 @@ use Rattle.text_lines.specs.declared.Span.{Span}
 use Rattle.value_list.specs.Forms.{gradientsIn}
 use Rattle.value_list.specs.declared.GradientsRead.{GradientsRead}
 use Rattle.value_list.specs.declared.Triple.{Triple}
-use Rattle.reader.proofs.Concluding.{values-read}
+use Rattle.reader.proofs.Concluding.{made, values-refused, values-read}
 use Rattle.reader.proofs.Judging.{bad-value, by-verdict}
-use Rattle.reader.specs.State.{columnAt, Locates, Filling, verdict, Reads}
+use Rattle.reader.specs.State.{columnAt, Locates, Filling, verdict, Values}
+use Rattle.reader.specs.Readings.{unread, readingOf}
 use Rattle.reader.specs.declared.Early.{Early}
 use Rattle.reader.specs.declared.Located.{Located}
 use Rattle.reader.specs.declared.Reading.{Reading}
@@ -21,22 +22,27 @@ use Rattle.layout.specs.FieldNumbers.{gradientsField}
 use Rattle.record.specs.Records.{cell}
 use Rattle.record.specs.declared.Cell.{Cell}
 use Rattle.record_rules.specs.Rules.{rulesOf, lowest}
+use Rattle.text.proofs.Tests.{by-test}
 use Rattle.text.specs.Bytes.{same}
 use Rattle.value.specs.Kinds.{valueOf}
 use Rattle.value.specs.declared.Got.{Got}
 use Rattle.value.specs.declared.Got.the-variants.{Read, Bad}
 use Rattle.value.specs.declared.Value.{Value}
+use borrow.Author.Tests.{ltb-false}
+use lib.Dec.{ltb}
 use lib.ListN.{take, set, length-set}
 use mathlib.Core.List.{List}
 use mathlib.Core.Path.{_≡_, refl, sym, ap, _∙_}
 use native.Mathlib.Omega.{arith}
 
--- what holds at the head: the reading has its layout, row, places and triples, and the values of the first k fields
+-- what holds at the head: no refusal yet; the reading has its layout, row, places and triples, and the values of the first k fields
 pub record Going (l : Layout) (file : List ℕ) (row : Span) (places : List Span) (gs : List Triple) (n k : ℕ) (r : Reading) : Type 0 where
   pub layout-is : r .layout ≡ l
   pub row-is : r .row ≡ row
   pub places-are : r .places ≡ places
   pub triples-are : r .gradients ≡ gs
+  pub number-is : r .number ≡ 0
+  pub detail-is : r .detail ≡ 0
   pub head : Head l file places n k (r .cells)
 
 -- a reading with another number and detail, and with other cells
@@ -69,10 +75,10 @@ module _ (c i : ℕ) (plan file : List ℕ) (x : Located) (h : Locates c i plan 
     its-value : v ≡ valueOf (kindAt (x .layout) (k + 1)) (partOf file (spanAt (x .places) (k + 1)))
     its-value = field-value (x .layout) file (x .places) k (going .head .placed) in-size g gs v read
 
-    pub stopped : v ≡ Bad → Reads c i plan file (numbered 7 (k + 1) r)
-    stopped e =
+    pub stopped : v ≡ Bad → {y : Reading} → y ≡ unread 7 (k + 1) → y ≡ readingOf c i plan file
+    stopped e y-is =
         let f = stop (x .layout) file (x .places) k (r .cells) (going .head .sofar) (going .head .placed) in-size v its-value e in
-        values-read c i plan file x h z (take (x .size) (x .unit)) refl (numbered 7 (k + 1) r)
+        values-refused c i plan file x h z (take (x .size) (x .unit)) refl (numbered 7 (k + 1) r)
         (record {
           layout-is = going .layout-is;
           row-is = going .row-is;
@@ -81,6 +87,7 @@ module _ (c i : ℕ) (plan file : List ℕ) (x : Located) (h : Locates c i plan 
               bad-value (x .layout) (take (x .size) (x .unit)) file (x .row) (x .places) (k + 1) (r .cells) (r .gradients) (filling (k + 1) f)
               (λ q. omega (arith, q));
         })
+        (λ q. omega (arith, q)) y-is
 
     pub goes-on : (w : Value) → v ≡ Read w → Going (x .layout) file (x .row) (x .places) (g .list .values) n (k + 1) (celled (set (r .cells) k (cell w)) r)
     goes-on w e =
@@ -89,6 +96,8 @@ module _ (c i : ℕ) (plan file : List ℕ) (x : Located) (h : Locates c i plan 
           row-is = going .row-is;
           places-are = going .places-are;
           triples-are = going .triples-are;
+          number-is = going .number-is;
+          detail-is = going .detail-is;
           head =
               record {
                 n-is = going .head .n-is;
@@ -99,18 +108,33 @@ module _ (c i : ℕ) (plan file : List ℕ) (x : Located) (h : Locates c i plan 
         }
 
   -- all of them are read: the verdict
-  pub all-read : n ≤ k → (broken : ℕ) → broken ≡ lowest (rulesOf (x .layout) (r .cells) (g .list .values))
-      → (unit : List ℕ) → unit ≡ take (x .size) (x .unit)
-      → (e : Early) → e ≡ verdict broken (same unit (textAt col 2)) (same (partOf file (x .row)) (rowOf (x .layout) col))
-      → Reads c i plan file (numbered (e .number) (e .detail) r)
-  all-read done broken q unit u e v =
-      let all : sizeOf (x .layout) ≤ k = omega (arith, done, going .head .n-is) in
-      let f = finish (x .layout) col k (r .cells) (going .head .sofar) all in
-      let b = q ∙ ap (λ (t : List Triple). lowest (rulesOf (x .layout) (r .cells) t)) (sym (going .triples-are)) in
-      values-read c i plan file x h z unit u (numbered (e .number) (e .detail) r)
-      (record {
-        layout-is = going .layout-is;
-        row-is = going .row-is;
-        places-are = going .places-are;
-        judges = by-verdict (x .layout) unit file (x .row) (x .places) 0 (r .cells) (r .gradients) (filling 0 f) refl broken b e v;
-      })
+  module _ (done : n ≤ k) (broken : ℕ) (q : broken ≡ lowest (rulesOf (x .layout) (r .cells) (g .list .values))) (unit : List ℕ) (u : unit ≡ take (x .size) (x .unit))
+      (e : Early) (v : e ≡ verdict broken (same unit (textAt col 2)) (same (partOf file (x .row)) (rowOf (x .layout) col))) where
+    verdict-values : Values (x .layout) unit file (x .row) (x .places) (numbered (e .number) (e .detail) r)
+    verdict-values =
+        let all : sizeOf (x .layout) ≤ k = omega (arith, done, going .head .n-is) in
+        let f = finish (x .layout) col k (r .cells) (going .head .sofar) all in
+        let b = q ∙ ap (λ (t : List Triple). lowest (rulesOf (x .layout) (r .cells) t)) (sym (going .triples-are)) in
+        record {
+          layout-is = going .layout-is;
+          row-is = going .row-is;
+          places-are = going .places-are;
+          judges = by-verdict (x .layout) unit file (x .row) (x .places) 0 (r .cells) (r .gradients) (filling 0 f) refl broken b e v;
+        }
+
+    pub refused-last : (e .number ≡ 0 → ⊥) → {y : Reading} → y ≡ unread (e .number) (e .detail) → y ≡ readingOf c i plan file
+    refused-last m y-is = values-refused c i plan file x h z unit u (numbered (e .number) (e .detail) r) verdict-values m y-is
+
+    -- no rule is broken where there is no refusal, so the detail is 0
+    no-detail : e .number ≡ 0 → e .detail ≡ 0
+    unfolding verdict
+    no-detail m =
+        by-test (ltb 0 broken)
+        (λ t. let w : e ≡ record { number = 8; detail = broken } = v ∙ rw t in absurd (omega (arith, ap (λ (y : Early). y .number) w, m)))
+        (λ t. ap (λ (y : Early). y .detail) v ∙ omega (arith, ltb-false 0 broken t))
+
+    pub all-read : e .number ≡ 0 → r ≡ readingOf c i plan file
+    all-read m =
+        let d = no-detail m in
+        made r (going .number-is ∙ sym m) (going .detail-is ∙ sym d) refl refl
+        ∙ values-read c i plan file x h z unit u (numbered (e .number) (e .detail) r) verdict-values m d

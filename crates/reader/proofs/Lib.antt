@@ -6,3 +6,4 @@ pub mod Placing
 pub mod Walking
 pub mod Locating
 pub mod Going
+pub mod Readings

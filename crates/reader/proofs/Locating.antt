@@ -50,7 +50,13 @@ module _ (c i : ℕ) (file : List ℕ) where
   module _ (plan : List ℕ) (s : Sought) (e : s ≡ soughtOf c i (planOf plan)) where
     pub not-found : (s .number ≡ 0 → ⊥) → Locates c i plan file (nowhere (s .number) (s .detail))
     unfolding readOf continued
-    not-found n = record { stands = λ z. absurd (n z); answers = rw (ne-eqb (s .number) 0 n) (refused-at s (planOf plan) e n) }
+    not-found n =
+        record {
+          stands = λ z. absurd (n z);
+          exact = λ z. absurd (n z);
+          cleared = λ z. (refl, refl, refl);
+          answers = rw (ne-eqb (s .number) 0 n) (refused-at s (planOf plan) e n);
+        }
 
     -- what the walk gave, with the size and the unit of the plan
     pub walked-on : s .number ≡ 0 → (x : Located) → Walks (s .message) file x
@@ -59,5 +65,7 @@ module _ (c i : ℕ) (file : List ℕ) where
     walked-on n x w =
         record {
           stands = λ z. let h = w .stands z in record { ordered = h .ordered; inside = h .inside; placed = h .placed };
+          exact = w .exact;
+          cleared = w .cleared;
           answers = w .answers (unitIn s) ∙ answer-at s file n ∙ ap (λ (y : Sought). answerAt y file) e;
         }

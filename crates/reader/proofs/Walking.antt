@@ -8,6 +8,8 @@ use Rattle.text_lines.proofs.Steps.{allowed-length}
 use Rattle.text_lines.specs.Entries.{entries, column}
 use Rattle.text_lines.specs.Lines.{texts, framed, allowedUpto}
 use Rattle.text_lines.specs.Places.{HoldsText}
+use Rattle.text_lines.specs.Spots.{rowPlace, placesIn}
+use Rattle.text_lines.specs.declared.Span.{Span}
 use Rattle.value_name.specs.declared.MessageType.{MessageType}
 use Rattle.reader.proofs.Chosen.{is-mfrr, not-mfrr}
 use Rattle.reader.proofs.Firsts.{answer-yes, answer-no}
@@ -18,7 +20,7 @@ use Rattle.reader.specs.Refusals.{refused, answer}
 use Rattle.reader.specs.State.{nowhere, placedAs, continued, Walks, isMfrr}
 use Rattle.reader.specs.declared.Located.{Located}
 use Rattle.text.specs.Bytes.{within}
-use Rattle.reader_walk.proofs.Told.{Fields, stop-by, seps-by, framed-by, row-by, first-by, second-by}
+use Rattle.reader_walk.proofs.Told.{Fields, stop-by, whole-by, seps-by, framed-by, row-by, first-by, second-by}
 use Rattle.reader_walk.specs.State.{foundOf}
 use Rattle.reader_walk.specs.declared.Found.{Found}
 use borrow.Author.Tests.{lt-ltb, le-ltb, le-leb, lt-leb, eq-eqb, ne-eqb}
@@ -27,14 +29,15 @@ use lib.Dec.{eqb, ltb}
 use lib.ListN.{length}
 use mathlib.Core.Bool.{Bool, true, false, not, _&&_}
 use mathlib.Core.List.{List}
-use mathlib.Core.Path.{_≡_, sym, ap, _∙_, subst}
+use mathlib.Core.Path.{_≡_, refl, sym, ap, _∙_, subst}
 use native.Mathlib.Omega.{arith}
 
 module _ (t : MessageType) (file : List ℕ) where
   -- a refusal of the file, for every unit
   refusal-walks : (n d : ℕ) → (n ≡ 0 → ⊥) → ((unit : List ℕ) → refused n d ≡ messageOf t unit file) → Walks t file (nowhere n d)
   unfolding continued
-  refusal-walks n d h e = record { stands = λ z. absurd (h z); answers = λ unit. rw (ne-eqb n 0 h) (e unit) }
+  refusal-walks n d h e =
+      record { stands = λ z. absurd (h z); exact = λ z. absurd (h z); cleared = λ z. (refl, refl, refl); answers = λ unit. rw (ne-eqb n 0 h) (e unit) }
 
   too-wide : not (within 1 8192 (length file)) ≡ true → Walks t file (nowhere 2 0)
   unfolding messageOf reading
@@ -91,16 +94,24 @@ module _ (t : MessageType) (file : List ℕ) where
           framed-yes : framed (texts file) ≡ true
           framed-yes = framed-by t file r w clean ∙ rw (eq-eqb (r .frame .seps) 2 two, eq-eqb (r .frame .inside) 1 one)
 
+          row-exact : r .frame .row ≡ rowPlace file
+          row-exact = ap (λ (y : Found). y .frame .row) (whole-by t file r w clean)
+
           row-holds : HoldsText file (r .frame .row) (rowIn file)
           unfolding rowIn
           row-holds = row-by t file r w clean framed-yes
 
           -- where a layout is the file's, what its fields lead to is what the file leads to
-          laid : (l : Layout) → layoutIn t (given file) ≡ l → (x : Located) → Onward l file (r .frame .row) (entries (labelsOf l) (given file)) x → Walks t file x
+          laid : (l : Layout) → layoutIn t (given file) ≡ l → (places : List Span) → places ≡ placesIn (labelsOf l) file → (x : Located)
+              → Onward l file (r .frame .row) places (entries (labelsOf l) (given file)) x → Walks t file x
           unfolding messageOf reading recordIn entriesIn
-          laid l e x h =
+          laid l e places p x h =
               record {
                 stands = h .stands;
+                exact = λ z.
+                    let k = h .kept z in
+                    (k .0, k .2 ∙ row-exact, k .3 ∙ p ∙ ap (λ (j : Layout). placesIn (labelsOf j) file) (sym (k .1)));
+                cleared = h .cleared;
                 answers = λ unit.
                     h .answers unit
                     ∙ ap (λ (x : List ℕ). answer (labelled l unit x (entries (labelsOf l) (given file))) (columnRecord l (column 1 (labelsOf l) (entries (labelsOf l) (given file))))) (row-holds .holds)
@@ -126,12 +137,17 @@ module _ (t : MessageType) (file : List ℕ) where
                 subst (λ (u : MessageType). Fields file (secondLabels u) (r .second) (r .others) (entries (secondLabels u) (given file)))
                 (is-mfrr file (r .second) (r .others) t seconds is .0) seconds
 
+            mfrr-places : r .others ≡ placesIn (labelsOf Mfrr) file
+            mfrr-places =
+                ap (λ (y : Found). y .others) (whole-by t file r w clean)
+                ∙ ap (λ (u : MessageType). placesIn (secondLabels u) file) (is-mfrr file (r .second) (r .others) t seconds is .0)
+
             pub mfrr-few : ones (r .second .seen) ≤ sizeOf Mfrr
             mfrr-few = seen-few Mfrr file (r .second) (r .others) _ mfrr-fields
 
             pub mfrr-walks : Walks t file (placedAs Mfrr (r .frame .row) (r .second) (r .others))
             mfrr-walks =
-                laid Mfrr (is-mfrr file (r .second) (r .others) t seconds is .1) _
+                laid Mfrr (is-mfrr file (r .second) (r .others) t seconds is .1) (r .others) mfrr-places _
                 (placed-onward Mfrr file (r .second) (r .others) _ mfrr-fields (r .frame .row) (row-holds .ordered) (row-holds .inside))
 
           -- the type's layout
@@ -139,10 +155,14 @@ module _ (t : MessageType) (file : List ℕ) where
             first-fields : Fields file (labelsOf l) (r .first) (r .places) (entries (labelsOf l) (given file))
             first-fields = subst (λ (k : Layout). Fields file (labelsOf k) (r .first) (r .places) (entries (labelsOf k) (given file))) (sym is-first) firsts
 
+            first-places : r .places ≡ placesIn (labelsOf l) file
+            first-places =
+                ap (λ (y : Found). y .places) (whole-by t file r w clean) ∙ ap (λ (k : Layout). placesIn (labelsOf k) file) (sym is-first)
+
             pub first-few : ones (r .first .seen) ≤ sizeOf l
             first-few = seen-few l file (r .first) (r .places) _ first-fields
 
             pub first-walks : (b : Bool) → b ≡ isMfrr t (r .second .seen) → b ≡ false → Walks t file (placedAs l (r .frame .row) (r .first) (r .places))
             first-walks b told not-so =
-                laid l (not-mfrr file (r .second) (r .others) t seconds (sym told ∙ not-so) ∙ sym is-first) _
+                laid l (not-mfrr file (r .second) (r .others) t seconds (sym told ∙ not-so) ∙ sym is-first) (r .places) first-places _
                 (placed-onward l file (r .first) (r .places) _ first-fields (r .frame .row) (row-holds .ordered) (row-holds .inside))

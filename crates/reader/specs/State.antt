@@ -2,16 +2,16 @@
 use Prim.Native.Nat.{ℕ, _-_, _≤_}
 use Rattle.reader_fill.specs.Filled.{filledOf, triplesOf, recordWith}
 use Rattle.layout.specs.FieldNumbers.{tipoComandoNo}
-use Rattle.layout.specs.Layouts.{kindsOf, sizeOf}
-use Rattle.layout.specs.Rows.{rowOf}
+use Rattle.layout.specs.Layouts.{kindsOf, labelsOf, sizeOf}
 use Rattle.layout.specs.declared.Layout.{Layout}
 use Rattle.layout.specs.declared.Layout.the-variants.{Market}
-use Rattle.text_lines.specs.Places.{noSpan, partOf, HoldsText, Placed, columnIn}
+use Rattle.text_lines.specs.Places.{noSpan, partOf, Placed, columnIn}
+use Rattle.text_lines.specs.Spots.{rowPlace, placesIn}
 use Rattle.text_lines.specs.declared.Span.{Span}
 use Rattle.value_list.specs.declared.Triple.{Triple}
 use Rattle.value_name.specs.declared.MessageType.{MessageType}
 use Rattle.value_name.specs.declared.MessageType.the-variants.{Cb, Rc, Mg, Eb, Lb, Sr, Vq, Ri, Qr}
-use Rattle.reader.specs.Messages.{valuesOf, isBad, columnRecord}
+use Rattle.reader.specs.Messages.{columnRecord}
 use Rattle.reader.specs.Reader.{valued, messageOf, readOf}
 use Rattle.reader.specs.Refusals.{refused, accepted, answer}
 use Rattle.reader.specs.declared.Answer.{Answer}
@@ -50,6 +50,14 @@ pub record Stands (file : List ℕ) (x : Located) : Type 0 where
   pub inside : x .row .to ≤ length file
   pub placed : Placed (sizeOf (x .layout)) file (x .places)
 
+-- each exactly where it stands, with no detail
+abbrev pub Exact : List ℕ → Located → Type 0
+Exact file x = (x .detail ≡ 0) × (x .row ≡ rowPlace file) × (x .places ≡ placesIn (labelsOf (x .layout)) file)
+
+-- nothing of the file
+abbrev pub Cleared : Located → Type 0
+Cleared x = (x .layout ≡ Market) × (x .row ≡ noSpan) × (x .places ≡ replicate 27 noSpan)
+
 -- the column of a layout's values at their places
 abbrev pub columnAt : Layout → List ℕ → List Span → List (List ℕ)
 columnAt l file places = columnIn (sizeOf l) file places
@@ -64,10 +72,14 @@ continued file unit x =
 -- what a file leads to as a message of a type, and at an address of a plan
 pub record Walks (t : MessageType) (file : List ℕ) (x : Located) : Type 0 where
   pub stands : x .number ≡ 0 → Stands file x
+  pub exact : x .number ≡ 0 → Exact file x
+  pub cleared : (x .number ≡ 0 → ⊥) → Cleared x
   pub answers : (unit : List ℕ) → continued file unit x ≡ messageOf t unit file
 
 pub record Locates (ca ioa : ℕ) (plan file : List ℕ) (x : Located) : Type 0 where
   pub stands : x .number ≡ 0 → Stands file x
+  pub exact : x .number ≡ 0 → Exact file x
+  pub cleared : (x .number ≡ 0 → ⊥) → Cleared x
   pub answers : continued file (take (x .size) (x .unit)) x ≡ readOf ca ioa plan file
 
 -- ---- refusals 7 to 10: what is judged of the values
@@ -102,16 +114,6 @@ pub record Values (l : Layout) (unit file : List ℕ) (row : Span) (places : Lis
 
 unfoldable pub concluded : List ℕ → Reading → Answer
 concluded file x = finished (x .layout) (columnAt (x .layout) file (x .places)) (x .number) (x .detail) (x .cells) (x .gradients)
-
--- what was read of a file at an address: it leads to the reader's answer, and where it is no refusal every field has its place, with a value that its
--- kind may hold, the row has its place, with the row of these values, and the cells and triples are those of the values' record
-pub record Reads (ca ioa : ℕ) (plan file : List ℕ) (x : Reading) : Type 0 where
-  pub placed : x .number ≡ 0 → Placed (sizeOf (x .layout)) file (x .places)
-  pub readable : x .number ≡ 0 → isBad (valuesOf (x .layout) (columnAt (x .layout) file (x .places))) ≡ false
-  pub own-row : x .number ≡ 0 → HoldsText file (x .row) (rowOf (x .layout) (columnAt (x .layout) file (x .places)))
-  pub content-is : x .number ≡ 0
-      → recordWith (x .layout) (columnAt (x .layout) file (x .places)) (x .cells) (x .gradients) ≡ columnRecord (x .layout) (columnAt (x .layout) file (x .places))
-  pub answers : concluded file x ≡ readOf ca ioa plan file
 
 -- the bit of mFRR's `Tipo Comando`, in a CB file
 abbrev pub isMfrr : MessageType → ℕ → Bool

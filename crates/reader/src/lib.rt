@@ -17,7 +17,8 @@ ghost use Rattle.layout.specs.Rows.{textAt, rowOf};
 ghost use Rattle.text_lines.specs.Places.{partOf, Placed};
 ghost use Rattle.reader.specs.Reader.{readOf};
 ghost use Rattle.reader.specs.Refusals.{refused, accepted};
-ghost use Rattle.reader.specs.State.{nowhere, placedAs, columnAt, Walks, Locates, verdict, concluded, Reads, isMfrr};
+ghost use Rattle.reader.specs.Readings.{unread, readingOf};
+ghost use Rattle.reader.specs.State.{nowhere, placedAs, columnAt, Walks, Locates, verdict, concluded, isMfrr};
 ghost use Rattle.text.specs.Bytes.{same};
 ghost use lib.Count.{ones};
 ghost use lib.ListN.{length};
@@ -227,10 +228,25 @@ fn judge(l: Layout, unit: &[u8], file: &[u8], row: Span, places: [Span; 27], bro
     }
 }
 
+// A refusal: nothing of the file is handed out.
+fn unread(number: u8, detail: usize) -> Reading
+    ensures { λ r. ⌜ r ≡ unread number detail ⌝ }
+{
+    Reading {
+        number,
+        detail,
+        layout: Layout::Market,
+        row: NOWHERE,
+        cells: [record::EMPTY; 26],
+        gradients: [record::NO_TRIPLE; 16],
+        places: [NOWHERE; 27],
+    }
+}
+
 // A file judged at an address of a plan. The cells are filled where they are handed back, and those that a rule asks for are taken from there: an array that
 // is handed on, or a struct that is made in two places, is taken apart by the compiler, each piece by itself.
 pub fn judged(ca: u32, ioa: u32, plan: &[u8], file: &[u8]) -> Reading
-    ensures { λ r. ⌜ Reads ca ioa (now (plan .entry)) (now (file .entry)) r ⌝ }
+    ensures { λ r. ⌜ r ≡ readingOf ca ioa (now (plan .entry)) (now (file .entry)) ⌝ }
 {
     let x = locate(ca, ioa, plan, file);
     let l = x.layout;
@@ -257,8 +273,7 @@ pub fn judged(ca: u32, ioa: u32, plan: &[u8], file: &[u8]) -> Reading
     while k < n {
         let Got::Read(v) = reader_fill::value_in(l, k + 1, file, places[k + 1], g.good, list.count)
         else {
-            r.number = 7;
-            r.detail = k + 1;
+            r = unread(7, k + 1);
             return r;
         };
         let c = Cell { value: v };
@@ -327,8 +342,10 @@ pub fn judged(ca: u32, ioa: u32, plan: &[u8], file: &[u8]) -> Reading
     };
     let unit = x.unit;
     let early = judge(l, scan::front(&unit, x.size), file, row, places, broken);
-    r.number = early.number;
-    r.detail = early.detail;
+    if early.number != 0 {
+        r = unread(early.number, early.detail);
+        return r;
+    }
     r
 }
 

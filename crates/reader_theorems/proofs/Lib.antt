@@ -4,3 +4,4 @@ pub mod Small
 pub mod Example
 pub mod Held
 pub mod Validity
+pub mod Readings

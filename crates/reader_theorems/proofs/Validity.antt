@@ -67,6 +67,11 @@ at-accepted s file h =
     let e = message-at s file (accepted-none (planned s file) (recordIn (s .message) file) (numbers s file) h) in
     (accepted (s .message) (unitIn s) file (sym (ap (λ (x : Answer). x .number) e) ∙ h), e)
 
+pub read-accepted : (ca ioa : ℕ) (plan file : List ℕ) → readOf ca ioa plan file .number ≡ 0
+    → Accepted (soughtOf ca ioa (planOf plan) .message) (unitIn (soughtOf ca ioa (planOf plan))) file
+unfolding readOf
+read-accepted ca ioa plan file h = at-accepted (soughtOf ca ioa (planOf plan)) file h .0
+
 at-valid : (s : Sought) (file : List ℕ) → answerAt s file .number ≡ 0 → Valid (answerAt s file .content)
 at-valid s file h =
     let a = at-accepted s file h in

@@ -6,7 +6,7 @@ use Rattle.value_ask.specs.Values.{isFilled}
 use Rattle.report_brief.specs.Brief.{unitOf}
 use Rattle.layout.proofs.Labels.{labels-length}
 use Rattle.layout.specs.Fields.{command, technical, market}
-use Rattle.layout.specs.Layouts.{isMarket, fieldsOf, labelsOf, kindsOf, labelAt, kindAt, sizeOf}
+use Rattle.layout.specs.Layouts.{isMarket, fieldsOf, labelsOf, kindsOf, kindAt, sizeOf}
 use Rattle.layout.specs.declared.Layout.the-variants.{Market}
 use Rattle.layout.specs.declared.Layout.{Layout}
 use Rattle.text_lines.specs.Entries.{entries, valueAt, column}
@@ -22,12 +22,11 @@ use Rattle.times_sheet.specs.declared.Which.the-variants.{StartUp, Ramp}
 use Rattle.times_sheet.specs.declared.Which.{Which}
 use Rattle.text.proofs.Cuts.{length-part}
 use Rattle.text.specs.Bytes.{part}
-use Rattle.times.proofs.Fields.{field-holds}
+use Rattle.text_lines.specs.declared.Span.{Span}
+use Rattle.times.proofs.Fields.{time-holds}
 use Rattle.layout.proofs.Markets.{market-is}
 use Rattle.times.proofs.Taken.{Taken, taken, field-read, column-value}
-use Rattle.times.proofs.Told.{labelled}
-use Rattle.times.specs.Places.{fieldPart}
-use Rattle.times.specs.Times.{fieldNo, inFile, inSheet, timeIn, timeOf, partIn, timeRefusal}
+use Rattle.times.specs.Times.{fieldNo, timePlace, inFile, inSheet, timeIn, timeOf, partIn, timeRefusal}
 use Rattle.times.specs.declared.Time.the-variants.{File, Sheet, Refused}
 use Rattle.times.specs.declared.Time.{Time}
 use Rattle.value.specs.Kinds.{valueOf}
@@ -45,7 +44,7 @@ use native.Mathlib.Omega.{arith}
 -- ---- which way an answer came
 
 -- by the four tests: taken, market, a good sheet, filled
-chosen : Bool → Bool → Bool → Bool → Part → Part → ℕ → ℕ → Time
+chosen : Bool → Bool → Bool → Bool → Span → Part → ℕ → ℕ → Time
 chosen b m g f p q n d = cond b (cond m (cond g (cond f (inFile p) (inSheet q)) (Refused 14 0)) (Refused 16 0)) (Refused n d)
 
 apart-file : {n d from to : ℕ} → Refused n d ≡ File from to → ⊥
@@ -57,7 +56,7 @@ apart-sheet e = let z : _≡_ {A = ℕ} 0 1 = cc in omega arith
 apart-both : {from to a b : ℕ} → File from to ≡ Sheet a b → ⊥
 apart-both e = let z : _≡_ {A = ℕ} 0 1 = cc in omega arith
 
-by-file : (b m g f : Bool) (p q : Part) (n d from to : ℕ) → chosen b m g f p q n d ≡ File from to
+by-file : (b m g f : Bool) (p : Span) (q : Part) (n d from to : ℕ) → chosen b m g f p q n d ≡ File from to
     → (b ≡ true) × (m ≡ true) × (f ≡ true) × (p .from ≡ from) × (p .to ≡ to)
 unfolding chosen
 by-file true true true true p q n d from to e = (refl, refl, refl, cc, cc)
@@ -66,7 +65,7 @@ by-file true true false f p q n d from to e = absurd (apart-file e)
 by-file true false g f p q n d from to e = absurd (apart-file e)
 by-file false m g f p q n d from to e = absurd (apart-file e)
 
-by-sheet : (b m g f : Bool) (p q : Part) (n d from to : ℕ) → chosen b m g f p q n d ≡ Sheet from to
+by-sheet : (b m g f : Bool) (p : Span) (q : Part) (n d from to : ℕ) → chosen b m g f p q n d ≡ Sheet from to
     → (g ≡ true) × (f ≡ false) × (q .from ≡ from) × (q .to ≡ to)
 unfolding chosen
 by-sheet true true true true p q n d from to e = absurd (apart-both e)
@@ -76,7 +75,7 @@ by-sheet true false g f p q n d from to e = absurd (apart-sheet e)
 by-sheet false m g f p q n d from to e = absurd (apart-sheet e)
 
 -- a refusal has a number
-by-refusal : (b m g f : Bool) (p q : Part) (n d k j : ℕ) → (b ≡ false → n ≡ 0 → ⊥) → chosen b m g f p q n d ≡ Refused k j → (k ≡ 0 → ⊥)
+by-refusal : (b m g f : Bool) (p : Span) (q : Part) (n d k j : ℕ) → (b ≡ false → n ≡ 0 → ⊥) → chosen b m g f p q n d ≡ Refused k j → (k ≡ 0 → ⊥)
 unfolding chosen
 by-refusal true true true true p q n d k j h e = absurd (apart-file (sym e))
 by-refusal true true true false p q n d k j h e = absurd (apart-sheet (sym e))
@@ -85,7 +84,7 @@ by-refusal true false g f p q n d k j h e = let z : 16 ≡ k = cc in λ y. omega
 by-refusal false m g f p q n d k j h e = let z : n ≡ k = cc in λ y. h refl (z ∙ y)
 
 -- and it goes by the first three tests
-same-chosen : (b m g f h : Bool) (p q s t : Part) (n d : ℕ) → timeRefusal (chosen b m g f p q n d) ≡ timeRefusal (chosen b m g h s t n d)
+same-chosen : (b m g f h : Bool) (p : Span) (q : Part) (s : Span) (t : Part) (n d : ℕ) → timeRefusal (chosen b m g f p q n d) ≡ timeRefusal (chosen b m g h s t n d)
 unfolding chosen
 same-chosen true true true true true p q s t n d = refl
 same-chosen true true true true false p q s t n d = refl
@@ -143,7 +142,7 @@ module _ (w : Which) (ca ioa : ℕ) (plan file sheet : List ℕ) where
   abbrev time : Time
   time = timeOf w ca ioa plan file sheet
 
-  time-is : chosen (eqb (answer .number) 0) (isMarket (answer .content .layout)) (isFor (unitOf (answer .content)) sheet) (isFilled value) (fieldPart (labelAt Market (fieldNo w)) file) (sheetPart w sheet) (answer .number) (answer .detail) ≡ time
+  time-is : chosen (eqb (answer .number) 0) (isMarket (answer .content .layout)) (isFor (unitOf (answer .content)) sheet) (isFilled value) (timePlace w file) (sheetPart w sheet) (answer .number) (answer .detail) ≡ time
   unfolding chosen timeOf timeIn
   time-is = refl
 
@@ -153,7 +152,7 @@ module _ (w : Which) (ca ioa : ℕ) (plan file sheet : List ℕ) where
   in-file from to e =
       let c = by-file _ _ _ _ _ _ _ _ from to (time-is ∙ e) in
       let n = eqb-true (answer .number) 0 (c .0) in
-      let h = field-holds (fieldNo w) (labelled w) file in
+      let h = time-holds w file in
       let k : to ≤ length file = omega (arith, h .inside, c .4) in
       let text : part from to file ≡ valueAt (fieldNo w) (entries (labelsOf Market) (given file)) = ap₂ (λ (a b : ℕ). part a b file) (sym (c .3)) (sym (c .4)) ∙ h .holds in
       let read = ap (valueOf (kindAt Market (fieldNo w))) text ∙ time-read w answer file (taken ca ioa plan file n) (c .1) in

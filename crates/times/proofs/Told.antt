@@ -3,18 +3,18 @@ use Prim.Native.Nat.{ℕ, _≤_}
 use Rattle.value_ask.specs.Values.{isFilled}
 use Rattle.report_brief.specs.Brief.{unitOf}
 use Rattle.reader_fill.specs.Filled.{recordWith}
-use Rattle.layout.proofs.Labels.{good-label}
-use Rattle.layout.specs.Fields.{command, technical, market}
-use Rattle.layout.specs.Layouts.{isMarket, fieldsOf, labelAt}
+use Rattle.layout.specs.Layouts.{isMarket, labelsOf}
 use Rattle.layout.specs.Rows.{textAt}
-use Rattle.layout.specs.declared.Layout.the-variants.{Market}
+use Rattle.layout.specs.declared.Layout.{Layout}
 use Rattle.reader.proofs.Concluding.{concluded-no, concluded-yes}
 use Rattle.reader.specs.Messages.{given, layoutIn, columnRecord}
 use Rattle.reader.specs.Reader.{bodyColumn, recordIn, readOf}
 use Rattle.reader.specs.Refusals.{refused, accepted}
-use Rattle.reader.specs.State.{columnAt, Reads}
+use Rattle.reader.specs.Readings.{readingOf}
+use Rattle.reader.specs.State.{columnAt}
 use Rattle.reader.specs.declared.Answer.{Answer}
 use Rattle.reader.specs.declared.Reading.{Reading}
+use Rattle.reader_theorems.proofs.Readings.{Reads, reads-of}
 use Rattle.record.specs.Records.{fieldOf}
 use Rattle.record.specs.declared.Record.{Record}
 use Rattle.times_sheet.proofs.Sheets.{for-good, sheet-part}
@@ -23,16 +23,18 @@ use Rattle.times_sheet.specs.declared.Part.{Part}
 use Rattle.times_sheet.specs.declared.Which.the-variants.{StartUp, Ramp}
 use Rattle.times_sheet.specs.declared.Which.{Which}
 use Rattle.text.specs.Bytes.{part}
-use Rattle.times.proofs.Fields.{field-holds}
+use Rattle.text_lines.specs.Places.{spanAt}
+use Rattle.text_lines.specs.Spots.{placesIn}
+use Rattle.text_lines.specs.declared.Span.{Span}
+use Rattle.times.proofs.Fields.{time-holds}
 use Rattle.layout.proofs.Markets.{market-is}
 use Rattle.times.proofs.Taken.{Taken, taken}
 use Rattle.times.proofs.Time.{the-type}
 use Rattle.times.proofs.Units.{unit-is}
-use Rattle.times.specs.Places.{fieldPart}
-use Rattle.times.specs.Times.{fieldNo, inFile, inSheet, timeIn, timeOf, partIn, StandsIn, timeRefusal}
+use Rattle.times.specs.Times.{fieldNo, timePlace, inFile, inSheet, timeIn, timeOf, partIn, StandsIn, timeRefusal}
 use Rattle.times.specs.declared.Time.the-variants.{File, Sheet, Refused}
 use Rattle.times.specs.declared.Time.{Time}
-use borrow.Author.Tests.{leb-true, ne-eqb}
+use borrow.Author.Tests.{ne-eqb}
 use denote.Enum.Declared.{tagOf}
 use lib.Dec.{eqb}
 use lib.ListN.{length}
@@ -42,20 +44,12 @@ use mathlib.Core.Path.{_≡_, refl, sym, ap, _∙_, subst}
 use native.Mathlib.Omega.{arith}
 use types.Run.{OneOf, miss}
 
--- ---- the field
-
-pub field-within : (w : Which) (k : ℕ) → k ≡ fieldNo w → (1 ≤ k) × (k ≤ 26)
-field-within StartUp k e = (omega arith, omega arith)
-field-within Ramp k e = (omega arith, omega arith)
-
-pub labelled : (w : Which) → 1 ≤ length (labelAt Market (fieldNo w))
-unfolding fieldsOf market command technical
-labelled StartUp = good-label Market 13 (omega arith) (leb-true _ _ refl) .some
-labelled Ramp = good-label Market 14 (omega arith) (leb-true _ _ refl) .some
-
 -- ---- from what the reader judged
 
-module _ (w : Which) (ca ioa : ℕ) (plan file sheet : List ℕ) (x : Reading) (reads : Reads ca ioa plan file x) where
+module _ (w : Which) (ca ioa : ℕ) (plan file sheet : List ℕ) (x : Reading) (is : x ≡ readingOf ca ioa plan file) where
+  reads : Reads ca ioa plan file x
+  reads = reads-of ca ioa plan file x is
+
   abbrev time : Time
   time = timeOf w ca ioa plan file sheet
 
@@ -79,9 +73,6 @@ module _ (w : Which) (ca ioa : ℕ) (plan file sheet : List ℕ) (x : Reading) (
 
     was-taken : Taken (readOf ca ioa plan file) file
     was-taken = taken ca ioa plan file (sym (ap (λ (a : Answer). a .number) answer-is))
-
-    pub file-short : length file ≤ 8192
-    file-short = was-taken .agreed .not-long
 
     body-as : body ≡ columnRecord (layoutIn (was-taken .message) (given file)) (bodyColumn (was-taken .message) file)
     unfolding recordIn
@@ -114,10 +105,17 @@ module _ (w : Which) (ca ioa : ℕ) (plan file sheet : List ℕ) (x : Reading) (
           filled-is : f ≡ isFilled (fieldOf (x .cells) (fieldNo w))
           filled-is = filled ∙ ap (λ (n : ℕ). isFilled (fieldOf (x .cells) n)) field
 
-          pub in-file-told : f ≡ true → (p : Part) → p ≡ fieldPart (labelAt Market k) file → File (p .from) (p .to) ≡ time
+          -- the reader's place of the field
+          place-is : spanAt (x .places) k ≡ timePlace w file
+          place-is =
+              ap (spanAt (x .places)) field
+              ∙ ap (λ (ps : List Span). spanAt ps (fieldNo w))
+              (reads .places-are yes ∙ ap (λ (l : Layout). placesIn (labelsOf l) file) (market-is (x .layout) market-yes))
+
+          pub in-file-told : f ≡ true → File (spanAt (x .places) k .from) (spanAt (x .places) k .to) ≡ time
           unfolding timeIn recordWith
-          in-file-told y p e =
-              ap inFile (e ∙ ap (λ (n : ℕ). fieldPart (labelAt Market n) file) field)
+          in-file-told y =
+              ap inFile place-is
               ∙ rw (market-yes, good-yes, sym filled-is, y) at (from-answer (accepted body) answer-is)
 
           pub in-sheet-told : f ≡ false → (p : Part) → p ≡ sheetPart w sheet → Sheet (p .from) (p .to) ≡ time
@@ -159,8 +157,8 @@ time-in-within w a file sheet =
     (λ e.
     within-cond file sheet (isFor (unitOf (a .content)) sheet) _ (Refused 14 0)
     (λ g.
-    within-cond file sheet (isFilled (fieldOf (a .content .cells) (fieldNo w))) (inFile (fieldPart (labelAt Market (fieldNo w)) file)) (inSheet (sheetPart w sheet))
-    (λ e. let h = field-holds (fieldNo w) (labelled w) file in (h .ordered, h .inside))
+    within-cond file sheet (isFilled (fieldOf (a .content .cells) (fieldNo w))) (inFile (timePlace w file)) (inSheet (sheetPart w sheet))
+    (λ e. let h = time-holds w file in (h .ordered, h .inside))
     (λ e. let h = sheet-part sheet (for-good (unitOf (a .content)) sheet g) w in (omega (arith, h .ordered), h .inside)))
     (λ e. omega arith))
     (λ e. omega arith))

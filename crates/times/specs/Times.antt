@@ -5,7 +5,7 @@ use Prim.Native.Nat.{ℕ, _≤_}
 use Rattle.value_ask.specs.Values.{isFilled}
 use Rattle.report_brief.specs.Brief.{unitOf}
 use Rattle.layout.specs.FieldNumbers.{startUpNo, rampNo}
-use Rattle.layout.specs.Layouts.{isMarket, labelAt}
+use Rattle.layout.specs.Layouts.{isMarket, labelsOf}
 use Rattle.layout.specs.declared.Layout.the-variants.{Market}
 use Rattle.reader.specs.Reader.{readOf}
 use Rattle.reader.specs.declared.Answer.{Answer}
@@ -16,7 +16,9 @@ use Rattle.times_sheet.specs.declared.Which.the-variants.{StartUp, Ramp}
 use Rattle.times_sheet.specs.declared.Which.{Which}
 use Rattle.text.specs.Bytes.{part}
 use Rattle.text.specs.Said.{Said, said}
-use Rattle.times.specs.Places.{fieldPart}
+use Rattle.text_lines.specs.Places.{spanAt}
+use Rattle.text_lines.specs.Spots.{placesIn}
+use Rattle.text_lines.specs.declared.Span.{Span}
 use Rattle.times.specs.declared.Refusal.{Refusal}
 use Rattle.times.specs.declared.Time.the-variants.{File, Sheet, Refused}
 use Rattle.times.specs.declared.Time.{Time}
@@ -30,7 +32,11 @@ abbrev pub fieldNo : Which → ℕ
 fieldNo StartUp = startUpNo
 fieldNo Ramp = rampNo
 
-abbrev pub inFile : Part → Time
+-- where its value stands in a file: the reader's place of that field
+abbrev pub timePlace : Which → List ℕ → Span
+timePlace w file = spanAt (placesIn (labelsOf Market) file) (fieldNo w)
+
+abbrev pub inFile : Span → Time
 inFile p = File (p .from) (p .to)
 
 abbrev pub inSheet : Part → Time
@@ -42,7 +48,7 @@ timeIn w a file sheet =
     cond (eqb (a .number) 0)
     (cond (isMarket (a .content .layout))
     (cond (isFor (unitOf (a .content)) sheet)
-    (cond (isFilled (fieldOf (a .content .cells) (fieldNo w))) (inFile (fieldPart (labelAt Market (fieldNo w)) file)) (inSheet (sheetPart w sheet)))
+    (cond (isFilled (fieldOf (a .content .cells) (fieldNo w))) (inFile (timePlace w file)) (inSheet (sheetPart w sheet)))
     (Refused 14 0))
     (Refused 16 0))
     (Refused (a .number) (a .detail))

@@ -1,6 +1,4 @@
 // Start-up and ramp times: the part of the message file that holds the value or, where the message leaves it blank, that part of the unit sheet.
-mod place;
-
 use layout::fields;
 use times_sheet::Which;
 ghost use Rattle.times.specs.Times.{fieldNo, timeOf, partIn, StandsIn, timeRefusal};
@@ -48,8 +46,8 @@ pub fn locate(w: Which, ca: u32, ioa: u32, plan: &[u8], file: &[u8], sheet: &[u8
     let k = field_no(w);
     let cells = x.cells;
     if value_ask::is_filled(record::field(cells, k)) {
-        let p = place::of_field(k, file);
-        return Time::File(p.from, p.to);
+        let p = places[k];
+        return Time::File(p.from as usize, p.to as usize);
     }
     let p = times_sheet::time_part(w, sheet);
     Time::Sheet(p.from, p.to)
@@ -67,7 +65,7 @@ fn part_at<'a>(t: Time, file: &'a [u8], sheet: &'a [u8]) -> &'a [u8]
     }
 }
 
-// The start-up time.
+// The start-up time: a part of the file where the message has it, else of the sheet (which of the two, `locate` says).
 pub fn start_up<'a>(ca: u32, ioa: u32, plan: &[u8], file: &'a [u8], sheet: &'a [u8]) -> &'a [u8]
     ensures { λ r. ⌜ now r ≡ partIn (timeOf Which.StartUp ca ioa (now (plan .entry)) (now (file .entry)) (now (sheet .entry))) (now (file .entry)) (now (sheet .entry)) ⌝ }
 {
@@ -78,7 +76,7 @@ pub fn start_up<'a>(ca: u32, ioa: u32, plan: &[u8], file: &'a [u8], sheet: &'a [
     )
 }
 
-// The ramp time.
+// The ramp time, of the file or of the sheet likewise.
 pub fn ramp<'a>(ca: u32, ioa: u32, plan: &[u8], file: &'a [u8], sheet: &'a [u8]) -> &'a [u8]
     ensures { λ r. ⌜ now r ≡ partIn (timeOf Which.Ramp ca ioa (now (plan .entry)) (now (file .entry)) (now (sheet .entry))) (now (file .entry)) (now (sheet .entry)) ⌝ }
 {

@@ -13,11 +13,13 @@ use Rattle.value_name.specs.declared.MessageType.{MessageType}
 use Rattle.reader.proofs.Concluding.{concluded-yes}
 use Rattle.reader.specs.Messages.{valuesOf, goodOf, columnRecord}
 use Rattle.reader.specs.Reader.{readOf}
-use Rattle.reader.specs.State.{columnAt, Reads}
+use Rattle.reader.specs.Readings.{readingOf}
+use Rattle.reader.specs.State.{columnAt}
 use Rattle.reader.specs.declared.Answer.{Answer}
 use Rattle.reader.specs.declared.Reading.{Reading}
 use Rattle.reader_theorems.proofs.Held.{ReadAll, read-all}
 use Rattle.reader_theorems.proofs.Held.ReadAll.{end, next}
+use Rattle.reader_theorems.proofs.Readings.{Reads, reads-of}
 use Rattle.reader_theorems.proofs.Validity.{good-of, read-short}
 use Rattle.layout.specs.FieldNumbers.{reasonField, noteField, gradientsField}
 use Rattle.record.specs.Records.{cell, cellsOf, recordOf, typed}
@@ -97,7 +99,10 @@ module _ (l : Layout) (col : List (List ℕ)) (g : List Triple) (triples : g ≡
 
 -- ---- what was read of a file
 
-module _ (ca ioa : ℕ) (plan file : List ℕ) (x : Reading) (reads : Reads ca ioa plan file x) (yes : x .number ≡ 0) where
+module _ (ca ioa : ℕ) (plan file : List ℕ) (x : Reading) (is : x ≡ readingOf ca ioa plan file) (yes : x .number ≡ 0) where
+  reads : Reads ca ioa plan file x
+  reads = reads-of ca ioa plan file x is
+
   abbrev column : List (List ℕ)
   column = columnAt (x .layout) file (x .places)
 

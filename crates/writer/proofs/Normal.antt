@@ -8,10 +8,12 @@ use Rattle.reader.proofs.Concluding.{concluded-no, concluded-yes}
 use Rattle.reader.specs.Messages.{valuesOf, goodOf}
 use Rattle.reader.specs.Reader.{readOf}
 use Rattle.reader.specs.Refusals.{refused, accepted}
-use Rattle.reader.specs.State.{columnAt, Reads}
+use Rattle.reader.specs.Readings.{readingOf}
+use Rattle.reader.specs.State.{columnAt}
 use Rattle.reader.specs.declared.Answer.{Answer}
 use Rattle.reader.specs.declared.Reading.{Reading}
 use Rattle.reader_theorems.proofs.Held.{unit-short, reason-short, note-short}
+use Rattle.reader_theorems.proofs.Readings.{Reads, reads-of}
 use Rattle.reader_theorems.proofs.Validity.{good-of}
 use Rattle.layout.specs.FieldNumbers.{reasonField, noteField}
 use Rattle.record.specs.Records.{typed, roomsOf}
@@ -50,7 +52,10 @@ module _ (out : List ℕ) where
 
 -- ---- what was read of a file
 
-module _ (ca ioa : ℕ) (plan file : List ℕ) (x : Reading) (reads : Reads ca ioa plan file x) where
+module _ (ca ioa : ℕ) (plan file : List ℕ) (x : Reading) (is : x ≡ readingOf ca ioa plan file) where
+  reads : Reads ca ioa plan file x
+  reads = reads-of ca ioa plan file x is
+
   abbrev answer : Answer
   answer = readOf ca ioa plan file
 

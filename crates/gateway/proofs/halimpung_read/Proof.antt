@@ -5,6 +5,7 @@ use Rattle.report_brief.specs.Brief.{briefOf}
 use Rattle.gateway.proofs.Told.{small-refusal, refused-told, body, told-as, few-written, few-refused, written-told, no-room-told}
 use Rattle.gateway.proofs.halimpung_read.Statement.{statement}
 use Rattle.gateway.proofs.halimpung_read.Tie as tie
+use Rattle.reader.proofs.Readings.{placed-of}
 use Rattle.record.proofs.Rooms.{unit-in}
 use borrow.Author.Needs.{needs}
 use mathlib.Core.Path.{_≡_}
@@ -71,7 +72,7 @@ text-at-requires : tie.Need-text-at-requires
 text-at-requires c κs =
     let yes = c .before .before .before in
     let x = yes .before .judged in
-    (unit-in (x .result .layout), x .ensures .placed (yes .if1 .left))
+    (unit-in (x .result .layout), placed-of _ _ _ _ _ (x .ensures) (yes .if1 .left))
 
 keep-unit-requires : tie.Need-keep-unit-requires
 keep-unit-requires c κs = search needs

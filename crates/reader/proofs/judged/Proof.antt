@@ -3,8 +3,8 @@ use Prim.Native.Nat.{_-_, _<_}
 use Rattle.reader_fill.proofs.Steps.{start}
 use Rattle.layout.proofs.Labels.{few}
 use Rattle.layout.specs.Layouts.{sizeOf}
-use Rattle.reader.proofs.Concluding.{refused-reads}
-use Rattle.reader.proofs.Going.{Going, stopped, goes-on, all-read}
+use Rattle.reader.proofs.Concluding.{refused-located}
+use Rattle.reader.proofs.Going.{Going, stopped, goes-on, refused-last, all-read}
 use Rattle.reader.proofs.judged.Statement.{statement}
 use Rattle.reader.proofs.judged.Tie as tie
 use Rattle.record_rules.proofs.Steps.{in-market, in-ramps, in-exclusion, in-limitation, in-secondary, in-volt-var, in-reserve, in-others}
@@ -47,6 +47,9 @@ bad c = c .before .before
 abbrev ruled : tie.After-front Inv-loop μ-loop → tie.At-match2-came Inv-loop μ-loop
 ruled c = c .before .before .before
 
+abbrev verdict-at : tie.After-struct-known2 Inv-loop μ-loop → tie.After-judge Inv-loop μ-loop
+verdict-at c = c .before
+
 -- ---- what is known there
 
 -- the field k is one of the layout, and has a cell
@@ -78,7 +81,7 @@ broken-is c =
 -- ---- the ways through
 
 refused : tie.Need-returns Inv-loop μ-loop
-refused c = refused-reads _ _ _ _ _ (c .before .before .before .before .locate .ensures) (c .if1 .taken) _ _
+refused c = refused-located _ _ _ _ _ (c .before .before .before .before .locate .ensures) (c .if1 .taken)
 
 gradients-of-requires : tie.Need-gradients-of-requires Inv-loop μ-loop
 gradients-of-requires c κs = found c .locate .ensures .stands (c .if1 .left) .placed
@@ -86,13 +89,15 @@ gradients-of-requires c κs = found c .locate .ensures .stands (c .if1 .left) .p
 loop-holds : tie.Need-loop-holds Inv-loop μ-loop
 loop-holds c =
     let e = c .before .before .before .before in
-    let p = found e .locate .ensures .stands (e .if1 .left) .placed in
+    let h = found e .locate .ensures in
     record {
       layout-is = refl;
       row-is = refl;
       places-are = refl;
       triples-are = refl;
-      head = record { n-is = c .size .ensures; room = refl; placed = p; sofar = start _ _ };
+      number-is = e .if1 .left;
+      detail-is = h .exact (e .if1 .left) .0;
+      head = record { n-is = c .size .ensures; room = refl; placed = h .stands (e .if1 .left) .placed; sofar = start _ _ };
     }
 
 value-in-requires : tie.Need-value-in-requires Inv-loop μ-loop
@@ -103,11 +108,12 @@ value-in-requires c κs =
 
 bad-value : tie.Need-returns-2 Inv-loop μ-loop
 bad-value c =
-    let t = asked (bad c) in
+    let v = bad (c .before) in
+    let t = asked v in
     let l = t .before in
     let g = listed l in
     stopped _ _ _ _ _ (located l .locate .ensures) (g .before .if1 .left) _ (g .gradients-of .ensures) _ _ _ (l .loop .inv) (t .loop-test .taken)
-    _ (bad c .value-in .ensures) (c .enum-told .given .1)
+    _ (v .value-in .ensures) (c .before .enum-told .given .1) (c .unread .ensures)
 
 loop-again : tie.Need-loop-again Inv-loop μ-loop
 loop-again c =
@@ -123,13 +129,23 @@ judge-requires c κs =
     let s = located l .locate .ensures .stands (listed l .before .if1 .left) in
     (s .ordered, s .inside, s .placed)
 
-judged : tie.Need-returns-3 Inv-loop μ-loop
+last-refused : tie.Need-returns-3 Inv-loop μ-loop
+last-refused c =
+    let e = verdict-at (c .before .before) in
+    let m = ruled (e .before) in
+    let l = m .before .before in
+    let g = listed l in
+    refused-last _ _ _ _ _ (located l .locate .ensures) (g .before .if1 .left) _ (g .gradients-of .ensures) _ _ _ (l .loop .inv) (m .before .loop-test .left)
+    _ (broken-is m) _ (e .before .front .ensures) _ (e .judge .ensures) (c .before .if2 .taken) (c .unread2 .ensures)
+
+judged : tie.Need-returns-4 Inv-loop μ-loop
 judged c =
-    let m = ruled (c .before) in
+    let e = verdict-at (c .before) in
+    let m = ruled (e .before) in
     let l = m .before .before in
     let g = listed l in
     all-read _ _ _ _ _ (located l .locate .ensures) (g .before .if1 .left) _ (g .gradients-of .ensures) _ _ _ (l .loop .inv) (m .before .loop-test .left)
-    _ (broken-is m) _ (c .before .front .ensures) _ (c .judge .ensures)
+    _ (broken-is m) _ (e .before .front .ensures) _ (e .judge .ensures) (c .if2 .left)
 
 -- the cells that a rule asks for, and what is small beside these
 pub judged-spec : {M : Type 1} → statement M
@@ -151,6 +167,7 @@ judged-spec =
     (λ c. search needs)
     (λ c. search needs)
     (λ c. omega (arith, at-k (asked (bad c))))
+    (λ c κs. search needs)
     bad-value
     (λ c. omega (arith, at-k (asked (good c))))
     (λ c. omega (arith, at-k (asked (good c)), asked (good c) .before .loop .inv .head .room))
@@ -219,4 +236,6 @@ judged-spec =
     (λ c. sym (unit-room (located (c .before .before .before .before))))
     (λ c κs. search needs)
     judge-requires
+    (λ c κs. search needs)
+    last-refused
     judged)

@@ -3,6 +3,7 @@ use Prim.Native.Nat.{_+_, _-_, _≤_, _<_}
 use Rattle.layout.proofs.Labels.{few}
 use Rattle.text_lines.specs.Places.{spanAt, Placed, columnIn}
 use Rattle.layout.specs.Layouts.{sizeOf}
+use Rattle.reader.proofs.Readings.{placed-of}
 use Rattle.record.proofs.Rooms.{unit-in, reason-in, note-in}
 use Rattle.writer.proofs.Copied.{cells-room, copies, copied-end}
 use Rattle.writer.proofs.Looks.{Asking, start, turn, finish, of-layout, one-left, none-over}
@@ -74,7 +75,7 @@ small l = omega (arith, few (read l .judged .result .layout), sized l .size .ens
 placed : (l : tie.At-loop Inv-loop μ-loop) → Placed (sized l .size .result) (begun (read l) .args .file .now) (read l .judged .result .places)
 placed l =
     subst (λ n. Placed n (begun (read l) .args .file .now) (read l .judged .result .places)) (sym (sized l .size .ensures))
-    (read l .judged .ensures .placed (accepted l .if1 .left))
+    (placed-of _ _ _ _ _ (read l .judged .ensures) (accepted l .if1 .left))
 
 near : (c : tie.In-loop Inv-loop μ-loop) → c .before .loop .k < sized (c .before) .size .result
 near c = one-left (c .before .loop .written) (c .before .loop .k) (sized (c .before) .size .result) (c .loop-test .taken) .1
@@ -128,17 +129,17 @@ copied-returns c =
 unit-requires : tie.Need-text-at-requires Inv-loop μ-loop
 unit-requires c κs =
     let l = other c in
-    (unit-in (read l .judged .result .layout), read l .judged .ensures .placed (accepted l .if1 .left))
+    (unit-in (read l .judged .result .layout), placed-of _ _ _ _ _ (read l .judged .ensures) (accepted l .if1 .left))
 
 reason-requires : tie.Need-text-at-requires-2 Inv-loop μ-loop
 reason-requires c κs =
     let l = other (c .before .before) in
-    (omega (arith, reason-in (read l .judged .result .layout), c .reason-field .ensures), read l .judged .ensures .placed (accepted l .if1 .left))
+    (omega (arith, reason-in (read l .judged .result .layout), c .reason-field .ensures), placed-of _ _ _ _ _ (read l .judged .ensures) (accepted l .if1 .left))
 
 note-requires : tie.Need-text-at-requires-3 Inv-loop μ-loop
 note-requires c κs =
     let l = other (reasoned (c .before) .before) in
-    (omega (arith, note-in (read l .judged .result .layout), c .note-field .ensures), read l .judged .ensures .placed (accepted l .if1 .left))
+    (omega (arith, note-in (read l .judged .result .layout), c .note-field .ensures), placed-of _ _ _ _ _ (read l .judged .ensures) (accepted l .if1 .left))
 
 put-file-requires : tie.Need-put-file-requires Inv-loop μ-loop
 put-file-requires c κs =
