@@ -7,7 +7,7 @@ use Rattle.layout.specs.declared.Layout.{Layout}
 use Rattle.plan.specs.Plans.{planOf, soughtOf}
 use Rattle.reader.proofs.Readings.{taken, reading-no, reading-yes, content-is, layout-is, column-is, record-is, answers-of, placed-of}
 use Rattle.reader.specs.Messages.{given, rowIn, layoutIn, valuesOf, isBad, columnRecord}
-use Rattle.reader.specs.Reader.{bodyColumn, readOf}
+use Rattle.reader.specs.Reader.{bodyColumn, unitIn, readOf}
 use Rattle.reader.specs.Readings.{readingOf}
 use Rattle.reader.specs.State.{columnAt, concluded}
 use Rattle.reader.specs.declared.Reading.{Reading}
@@ -59,7 +59,7 @@ module _ (c i : ℕ) (plan file : List ℕ) (x : Reading) (is : x ≡ readingOf 
     places-here : x .places ≡ placesIn (labelsOf (x .layout)) file
     places-here = ap (λ (y : Reading). y .places) taken-is ∙ ap (λ (y : Reading). placesIn (labelsOf (y .layout)) file) (sym taken-is)
 
-    told : Accepted (soughtOf c i (planOf plan) .message) _ file
+    told : Accepted (soughtOf c i (planOf plan) .message) (unitIn (soughtOf c i (planOf plan))) file
     told = read-accepted c i plan file z
 
     layout-here : x .layout ≡ layoutIn (soughtOf c i (planOf plan) .message) (given file)

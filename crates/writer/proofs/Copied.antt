@@ -161,7 +161,7 @@ module _ (ca ioa : ℕ) (plan file : List ℕ) (x : Reading) (is : x ≡ reading
 
     message-fits : length (messageText (x .layout) texts (x .cells)) ≤ 8192
     message-fits =
-        message-small (x .layout) texts (x .cells) (taken-held ca ioa plan file x reads yes _ _ _ _ _ refl refl refl refl refl .hold)
+        message-small (x .layout) texts (x .cells) (taken-held ca ioa plan file x is yes _ _ _ _ _ refl refl refl refl refl .hold)
 
     accepts : readOf ca ioa plan file .number ≡ 0
     accepts = sym (ap (λ (a : Answer). a .number) (concluded-yes file x yes ∙ reads .answers))
@@ -177,4 +177,4 @@ module _ (ca ioa : ℕ) (plan file : List ℕ) (x : Reading) (is : x ≡ reading
 
     pub copied-end : (out : List ℕ) (w : Written) (m : List ℕ) → Put (writtenOf (x .layout) column) out w m → Normal out (readOf ca ioa plan file) w m
     copied-end out w m p =
-        taken-end ca ioa plan file x reads yes _ _ _ _ _ refl refl refl refl refl out w m (subst (λ (t : List ℕ). Put t out w m) (sym message-own) p)
+        taken-end ca ioa plan file x is yes _ _ _ _ _ refl refl refl refl refl out w m (subst (λ (t : List ℕ). Put t out w m) (sym message-own) p)
