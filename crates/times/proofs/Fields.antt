@@ -22,7 +22,7 @@ field-within StartUp k e = (omega arith, omega arith)
 field-within Ramp k e = (omega arith, omega arith)
 
 in-labels : (w : Which) → fieldNo w ≤ length (labelsOf Market)
-unfolding fieldsOf market command technical
+unfolding labelsOf fieldsOf market command technical
 in-labels StartUp = leb-true _ _ refl
 in-labels Ramp = leb-true _ _ refl
 
