@@ -182,6 +182,7 @@ within =
       book-order-is-empty = (λ κs a. tt, λ κs a. equation _);
       book-order-could-come = (λ κs a. tt, λ κs a. equation _);
       reader-refuse = (λ κs a. tt, λ κs a. equation _);
+      reader-judged = (λ κs a. tt, λ κs a. equation _);
       report-put-record = λ κs a. equations _ _ _;
       report-put-refusal = λ κs a. equations _ _ _;
       report-put-answer = λ κs a. equations _ _ _;
@@ -192,7 +193,6 @@ within =
       writer-message-put-message = λ κs a. equations _ _ _;
       value-fits-own = value_fits.Unique.within;
       record-check-own = record-check.Unique.within;
-      times-own = times.Unique.within;
       book-own = book.Unique.within;
     }
 

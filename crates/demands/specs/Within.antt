@@ -1,7 +1,5 @@
 -- The functions that are public because crates above or files beside them call them: one answer at most satisfies the contract of each. What some ask is
 -- in docs/DESIGN.md, D10; the others ask nothing (`Answers`, `Writes`, `Lends`).
--- Not here is `reader::judged`, whose contract leaves open what it hands out on a refusal and where a value stands, since no answer of the reader depends on
--- it (reader/specs/State.antt).
 use Rattle.plan_row.proofs as plan_row
 use Rattle.value_ask.proofs as value_ask
 use Rattle.layout_banner.proofs as layout_banner
@@ -37,7 +35,6 @@ use Rattle.record_voltvar.proofs as record-voltvar
 use Rattle.value_word.proofs as value_word
 use Rattle.book.proofs as book
 use Rattle.record_check.proofs as record-check
-use Rattle.times.proofs as times
 
 pub record Within : Type 0 where
   -- text
@@ -180,6 +177,7 @@ pub record Within : Type 0 where
   pub book-order-could-come : Answers book_order.could_come.ended book_order.could_come.Reads.Asked book_order.could_come.Reads.Learnt
   -- reader
   pub reader-refuse : Answers reader.refuse.ended reader.refuse.Reads.Asked reader.refuse.Reads.Learnt
+  pub reader-judged : Answers reader.judged.ended reader.judged.Reads.Asked reader.judged.Reads.Learnt
   -- report
   pub report-put-record : OneOutput report.put_record.ended (λ κs e. e .0 .now) report.put_record.Reads.Learnt
   pub report-put-refusal : OneOutput report.put_refusal.ended (λ κs e. e .0 .now) report.put_refusal.Reads.Learnt
@@ -195,5 +193,4 @@ pub record Within : Type 0 where
   -- those that are public to the files of their own crate alone, which has their list and its proof
   pub value-fits-own : value_fits.Unique.Within
   pub record-check-own : record-check.Unique.Within
-  pub times-own : times.Unique.Within
   pub book-own : book.Unique.Within
