@@ -5,6 +5,7 @@ use record::Cell;
 use record::Record;
 use text_lines::Span;
 use value_list::Triple;
+use writer_message::put_message;
 ghost use Rattle.layout.specs.Layouts.{sizeOf};
 ghost use Rattle.text_lines.specs.Places.{Placed, columnIn};
 ghost use Rattle.reader.specs.Reader.{readOf};
@@ -40,40 +41,15 @@ fn put_file(
 {
     let room = out.len();
     if 8192 <= room {
-        return Written::Length(writer_message::put_message(
-            out,
-            0,
-            l,
-            cells,
-            unit,
-            reason,
-            note,
-            gradients,
-        ));
+        let whole = put_message(out, 0, l, cells, unit, reason, note, gradients);
+        return Written::Length(whole);
     }
-    let size = writer_message::put_message(
-        &mut out[0..0],
-        0,
-        l,
-        cells,
-        unit,
-        reason,
-        note,
-        gradients,
-    );
-    if room < size {
-        return Written::Refused(11, size);
+    let len = put_message(&mut out[0..0], 0, l, cells, unit, reason, note, gradients);
+    if room < len {
+        return Written::Refused(11, len);
     }
-    Written::Length(writer_message::put_message(
-        &mut out[0..size],
-        0,
-        l,
-        cells,
-        unit,
-        reason,
-        note,
-        gradients,
-    ))
+    let put = put_message(&mut out[0..len], 0, l, cells, unit, reason, note, gradients);
+    Written::Length(put)
 }
 
 // The same of a file whose texts can be put as they stand.
