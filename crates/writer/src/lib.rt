@@ -10,7 +10,7 @@ ghost use Rattle.layout.specs.Layouts.{sizeOf};
 ghost use Rattle.text_lines.specs.Places.{Placed, columnIn};
 ghost use Rattle.reader.specs.Reader.{readOf};
 ghost use Rattle.text.specs.Puts.{bufferOf};
-ghost use Rattle.value.specs.Texts.{rooms};
+ghost use Rattle.value.specs.Texts.{rooms, lentRooms};
 ghost use Rattle.writer.specs.Copied.{allWritten, Copies};
 ghost use Rattle.writer.specs.Writer.{fitted, writeOf, leftBy, normaliseOf, normalLeft};
 ghost use Rattle.writer_form.specs.Held.{Held};
@@ -36,8 +36,8 @@ fn put_file(
     out: &mut [u8],
 ) -> Written
     requires { ⌜ Held l (rooms (now unit) (now reason) (now note) gradients) cells ⌝ }
-    ensures { λ w. ⌜ (w ≡ fitted (messageText l (rooms (now (unit .entry)) (now (reason .entry)) (now (note .entry)) gradients) cells) (length (now (out .entry))))
-        × (now (out .exit) ≡ bufferOf (now (out .entry)) 0 (messageText l (rooms (now (unit .entry)) (now (reason .entry)) (now (note .entry)) gradients) cells)) ⌝ }
+    ensures { λ w. ⌜ (w ≡ fitted (messageText l (lentRooms unit reason note gradients) cells) (length (now (out .entry))))
+        × (now (out .exit) ≡ bufferOf (now (out .entry)) 0 (messageText l (lentRooms unit reason note gradients) cells)) ⌝ }
 {
     let room = out.len();
     if 8192 <= room {
