@@ -6,10 +6,11 @@ use Rattle.layout.specs.FieldNumbers.{originNo, updateNo, h1No, h2No, h3
 use Rattle.layout.specs.FieldNumbers.{tfin1No, tini2No, tfin2No, mfrrVariationNo, tipoComandoNo, sequenceNo, readmissionNo}
 use Rattle.layout.specs.FieldNumbers.{maximumNo, minimumNo, reinstatementNo, operationNo, halfBandsNo}
 use Rattle.layout.specs.FieldNumbers.{stateNo, modeNo, regulationNo, voltageNo, regulatorNo, changeNo, reactiveNo, powerNo, extentNo}
-use Rattle.layout.specs.Fields.{command, technical, market, mfrr, rc, eb, lb, sr, vq, qr}
+use Rattle.layout.specs.FieldNumbers.{reasonField, noteField}
+use Rattle.layout.specs.Fields.{command, technical, market, mfrr, rc, mg, eb, lb, sr, vq, ri, qr}
 use Rattle.layout.specs.Layouts.{fieldsOf, labelsOf, labelAt}
 use Rattle.layout.specs.declared.Layout.{Layout}
-use Rattle.layout.specs.declared.Layout.the-variants.{Market, Mfrr, Revocation, Exclusion, Limitation, Secondary, VoltVar, Reserve}
+use Rattle.layout.specs.declared.Layout.the-variants.{Market, Mfrr, Revocation, Generic, Exclusion, Limitation, Secondary, VoltVar, Rejection, Reserve}
 use Rattle.text.specs.Bytes.{bytes}
 use mathlib.Core.Path.{_≡_, refl}
 
@@ -74,3 +75,23 @@ pub settings-named :
     × Labels Reserve extentNo "Quantita Riservata"
 unfolding labelAt labelsOf fieldsOf sr vq qr
 settings-named = (refl, refl, refl, refl, refl, refl, refl, refl, refl, refl, refl)
+
+pub reasons-named :
+    Labels Generic (reasonField Generic) "Motivazione"
+    × Labels Exclusion (reasonField Exclusion) "Motivazione"
+    × Labels Limitation (reasonField Limitation) "Motivazione"
+    × Labels Secondary (reasonField Secondary) "Motivazione"
+    × Labels Rejection (reasonField Rejection) "Motivazione"
+unfolding labelAt labelsOf fieldsOf mg eb lb sr ri
+reasons-named = (refl, refl, refl, refl, refl)
+
+pub notes-named :
+    Labels Generic (noteField Generic) "Note"
+    × Labels Exclusion (noteField Exclusion) "Note"
+    × Labels Limitation (noteField Limitation) "Note"
+    × Labels Secondary (noteField Secondary) "Note"
+    × Labels VoltVar (noteField VoltVar) "Note"
+    × Labels Rejection (noteField Rejection) "Note"
+    × Labels Reserve (noteField Reserve) "Note"
+unfolding labelAt labelsOf fieldsOf mg eb lb sr vq ri qr
+notes-named = (refl, refl, refl, refl, refl, refl, refl)

@@ -138,7 +138,7 @@ powerNo = 6
 abbrev pub extentNo : ℕ
 extentNo = 7
 
--- ---- what several layouts have, each at a place of its own: 0 where the layout has none
+-- ---- what several layouts have, each at a place of its own: 0 where the layout has none. Reasons and notes have no other name than these tables.
 
 abbrev pub endField : Layout → ℕ
 endField Market = endNo

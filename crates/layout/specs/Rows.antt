@@ -1,22 +1,22 @@
 -- The summary row. Document 01, "The summary row": the body's trimmed values in the order listed by Annex A.34, 2.3 to 2.11, joined by `;` (59).
 -- SR's halves are trimmed and stand as two; blank half-bands give two empty values. LB lists the minimum first, the body the maximum.
 use Prim.Native.Nat.{ℕ}
-use Rattle.layout.specs.FieldNumbers.{halfBandsNo}
+use Rattle.layout.specs.FieldNumbers.{identifierNo, unitNo, startNo, endNo, readmissionNo, maximumNo, minimumNo, reinstatementNo, halfBandsNo}
 use Rattle.layout.specs.declared.Layout.{Layout}
 use Rattle.layout.specs.declared.Layout.the-variants.{Market, Mfrr, Revocation, Generic, Exclusion, Limitation, Secondary, VoltVar, Rejection, Reserve}
 use Rattle.text.specs.Bytes.{is, upto, past, trim}
 use lib.ListN.{getD}
 use mathlib.Core.List.{List, [], _∷_, _++_, map}
 
--- the fields whose values stand in the row, before SR's halves
+-- the fields whose values stand in the row, before SR's halves: by number where they are the body's first in its order, and else by name
 unfoldable pub rowFields : Layout → List ℕ
 rowFields Market =
     1 ∷ 2 ∷ 3 ∷ 4 ∷ 5 ∷ 6 ∷ 7 ∷ 8 ∷ 9 ∷ 10 ∷ 11 ∷ 12 ∷ 13 ∷ 14 ∷ 15 ∷ 16 ∷ 17 ∷ 18 ∷ 19 ∷ 20 ∷ 21 ∷ 22 ∷ 23 ∷ 24 ∷ 25 ∷ 26 ∷ []
 rowFields Mfrr = 1 ∷ 2 ∷ 3 ∷ 4 ∷ 5 ∷ 6 ∷ 7 ∷ 8 ∷ 9 ∷ 10 ∷ 11 ∷ 12 ∷ []
 rowFields Revocation = 1 ∷ 2 ∷ 3 ∷ 4 ∷ 5 ∷ []
 rowFields Generic = 1 ∷ 2 ∷ 3 ∷ 4 ∷ 5 ∷ []
-rowFields Exclusion = 1 ∷ 2 ∷ 3 ∷ 4 ∷ 7 ∷ []
-rowFields Limitation = 1 ∷ 2 ∷ 3 ∷ 4 ∷ 6 ∷ 5 ∷ 9 ∷ []
+rowFields Exclusion = identifierNo ∷ unitNo ∷ startNo ∷ endNo ∷ readmissionNo ∷ []
+rowFields Limitation = identifierNo ∷ unitNo ∷ startNo ∷ endNo ∷ minimumNo ∷ maximumNo ∷ reinstatementNo ∷ []
 rowFields Secondary = 1 ∷ 2 ∷ 3 ∷ 4 ∷ 5 ∷ []
 rowFields VoltVar = 1 ∷ 2 ∷ 3 ∷ 4 ∷ 5 ∷ 6 ∷ 7 ∷ 8 ∷ 9 ∷ 10 ∷ 11 ∷ 12 ∷ 13 ∷ []
 rowFields Rejection = 1 ∷ 2 ∷ 3 ∷ 4 ∷ []

@@ -1,5 +1,6 @@
 // Which fields stand in the summary row, and in which order.
 use crate::Layout;
+use crate::fields;
 ghost use Prim.Native.Nat.{_<_};
 ghost use Rattle.layout.specs.Rows.{rowFields};
 ghost use lib.ListN.{length, getD};
@@ -40,7 +41,7 @@ fn exclusion_field(i: usize) -> usize
     ensures { λ r. ⌜ r ≡ getD (rowFields Layout.Exclusion) i 0 ⌝ }
 {
     match i {
-        4 => 7,
+        4 => fields::READMISSION,
         _ => i + 1,
     }
 }
@@ -51,9 +52,9 @@ fn limitation_field(i: usize) -> usize
     ensures { λ r. ⌜ r ≡ getD (rowFields Layout.Limitation) i 0 ⌝ }
 {
     match i {
-        4 => 6,
-        5 => 5,
-        6 => 9,
+        4 => fields::MINIMUM,
+        5 => fields::MAXIMUM,
+        6 => fields::REINSTATEMENT,
         _ => i + 1,
     }
 }

@@ -1,4 +1,4 @@
-// What each field of a layout may hold, and whether a blank may stand.
+// What each field of a layout may hold, and whether a blank may stand. The arms are the fields in printed order, so they go by number.
 use layout::Layout;
 use value::Kind;
 use value::Shape;

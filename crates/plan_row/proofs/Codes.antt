@@ -16,7 +16,7 @@ use Rattle.value_name.specs.declared.MessageType.{MessageType}
 use Rattle.text.proofs.Cuts.{drop-step, any-seam, same-lengths}
 use Rattle.text.proofs.Tests.{by-test, by-eq}
 use Rattle.text.specs.Bytes.{bytes, same, starts, is, any, upto, firstOf}
-use borrow.Author.Tests.{eqb-true, ne-eqb}
+use borrow.Author.Tests.{eqb-true, eq-eqb, ne-eqb}
 use lib.Dec.{eqb}
 use lib.ListN.{length, getD, drop, length-drop}
 use lib.Seq.{drop-cons, getD-drop}
@@ -41,14 +41,12 @@ module _ (a b : ℕ) where
   pub code-is : (x y : ℕ) (t : MessageType) → a ≡ x → b ≡ y → Is t ≡ typeReadOf (typeFrom types (x ∷ y ∷ [])) → Is t ≡ read
   code-is x y t e f g = rw (e, f) g
 
-  -- the only code that begins with x ends with y
-  pub code-not : (x y : ℕ) → a ≡ x → (b ≡ y → ⊥) → ((z : ℕ) → eqb y z ≡ false → typeFrom types (x ∷ z ∷ []) ≡ none) → Not ≡ read
-  code-not x y e n only = rw (e, only b (ne-eqb y b (λ h. n (sym h))))
-
-  -- the only two end with y and with w
-  pub code-neither : (x y w : ℕ) → a ≡ x → (b ≡ y → ⊥) → (b ≡ w → ⊥)
-      → ((z : ℕ) → eqb y z ≡ false → eqb w z ≡ false → typeFrom types (x ∷ z ∷ []) ≡ none) → Not ≡ read
-  code-neither x y w e n m only = rw (e, only b (ne-eqb y b (λ h. n (sym h))) (ne-eqb w b (λ h. m (sym h))))
+  -- the only code that begins with x, or the only one that is left, ends with y
+  pub code-one : (x y : ℕ) (t : MessageType) {r : TypeRead} → a ≡ x → typeFrom types (x ∷ b ∷ []) ≡ cond (eqb y b && true) (some t) none
+      → r ≡ typeReadOf (cond (eqb b y) (some t) none) → r ≡ read
+  code-one x y t e only q =
+      by-eq b y (λ h. q ∙ rw (e, only, eq-eqb b y h, eq-eqb y b (sym h)))
+      (λ n. q ∙ rw (e, only, ne-eqb b y n, ne-eqb y b (λ h. n (sym h))))
 
   pub no-code : None (86 ∷ 83 ∷ 82 ∷ 81 ∷ 77 ∷ 76 ∷ 69 ∷ 67 ∷ []) a → Not ≡ read
   unfolding typeFrom same

@@ -10,8 +10,9 @@ ghost use Rattle.plan_row.specs.Rows.{types, typeFrom, typeAt, planRowOf
 ghost use Rattle.text_keyline.specs.Keylines.{numberAt};
 ghost use Rattle.text.specs.Bytes.{any, is};
 ghost use lib.Dec.{ltb};
-ghost use mathlib.Core.Bool.{false};
+ghost use mathlib.Core.Bool.{false, cond};
 ghost use mathlib.Core.List.{[], _∷_};
+ghost use mathlib.Core.Option.{none, some};
 ghost use mathlib.Core.Path.{_≡_};
 
 pub enum TypeRead {
@@ -136,53 +137,33 @@ fn unit_line(s: &[u8]) -> Named
     Named::To(e)
 }
 
+// The type, if the second byte of its code fits.
+fn type_if(fits: bool, t: MessageType) -> TypeRead
+    ensures { λ r. ⌜ r ≡ typeReadOf (cond fits (some t) none) ⌝ }
+{
+    if fits {
+        return TypeRead::Is(t);
+    }
+    TypeRead::Not
+}
+
 // The type whose code two bytes are.
 fn type_of(a: u8, b: u8) -> TypeRead
     ensures { λ r. ⌜ r ≡ typeReadOf (typeFrom types (a ∷ b ∷ [])) ⌝ }
 {
     match a {
-        b'C' => if b == b'B' {
-            TypeRead::Is(MessageType::Cb)
-        } else {
-            TypeRead::Not
-        },
-        b'E' => if b == b'B' {
-            TypeRead::Is(MessageType::Eb)
-        } else {
-            TypeRead::Not
-        },
-        b'L' => if b == b'B' {
-            TypeRead::Is(MessageType::Lb)
-        } else {
-            TypeRead::Not
-        },
-        b'M' => if b == b'G' {
-            TypeRead::Is(MessageType::Mg)
-        } else {
-            TypeRead::Not
-        },
-        b'Q' => if b == b'R' {
-            TypeRead::Is(MessageType::Qr)
-        } else {
-            TypeRead::Not
-        },
+        b'C' => type_if(b == b'B', MessageType::Cb),
+        b'E' => type_if(b == b'B', MessageType::Eb),
+        b'L' => type_if(b == b'B', MessageType::Lb),
+        b'M' => type_if(b == b'G', MessageType::Mg),
+        b'Q' => type_if(b == b'R', MessageType::Qr),
         b'R' => if b == b'C' {
             TypeRead::Is(MessageType::Rc)
-        } else if b == b'I' {
-            TypeRead::Is(MessageType::Ri)
         } else {
-            TypeRead::Not
+            type_if(b == b'I', MessageType::Ri)
         },
-        b'S' => if b == b'R' {
-            TypeRead::Is(MessageType::Sr)
-        } else {
-            TypeRead::Not
-        },
-        b'V' => if b == b'Q' {
-            TypeRead::Is(MessageType::Vq)
-        } else {
-            TypeRead::Not
-        },
+        b'S' => type_if(b == b'R', MessageType::Sr),
+        b'V' => type_if(b == b'Q', MessageType::Vq),
         _ => TypeRead::Not,
     }
 }

@@ -183,13 +183,11 @@ fn head_at(l: Layout, k: usize, s: &[u8]) -> usize
     if is_printed(l, k, s) {
         return 37;
     }
-    if s[0] < b'A' {
-        return 0;
+    let b = s[0];
+    match b {
+        b'A'..=b'Z' => head(l, k, s),
+        _ => 0,
     }
-    if b'Z' < s[0] {
-        return 0;
-    }
-    head(l, k, s)
 }
 
 // The line below one separator: a separator, or the row.

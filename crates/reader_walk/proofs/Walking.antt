@@ -18,16 +18,16 @@ use Rattle.text.specs.Bytes.{part, trim, upto}
 use Rattle.text.specs.Lists.{count, onto, sift}
 use Rattle.reader_walk.proofs.Fields.{IsNumber, Kept, seen-small, marks-are}
 use Rattle.reader_walk.proofs.Line.{frame-seps, frame-inside, first-few, second-few, Walked, walked-line}
-use Rattle.reader_walk.specs.State.{notedOf, frame, frameOf, noMarks, marksOf, frameIn, wholeOf, stoppedAt, foundOf}
+use Rattle.reader_walk.specs.State.{notedOf, frame, frameOf, noMarks, marksOf, frameIn, wholeOf, handedOf, foundOf}
 use Rattle.reader_walk.specs.declared.Found.{Found}
 use Rattle.reader_walk.specs.declared.Frame.{Frame}
 use Rattle.reader_walk.specs.declared.Marks.{Marks}
 use Rattle.reader_walk.specs.declared.Noted.{Noted}
-use borrow.Author.Tests.{eq-eqb, ne-eqb}
-use lib.Dec.{eqb}
+use borrow.Author.Tests.{eq-eqb, ne-eqb, lt-ltb, le-ltb}
+use lib.Dec.{eqb, ltb}
 use lib.ListN.{length, getD, set, replicate, take, drop, length-drop, length-set, drop-of-length-le}
 use lib.Seq.{drop-drop, getD-set-same, getD-set-other}
-use mathlib.Core.Bool.{Bool, cond}
+use mathlib.Core.Bool.{Bool, false, cond}
 use mathlib.Core.List.{List, [], _∷_, _++_, map, append-assoc, append-nil}
 use mathlib.Core.Option.{Option, none, some}
 use mathlib.Core.Path.{_≡_, refl, sym, ap, ap₂, _∙_}
@@ -229,11 +229,7 @@ module _ (t : MessageType) (s : List ℕ) (at : ℕ) (f : Frame) (m : Marks) (sp
 
   -- ---- the two ends
 
-  -- what is handed out, with the first of the places set back
-  abbrev handed : ℕ → Frame → Marks → List Span → Marks → List Span → Found
-  handed stop g a ps b os = record { stop = stop; frame = g; first = a; places = set ps 0 noSpan; second = b; others = set os 0 noSpan }
-
-  -- a byte that is not allowed: all is set back
+  -- a byte that is not allowed: nothing is handed out
   module _ (end : ℕ) (h : at < length s) (e : end ≡ at + plainRun (drop at s)) (g : Bad ≡ breakOf (drop end s)) where
     bad : breakOf (drop (plainRun (drop at s)) (drop at s)) ≡ Bad
     bad = left s at end h e ∙ sym g
@@ -241,12 +237,11 @@ module _ (t : MessageType) (s : List ℕ) (at : ℕ) (f : Frame) (m : Marks) (sp
     pub stop-less : end < length s
     stop-less = omega (arith, stop-length (drop at s) bad, length-drop at s)
 
-    pub stop : (n : ℕ) {k : Frame} {a b : Marks} {ps os : List Span} → n ≡ end → k ≡ frame 0 0 noSpan → a ≡ noMarks → b ≡ noMarks
-        → ps ≡ replicate 27 noSpan → os ≡ replicate 27 noSpan → handed n k a ps b os ≡ foundOf t s
+    pub stop : (n : ℕ) {r : Found} → n ≡ end → r ≡ handedOf (ltb n (length s)) n f m spans o others → r ≡ foundOf t s
     unfolding foundOf
-    stop n n-is k-is a-is b-is ps-are os-are =
+    stop n n-is r-is =
         let here : allowedUpto s ≡ end = omega (arith, w .allowed, allowed-stop (drop at s) bad) in
-        rw (n-is, k-is, a-is, b-is, ps-are, os-are, here, ne-eqb end (length s) (λ z. omega (arith, z, stop-less)))
+        r-is ∙ rw (n-is, lt-ltb end (length s) stop-less, here, ne-eqb end (length s) (λ z. omega (arith, z, stop-less)))
 
   -- the file's end
   module _ (over : length s ≤ at) where
@@ -280,7 +275,7 @@ module _ (t : MessageType) (s : List ℕ) (at : ℕ) (f : Frame) (m : Marks) (sp
     unfolding allowedUpto
     clean = let b : allowedUpto s ≡ at + 0 = rw (drop-of-length-le s over) at (w .allowed) in omega (arith, w .near)
 
-    whole : handed at f m spans o others ≡ wholeOf t s
+    whole : handedOf false at f m spans o others ≡ wholeOf t s
     whole =
         let size : at ≡ length s = omega (arith, w .near) in
         rw (
@@ -292,8 +287,6 @@ module _ (t : MessageType) (s : List ℕ) (at : ℕ) (f : Frame) (m : Marks) (sp
           places-are (secondLabels t) o others (w .walked .second),
         )
 
-    pub finish : (n : ℕ) {k : Frame} {a b : Marks} {ps os : List Span} → n ≡ at → k ≡ f → a ≡ m → b ≡ o → ps ≡ spans → os ≡ others
-        → handed n k a ps b os ≡ foundOf t s
+    pub finish : (n : ℕ) {r : Found} → n ≡ at → r ≡ handedOf (ltb n (length s)) n f m spans o others → r ≡ foundOf t s
     unfolding foundOf
-    finish n n-is k-is a-is b-is ps-are os-are =
-        rw (n-is, k-is, a-is, b-is, ps-are, os-are, eq-eqb (allowedUpto s) (length s) clean) whole
+    finish n n-is r-is = r-is ∙ rw (n-is, le-ltb at (length s) over, eq-eqb (allowedUpto s) (length s) clean) whole

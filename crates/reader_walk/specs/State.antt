@@ -13,8 +13,8 @@ use Rattle.reader_walk.specs.declared.Frame.{Frame}
 use Rattle.reader_walk.specs.declared.Marks.{Marks}
 use Rattle.reader_walk.specs.declared.Noted.{Noted}
 use lib.Dec.{eqb}
-use lib.ListN.{length, replicate}
-use mathlib.Core.Bool.{Bool, cond}
+use lib.ListN.{length, replicate, set}
+use mathlib.Core.Bool.{Bool, true, false, cond}
 use mathlib.Core.List.{List, []}
 use mathlib.Core.Option.{Option, none, some}
 
@@ -86,6 +86,11 @@ stoppedAt n =
       second = noMarks;
       others = replicate 27 noSpan;
     }
+
+-- what the code hands out of what it kept: nothing where it stopped, and else all, with nobody's place set back
+abbrev pub handedOf : Bool → ℕ → Frame → Marks → List Span → Marks → List Span → Found
+handedOf true n f a ps b os = stoppedAt n
+handedOf false n f a ps b os = record { stop = n; frame = f; first = a; places = set ps 0 noSpan; second = b; others = set os 0 noSpan }
 
 -- THE DEFINITION
 unfoldable pub foundOf : MessageType → List ℕ → Found

@@ -4,7 +4,7 @@ use text_lines::Break;
 use text_lines::Span;
 use value_name::MessageType;
 ghost use Prim.Native.Nat.{_+_, _<_, _≤_};
-ghost use Rattle.reader_walk.specs.State.{notedOf, frameOf, foundOf};
+ghost use Rattle.reader_walk.specs.State.{notedOf, frameOf, handedOf, foundOf};
 ghost use Rattle.text.specs.Puts.{limit};
 ghost use lib.Dec.{eqb};
 ghost use lib.ListN.{length};
@@ -135,8 +135,44 @@ fn turn_after(turn: usize, first: usize, second: usize) -> usize
     turn
 }
 
-// One walk over the file, to its end or to the first byte that is not allowed: then nothing of its lines is handed out. The first of the places, where
-// lines without a new field leave theirs, is set back. (One struct is made: a second costs what a copy of it does.)
+// What is handed out: of a file where the walk stopped nothing of its lines, and of any other all that was kept, with the first of the places, where
+// lines without a new field leave theirs, set back.
+fn handed(
+    stopped: bool,
+    stop: usize,
+    frame: Frame,
+    first: Marks,
+    places: [Span; 27],
+    second: Marks,
+    others: [Span; 27],
+) -> Found
+    ensures { λ r. ⌜ r ≡ handedOf stopped stop frame first places second others ⌝ }
+{
+    if stopped {
+        return Found {
+            stop,
+            frame: OUTSET,
+            first: NOTHING,
+            places: [NOWHERE; 27],
+            second: NOTHING,
+            others: [NOWHERE; 27],
+        };
+    }
+    let mut kept = places;
+    let mut spare = others;
+    kept[0] = NOWHERE;
+    spare[0] = NOWHERE;
+    Found {
+        stop,
+        frame,
+        first,
+        places: kept,
+        second,
+        others: spare,
+    }
+}
+
+// One walk over the file, to its end or to the first byte that is not allowed: then nothing of its lines is handed out.
 pub fn walk(t: MessageType, s: &[u8]) -> Found
     requires { ⌜ length (now s) ≤ 8192 ⌝ }
     ensures { λ r. ⌜ r ≡ foundOf t (now (s .entry)) ⌝ }
@@ -168,21 +204,5 @@ pub fn walk(t: MessageType, s: &[u8]) -> Found
         turn = turn_after(turn, item.first, item.second);
         at = end + n;
     }
-    if at < s.len() {
-        frame = OUTSET;
-        first = NOTHING;
-        second = NOTHING;
-        places = [NOWHERE; 27];
-        others = [NOWHERE; 27];
-    }
-    places[0] = NOWHERE;
-    others[0] = NOWHERE;
-    Found {
-        stop: at,
-        frame,
-        first,
-        places,
-        second,
-        others,
-    }
+    handed(at < s.len(), at, frame, first, places, second, others)
 }

@@ -8,7 +8,7 @@ use value_list::Triple;
 ghost use Rattle.layout.specs.Layouts.{kindsOf, typeOf};
 ghost use Rattle.text.specs.Bytes.{all};
 ghost use Rattle.record_check.specs.Validity.{isBlankCell, holdsAll, isValid};
-ghost use Rattle.value.specs.Texts.{rooms};
+ghost use Rattle.value.specs.Texts.{lentRooms};
 ghost use Rattle.writer_form.specs.Written.{valuesIn};
 ghost use lib.ListN.{drop};
 ghost use mathlib.Core.Path.{_≡_};
@@ -22,7 +22,7 @@ fn all_hold(
     note: &[u8],
     gradients: [Triple; 16],
 ) -> bool
-    ensures { λ r. ⌜ r ≡ holdsAll (typeOf l) (rooms (now (unit .entry)) (now (reason .entry)) (now (note .entry)) gradients) (kindsOf l) (valuesIn l cells) ⌝ }
+    ensures { λ r. ⌜ r ≡ holdsAll (typeOf l) (lentRooms unit reason note gradients) (kindsOf l) (valuesIn l cells) ⌝ }
 {
     let t = layout::type_of(l);
     let size = layout::size(l);

@@ -100,6 +100,9 @@ module _ (l : Layout) (cells : List Cell) (gs : List Triple) (r : ℕ) where
   unfolding rulesOf inOrder updated profiled sloped fieldOf
   in-market e q = rw e q
 
+  pub by-market : l ≡ Market → r ≡ lowest (rulesOf Market cells gs) → Lowest
+  by-market e q = rw e q
+
   pub in-ramps : l ≡ Mfrr → r ≡ lowest (rule 1 (ramped (at 2) (at 3) (at 4) (at 5)) ∷ []) → Lowest
   unfolding rulesOf ramps fieldOf
   in-ramps e q = rw e q
@@ -119,6 +122,11 @@ module _ (l : Layout) (cells : List Cell) (gs : List Triple) (r : ℕ) where
   pub in-volt-var : l ≡ VoltVar → r ≡ lowest (first ∷ rule 8 (isRow (lineIn (at 4) (at 5) (at 6) (at 7) (at 8) (at 9) (at 10))) ∷ []) → Lowest
   unfolding rulesOf inOrder inTable voltVarLine fieldOf
   in-volt-var e q = rw e q
+
+  -- whatever the gradients: VQ has none
+  pub by-volt-var : l ≡ VoltVar → r ≡ lowest (rulesOf VoltVar cells []) → Lowest
+  unfolding rulesOf
+  by-volt-var e q = rw e q
 
   pub in-reserve : l ≡ Reserve → r ≡ lowest (first ∷ rule 9 (quantifies (at 5) (at 6)) ∷ []) → Lowest
   unfolding rulesOf inOrder quantified fieldOf

@@ -11,6 +11,7 @@ use value_ask::triples_in;
 use value_ask::word_number;
 use value_list::Triple;
 use value_word::names;
+ghost use Rattle.layout.specs.declared.Layout.the-variants.{Market, VoltVar};
 ghost use Rattle.record_rules.specs.Rules.{ordered, ramped, updates, fills, rises, slopes, excludes, limits, bands, quantifies, rule, lowest, rulesOf, brokenIn};
 ghost use Rattle.value_ask.specs.Values.{isFilled, isWord, instantIn, amountIn};
 ghost use Rattle.text.specs.Bytes.{all};
@@ -290,69 +291,65 @@ pub fn of_reserve(start: Cell, end: Cell, power: Cell, extent: Cell) -> u8
     order_and(start, end, 9, quantified(power, extent))
 }
 
+// The same by the cells, of the two layouts whose rules ask for most of them.
+
+fn lowest_of_market(cells: [Cell; 26], gradients: [Triple; 16]) -> u8
+    ensures { λ r. ⌜ r ≡ lowest (rulesOf Market cells gradients) ⌝ }
+{
+    of_market(
+        cells[at::START],
+        cells[at::END],
+        cells[at::ORIGIN],
+        cells[at::UPDATE],
+        cells[at::H1],
+        cells[at::H2],
+        cells[at::H3],
+        cells[at::H4],
+        cells[at::H5],
+        cells[at::H6],
+        cells[at::GRADIENTS],
+        gradients,
+    )
+}
+
+fn lowest_of_volt_var(cells: [Cell; 26]) -> u8
+    ensures { λ r. ⌜ r ≡ lowest (rulesOf VoltVar cells []) ⌝ }
+{
+    of_volt_var(
+        cells[at::START],
+        cells[at::END],
+        cells[at::STATE],
+        cells[at::MODE],
+        cells[at::REGULATION],
+        cells[at::VOLTAGE],
+        cells[at::REGULATOR],
+        cells[at::CHANGE],
+        cells[at::REACTIVE],
+    )
+}
+
 // The lowest broken rule of a layout's values; 0 where all hold.
 pub fn lowest_of(l: Layout, cells: [Cell; 26], gradients: [Triple; 16]) -> u8
     ensures { λ r. ⌜ r ≡ lowest (rulesOf l cells gradients) ⌝ }
 {
+    let start = cells[at::START];
+    let end = cells[at::END];
     match l {
-        Layout::Market => of_market(
-            cells[at::START],
-            cells[at::END],
-            cells[at::ORIGIN],
-            cells[at::UPDATE],
-            cells[at::H1],
-            cells[at::H2],
-            cells[at::H3],
-            cells[at::H4],
-            cells[at::H5],
-            cells[at::H6],
-            cells[at::GRADIENTS],
-            gradients,
-        ),
-        Layout::Mfrr => of_ramps(
-            cells[at::START],
-            cells[at::TFIN1],
-            cells[at::TINI2],
-            cells[at::TFIN2],
-        ),
-        Layout::Exclusion => of_exclusion(
-            cells[at::START],
-            cells[at::END],
-            cells[at::EB_REASON],
-            cells[at::READMISSION],
-        ),
+        Layout::Market => lowest_of_market(cells, gradients),
+        Layout::Mfrr => of_ramps(start, cells[at::TFIN1], cells[at::TINI2], cells[at::TFIN2]),
+        Layout::Exclusion => of_exclusion(start, end, cells[at::EB_REASON], cells[at::READMISSION]),
         Layout::Limitation => of_limitation(
-            cells[at::START],
-            cells[at::END],
+            start,
+            end,
             cells[at::MAXIMUM],
             cells[at::MINIMUM],
             cells[at::LB_REASON],
             cells[at::REINSTATEMENT],
         ),
-        Layout::Secondary => of_secondary(
-            cells[at::START],
-            cells[at::END],
-            cells[at::OPERATION],
-            cells[at::HALF_BANDS],
-        ),
-        Layout::VoltVar => of_volt_var(
-            cells[at::START],
-            cells[at::END],
-            cells[at::STATE],
-            cells[at::MODE],
-            cells[at::REGULATION],
-            cells[at::VOLTAGE],
-            cells[at::REGULATOR],
-            cells[at::CHANGE],
-            cells[at::REACTIVE],
-        ),
-        Layout::Reserve => of_reserve(
-            cells[at::START],
-            cells[at::END],
-            cells[at::POWER],
-            cells[at::EXTENT],
-        ),
-        _ => of_order(cells[at::START], cells[at::END]),
+        Layout::Secondary => of_secondary(start, end, cells[at::OPERATION], cells[at::HALF_BANDS]),
+        Layout::VoltVar => lowest_of_volt_var(cells),
+        Layout::Reserve => of_reserve(start, end, cells[at::POWER], cells[at::EXTENT]),
+        _ => of_order(start, end),
     }
 }
 

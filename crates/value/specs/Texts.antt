@@ -9,6 +9,8 @@ use Rattle.value_number.specs.Number.{areShort, numberText}
 use Rattle.value.specs.declared.Value.{Value}
 use Rattle.value.specs.declared.Value.the-variants.{Blank, Id, Unit, When, Amount, Count, Reason, Note, Word, List as Numbers, Triples, Voltage, Regulator, Change, Reactive}
 use Rattle.value_word.specs.Words.{word}
+use denote.Ref.{RefT}
+use denote.Triple.Both.{Both}
 use lib.ListN.{take}
 use mathlib.Core.Bool.{Bool, true, false, not, _||_}
 use mathlib.Core.List.{List, []}
@@ -22,6 +24,10 @@ pub record Rooms : Type 0 where
 
 abbrev pub rooms : List ℕ → List ℕ → List ℕ → List Triple → Rooms
 rooms u r n g = record { unit = u; reason = r; note = n; gradients = g }
+
+-- the rooms that three lent slices hold when a call begins, as a contract names the slices, and the triples beside them
+abbrev pub lentRooms : {X Y Z : Type 0} → Both (RefT (List ℕ)) X → Both (RefT (List ℕ)) Y → Both (RefT (List ℕ)) Z → List Triple → Rooms
+lentRooms u r n g = rooms (u .entry .now) (r .entry .now) (n .entry .now) g
 
 -- the text of a value of a message of type t. A value says its own text: its kind is not asked.
 unfoldable pub valueText : MessageType → Rooms → Value → List ℕ

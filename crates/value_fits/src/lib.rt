@@ -10,7 +10,7 @@ use value::Value;
 use value_list::Triple;
 use value_name::MessageType;
 ghost use Rattle.value_fits.specs.Fits.{fits, holds};
-ghost use Rattle.value.specs.Texts.{rooms};
+ghost use Rattle.value.specs.Texts.{lentRooms};
 ghost use mathlib.Core.Path.{_≡_};
 
 // Whether a value that is not blank fits a shape.
@@ -23,7 +23,7 @@ fn fits(
     note: &[u8],
     gradients: [Triple; 16],
 ) -> bool
-    ensures { λ r. ⌜ r ≡ fits t (rooms (now (unit .entry)) (now (reason .entry)) (now (note .entry)) gradients) s v ⌝ }
+    ensures { λ r. ⌜ r ≡ fits t (lentRooms unit reason note gradients) s v ⌝ }
 {
     let n = shapes::number(s);
     match v {
@@ -55,7 +55,7 @@ pub fn holds(
     note: &[u8],
     gradients: [Triple; 16],
 ) -> bool
-    ensures { λ r. ⌜ r ≡ holds t (rooms (now (unit .entry)) (now (reason .entry)) (now (note .entry)) gradients) k v ⌝ }
+    ensures { λ r. ⌜ r ≡ holds t (lentRooms unit reason note gradients) k v ⌝ }
 {
     if !value_ask::is_filled(v) {
         return k.blank;

@@ -1,17 +1,34 @@
 // A unit's code: 1 to 16 letters, digits or '_'.
+use text::digits::is_digit;
 ghost use Rattle.value_name.specs.Names.{isUnitByte, isUnit};
 ghost use Prim.Native.Nat.{_+_, _≤_};
-ghost use Rattle.text.specs.Bytes.{part, all, runOf};
+ghost use Rattle.text.specs.Bytes.{part, all, runOf, isUpper, isLower};
 ghost use lib.ListN.{length};
 ghost use mathlib.Core.Path.{_≡_};
 
+fn is_capital(b: u8) -> bool
+    ensures { λ r. ⌜ r ≡ isUpper b ⌝ }
+{
+    match b {
+        b'A'..=b'Z' => true,
+        _ => false,
+    }
+}
+
+fn is_small(b: u8) -> bool
+    ensures { λ r. ⌜ r ≡ isLower b ⌝ }
+{
+    match b {
+        b'a'..=b'z' => true,
+        _ => false,
+    }
+}
+
+// One range a function: one match over all of them would branch between the bytes that are tested together.
 fn is_unit_byte(b: u8) -> bool
     ensures { λ r. ⌜ r ≡ isUnitByte b ⌝ }
 {
-    ((b'0' <= b) & (b <= b'9'))
-        | ((b'A' <= b) & (b <= b'Z'))
-        | (b == b'_')
-        | ((b'a' <= b) & (b <= b'z'))
+    is_digit(b) | is_capital(b) | (b == b'_') | is_small(b)
 }
 
 // Eight bytes from i on, tested without a branch between them.

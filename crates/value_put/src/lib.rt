@@ -14,7 +14,7 @@ use value_word;
 ghost use Prim.Native.Nat.{_+_, _<_};
 ghost use Rattle.value_put.specs.Rooms.{Narrow};
 ghost use Rattle.text.specs.Puts.{limit, wroteOf, bufferOf, Puts};
-ghost use Rattle.value.specs.Texts.{rooms, valueText, isWritten};
+ghost use Rattle.value.specs.Texts.{lentRooms, valueText, isWritten};
 ghost use mathlib.Core.Path.{_≡_};
 
 // The text of a value, put at a place; the bytes of texts and the triples come from their rooms, which are a record's or parts of a file.
@@ -29,7 +29,7 @@ pub fn put_value(
     gradients: [Triple; 16],
 ) -> usize
     requires { ⌜ (at + 2000 < limit) × Narrow (now unit) (now reason) (now note) ⌝ }
-    ensures { λ r. ⌜ Puts (now (out .entry)) at (valueText t (rooms (now (unit .entry)) (now (reason .entry)) (now (note .entry)) gradients) v) r (now (out .exit)) ⌝ }
+    ensures { λ r. ⌜ Puts (now (out .entry)) at (valueText t (lentRooms unit reason note gradients) v) r (now (out .exit)) ⌝ }
 {
     match v {
         Value::Blank => at,
@@ -61,8 +61,8 @@ pub fn write_value(
     note: &[u8; 256],
     gradients: [Triple; 16],
 ) -> Wrote
-    ensures { λ r. ⌜ (r ≡ wroteOf (now (out .entry)) at (valueText t (rooms (now (unit .entry)) (now (reason .entry)) (now (note .entry)) gradients) v))
-        × (now (out .exit) ≡ bufferOf (now (out .entry)) at (valueText t (rooms (now (unit .entry)) (now (reason .entry)) (now (note .entry)) gradients) v)) ⌝ }
+    ensures { λ r. ⌜ (r ≡ wroteOf (now (out .entry)) at (valueText t (lentRooms unit reason note gradients) v))
+        × (now (out .exit) ≡ bufferOf (now (out .entry)) at (valueText t (lentRooms unit reason note gradients) v)) ⌝ }
 {
     let size = put_value(&mut out[0..0], 0, t, v, unit, reason, note, gradients);
     if out.len() < at {

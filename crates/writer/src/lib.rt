@@ -5,11 +5,12 @@ use record::Cell;
 use record::Record;
 use text_lines::Span;
 use value_list::Triple;
+use writer_message::put_message;
 ghost use Rattle.layout.specs.Layouts.{sizeOf};
 ghost use Rattle.text_lines.specs.Places.{Placed, columnIn};
 ghost use Rattle.reader.specs.Reader.{readOf};
 ghost use Rattle.text.specs.Puts.{bufferOf};
-ghost use Rattle.value.specs.Texts.{rooms};
+ghost use Rattle.value.specs.Texts.{rooms, lentRooms};
 ghost use Rattle.writer.specs.Copied.{allWritten, Copies};
 ghost use Rattle.writer.specs.Writer.{fitted, writeOf, leftBy, normaliseOf, normalLeft};
 ghost use Rattle.writer_form.specs.Held.{Held};
@@ -35,45 +36,20 @@ fn put_file(
     out: &mut [u8],
 ) -> Written
     requires { ⌜ Held l (rooms (now unit) (now reason) (now note) gradients) cells ⌝ }
-    ensures { λ w. ⌜ (w ≡ fitted (messageText l (rooms (now (unit .entry)) (now (reason .entry)) (now (note .entry)) gradients) cells) (length (now (out .entry))))
-        × (now (out .exit) ≡ bufferOf (now (out .entry)) 0 (messageText l (rooms (now (unit .entry)) (now (reason .entry)) (now (note .entry)) gradients) cells)) ⌝ }
+    ensures { λ w. ⌜ (w ≡ fitted (messageText l (lentRooms unit reason note gradients) cells) (length (now (out .entry))))
+        × (now (out .exit) ≡ bufferOf (now (out .entry)) 0 (messageText l (lentRooms unit reason note gradients) cells)) ⌝ }
 {
     let room = out.len();
     if 8192 <= room {
-        return Written::Length(writer_message::put_message(
-            out,
-            0,
-            l,
-            cells,
-            unit,
-            reason,
-            note,
-            gradients,
-        ));
+        let whole = put_message(out, 0, l, cells, unit, reason, note, gradients);
+        return Written::Length(whole);
     }
-    let size = writer_message::put_message(
-        &mut out[0..0],
-        0,
-        l,
-        cells,
-        unit,
-        reason,
-        note,
-        gradients,
-    );
-    if room < size {
-        return Written::Refused(11, size);
+    let len = put_message(&mut out[0..0], 0, l, cells, unit, reason, note, gradients);
+    if room < len {
+        return Written::Refused(11, len);
     }
-    Written::Length(writer_message::put_message(
-        &mut out[0..size],
-        0,
-        l,
-        cells,
-        unit,
-        reason,
-        note,
-        gradients,
-    ))
+    let put = put_message(&mut out[0..len], 0, l, cells, unit, reason, note, gradients);
+    Written::Length(put)
 }
 
 // The same of a file whose texts can be put as they stand.

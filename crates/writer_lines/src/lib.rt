@@ -10,7 +10,7 @@ ghost use Prim.Native.Nat.{_+_, _≤_, _<_};
 ghost use Rattle.layout.specs.Layouts.{labelAt, labelsOf, sizeOf, typeOf};
 ghost use Rattle.text_lines.specs.Places.{Placed, columnIn};
 ghost use Rattle.text.specs.Puts.{limit, Puts};
-ghost use Rattle.value.specs.Texts.{rooms, valueText};
+ghost use Rattle.value.specs.Texts.{rooms, lentRooms, valueText};
 ghost use Rattle.writer_form.specs.Held.{Spoken, Held};
 ghost use Rattle.writer_form.specs.Written.{linesText, afterEquals, paramLine, paramLines, valuesIn};
 ghost use lib.ListN.{length};
@@ -28,7 +28,7 @@ fn put_after(
     gradients: [Triple; 16],
 ) -> usize
     requires { ⌜ (at + 2500 < limit) × Spoken t (rooms (now unit) (now reason) (now note) gradients) v ⌝ }
-    ensures { λ r. ⌜ Puts (now (out .entry)) at (afterEquals (valueText t (rooms (now (unit .entry)) (now (reason .entry)) (now (note .entry)) gradients) v)) r (now (out .exit)) ⌝ }
+    ensures { λ r. ⌜ Puts (now (out .entry)) at (afterEquals (valueText t (lentRooms unit reason note gradients) v)) r (now (out .exit)) ⌝ }
 {
     if !value_ask::is_filled(v) {
         return at;
@@ -50,7 +50,7 @@ fn put_line(
     gradients: [Triple; 16],
 ) -> usize
     requires { ⌜ (at + 3000 < limit) × (1 ≤ k) × (k ≤ sizeOf l) × Spoken (typeOf l) (rooms (now unit) (now reason) (now note) gradients) v ⌝ }
-    ensures { λ r. ⌜ Puts (now (out .entry)) at (linesText (paramLine (labelAt l k) (valueText (typeOf l) (rooms (now (unit .entry)) (now (reason .entry)) (now (note .entry)) gradients) v) ∷ [])) r (now (out .exit)) ⌝ }
+    ensures { λ r. ⌜ Puts (now (out .entry)) at (linesText (paramLine (labelAt l k) (valueText (typeOf l) (lentRooms unit reason note gradients) v) ∷ [])) r (now (out .exit)) ⌝ }
 {
     let padded = layout_label::put(out, at, layout_label::of_field(l, k));
     let equals = put::put_byte(out, padded, b'=');
@@ -79,7 +79,7 @@ pub fn put_lines(
     gradients: [Triple; 16],
 ) -> usize
     requires { ⌜ (at + 90000 < limit) × Held l (rooms (now unit) (now reason) (now note) gradients) cells ⌝ }
-    ensures { λ r. ⌜ Puts (now (out .entry)) at (linesText (paramLines (labelsOf l) (map (valueText (typeOf l) (rooms (now (unit .entry)) (now (reason .entry)) (now (note .entry)) gradients)) (valuesIn l cells)))) r (now (out .exit)) ⌝ }
+    ensures { λ r. ⌜ Puts (now (out .entry)) at (linesText (paramLines (labelsOf l) (map (valueText (typeOf l) (lentRooms unit reason note gradients)) (valuesIn l cells)))) r (now (out .exit)) ⌝ }
 {
     let size = layout::size(l);
     let mut p = at;

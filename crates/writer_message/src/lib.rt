@@ -9,7 +9,7 @@ ghost use Rattle.layout.specs.Layouts.{sizeOf};
 ghost use Rattle.layout.specs.Rows.{rowOf};
 ghost use Rattle.text_lines.specs.Places.{HoldsText, Placed, columnIn};
 ghost use Rattle.text.specs.Puts.{limit, Puts};
-ghost use Rattle.value.specs.Texts.{rooms};
+ghost use Rattle.value.specs.Texts.{rooms, lentRooms};
 ghost use Rattle.writer_form.specs.Held.{Held};
 ghost use Rattle.writer_form.specs.Written.{writtenOf, messageText};
 ghost use lib.ListN.{length};
@@ -26,7 +26,7 @@ pub fn put_message(
     gradients: [Triple; 16],
 ) -> usize
     requires { ⌜ (at + 200000 < limit) × Held l (rooms (now unit) (now reason) (now note) gradients) cells ⌝ }
-    ensures { λ r. ⌜ Puts (now (out .entry)) at (messageText l (rooms (now (unit .entry)) (now (reason .entry)) (now (note .entry)) gradients) cells) r (now (out .exit)) ⌝ }
+    ensures { λ r. ⌜ Puts (now (out .entry)) at (messageText l (lentRooms unit reason note gradients) cells) r (now (out .exit)) ⌝ }
 {
     let head = layout_banner::put(out, at, l);
     let body = put::put_byte(out, head, b'\n');

@@ -9,7 +9,7 @@ ghost use Prim.Native.Nat.{_+_, _<_};
 ghost use Rattle.layout.specs.Layouts.{typeOf};
 ghost use Rattle.layout.specs.Rows.{rowFields, textAt, halves, tailText, rowText, rowOf};
 ghost use Rattle.text.specs.Puts.{limit, Puts};
-ghost use Rattle.value.specs.Texts.{rooms, valueText};
+ghost use Rattle.value.specs.Texts.{rooms, lentRooms, valueText};
 ghost use Rattle.writer_form.specs.Held.{Held, Halved};
 ghost use Rattle.writer_form.specs.Written.{valuesIn};
 ghost use mathlib.Core.List.{map};
@@ -26,7 +26,7 @@ fn put_pieces(
     gradients: [Triple; 16],
 ) -> usize
     requires { ⌜ (at + 90000 < limit) × Held l (rooms (now unit) (now reason) (now note) gradients) cells ⌝ }
-    ensures { λ r. ⌜ Puts (now (out .entry)) at (rowText (map (textAt (map (valueText (typeOf l) (rooms (now (unit .entry)) (now (reason .entry)) (now (note .entry)) gradients)) (valuesIn l cells))) (rowFields l))) r (now (out .exit)) ⌝ }
+    ensures { λ r. ⌜ Puts (now (out .entry)) at (rowText (map (textAt (map (valueText (typeOf l) (lentRooms unit reason note gradients)) (valuesIn l cells))) (rowFields l))) r (now (out .exit)) ⌝ }
 {
     let t = layout::type_of(l);
     let n = layout::row::size(l);
@@ -57,7 +57,7 @@ fn put_halves(
     gradients: [Triple; 16],
 ) -> usize
     requires { ⌜ (at + 2500 < limit) × Halved t (rooms (now unit) (now reason) (now note) gradients) v ⌝ }
-    ensures { λ r. ⌜ Puts (now (out .entry)) at (tailText (halves (valueText t (rooms (now (unit .entry)) (now (reason .entry)) (now (note .entry)) gradients) v))) r (now (out .exit)) ⌝ }
+    ensures { λ r. ⌜ Puts (now (out .entry)) at (tailText (halves (valueText t (lentRooms unit reason note gradients) v))) r (now (out .exit)) ⌝ }
 {
     let from = put::put_byte(out, at, b';');
     if !value_ask::is_filled(v) {
@@ -78,7 +78,7 @@ pub fn put_row(
     gradients: [Triple; 16],
 ) -> usize
     requires { ⌜ (at + 95000 < limit) × Held l (rooms (now unit) (now reason) (now note) gradients) cells ⌝ }
-    ensures { λ r. ⌜ Puts (now (out .entry)) at (rowOf l (map (valueText (typeOf l) (rooms (now (unit .entry)) (now (reason .entry)) (now (note .entry)) gradients)) (valuesIn l cells))) r (now (out .exit)) ⌝ }
+    ensures { λ r. ⌜ Puts (now (out .entry)) at (rowOf l (map (valueText (typeOf l) (lentRooms unit reason note gradients)) (valuesIn l cells))) r (now (out .exit)) ⌝ }
 {
     let to = put_pieces(out, at, l, cells, unit, reason, note, gradients);
     let c = cells[record::at::HALF_BANDS];

@@ -17,23 +17,20 @@ is-printed-requires c κs = search needs
 returns-2 : tie.Need-returns-2
 returns-2 c = printed-head _ _ (label-short _ _) (sym (c .before .is-printed .ensures) ∙ c .if2 .taken)
 
-shared-slice-read-if3 : tie.Need-shared-slice-read-if3
-shared-slice-read-if3 c = search needs
-
-returns-3 : tie.Need-returns-3
-returns-3 c = below-head _ _ (capital-first _ _) (c .if3 .taken)
-
-shared-slice-read-if4 : tie.Need-shared-slice-read-if4
-shared-slice-read-if4 c = search needs
-
-returns-4 : tie.Need-returns-4
-returns-4 c = above-head _ _ (capital-first _ _) (c .if4 .taken)
+shared-slice-read-b : tie.Need-shared-slice-read-b
+shared-slice-read-b c = search needs
 
 head-requires : tie.Need-head-requires
 head-requires c κs = search needs
 
+returns-3 : tie.Need-returns-3
+returns-3 c = c .head .ensures
+
+returns-4 : tie.Need-returns-4
+returns-4 c = below-head _ _ (capital-first _ _) (omega arith)
+
 returns-5 : tie.Need-returns-5
-returns-5 c = c .head .ensures
+returns-5 c = above-head _ _ (capital-first _ _) (omega arith)
 
 pub head-at-spec : {M : Type 1} → statement M
 head-at-spec =
@@ -42,9 +39,8 @@ head-at-spec =
     returns
     is-printed-requires
     returns-2
-    shared-slice-read-if3
-    returns-3
-    shared-slice-read-if4
-    returns-4
+    shared-slice-read-b
     head-requires
+    returns-3
+    returns-4
     returns-5)

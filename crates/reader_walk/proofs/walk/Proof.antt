@@ -1,7 +1,7 @@
 -- The lines passed and what is left make the whole; a line more is passed by one turn.
 use Prim.Native.Nat.{_+_, _-_, _≤_}
 use Rattle.reader_walk.proofs.Line.{first-le, second-le, kept-le}
-use Rattle.reader_walk.proofs.Walking.{Sofar, begin, item-is, end-is, first-small, second-small, end-near, finish, past-near, turned, stop-less, stop, shorter}
+use Rattle.reader_walk.proofs.Walking.{Sofar, begin, item-is, end-is, first-small, second-small, end-near, finish, past-near, turned, stop, shorter}
 use Rattle.text_lines.specs.Places.{plainRun}
 use Rattle.reader_walk.proofs.walk.Statement.{statement}
 use Rattle.reader_walk.proofs.walk.Tie as tie
@@ -115,26 +115,19 @@ loop-again c =
     (sym (told .n .given .1) ∙ told .before .before .break-at .ensures)
     (frame .frame-in .ensures) (second .before .before .before .note .ensures) (second .before .note2 .ensures)
 
-array-set-from-places-2 : tie.Need-array-set-from-places-2 Inv-loop μ-loop
-array-set-from-places-2 c = search needs
+handed-requires : tie.Need-handed-requires Inv-loop μ-loop
+handed-requires c κs = search needs
 
-array-set-from-others-2 : tie.Need-array-set-from-others-2 Inv-loop μ-loop
-array-set-from-others-2 c = search needs
-
--- the loop ended with the file, or at a byte that is not allowed; then all was set back
+-- the loop ended with the file, or at a byte that is not allowed
 returns : tie.Need-returns Inv-loop μ-loop
 returns c =
     let left = c .before in
     let inv = left .before .loop .inv in
-    ⊎-elim
-    (λ x.
-    ⊎-elim (λ y. absurd (omega (arith, x .0 .left, x .1, y .0 .taken)))
-    (λ y. finish _ _ _ _ _ _ _ _ inv (x .0 .left) _ (x .1) (y .1) (y .2) (y .3) (y .4) (y .5)) (c .if1 .came))
+    ⊎-elim (λ x. finish _ _ _ _ _ _ _ _ inv (x .0 .left) _ (x .1) (c .handed .ensures))
     (λ x.
     let end = end-is _ _ _ _ _ (x .1 .ensures) in
     let bad = sym (x .4 .given .1) ∙ x .2 .ensures in
-    ⊎-elim (λ y. stop _ _ _ _ _ _ _ _ inv _ (x .0 .taken) end bad _ (x .5) (y .1) (y .2) (y .3) (y .4) (y .5))
-    (λ y. absurd (omega (arith, y .0 .left, x .5, stop-less _ _ _ _ _ _ _ _ inv _ (x .0 .taken) end bad))) (c .if1 .came)) (left .loop-test .came)
+    stop _ _ _ _ _ _ _ _ inv _ (x .0 .taken) end bad _ (x .5) (c .handed .ensures)) (left .loop-test .came)
 
 pub walk-spec : {M : Type 1} → statement M
 walk-spec =
@@ -158,6 +151,5 @@ walk-spec =
     add-at
     loop-less
     loop-again
-    array-set-from-places-2
-    array-set-from-others-2
+    handed-requires
     returns)

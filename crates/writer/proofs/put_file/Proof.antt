@@ -13,7 +13,10 @@ same-length : tie.Need-same-length
 same-length c = search needs
 
 returns : tie.Need-returns
-returns c = put-end _ _ _ _ (c .before .before .put-message .ensures) (omega (arith, message-small _ _ _ (c .before .before .before .before .before .before .before .before .before .pre .hold), c .before .before .before .before .if1 .taken))
+returns c =
+    let roomy = c .before .before .before .before in
+    let start = roomy .before .before .before .before in
+    put-end _ _ _ _ (c .before .before .put-message .ensures) (omega (arith, message-small _ _ _ (start .before .pre .hold), roomy .if1 .taken))
 
 sub-put-message : tie.Need-sub-put-message
 sub-put-message c = search needs
@@ -49,7 +52,9 @@ same-length-3 : tie.Need-same-length-3
 same-length-3 c = search needs
 
 returns-3 : tie.Need-returns-3
-returns-3 c = roomy-end _ _ _ _ (c .before .before .before .before .before .before .before .put-message2 .ensures) (c .before .before .before .before .if2 .left) _ _ (c .before .before .put-message3 .ensures)
+returns-3 c =
+    let fits = c .before .before .before .before in
+    roomy-end _ _ _ _ (fits .before .before .before .put-message2 .ensures) (fits .if2 .left) _ _ (c .before .before .put-message3 .ensures)
 
 pub put-file-spec : {M : Type 1} → statement M
 put-file-spec =
