@@ -1,5 +1,7 @@
 pub mod Leaves
 pub mod Steps
+pub mod Spelt
+pub mod Allowed
 pub mod Params
 pub mod Order
 pub mod Standing

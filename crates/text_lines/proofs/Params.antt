@@ -5,7 +5,7 @@ use Rattle.text_lines.specs.Lines.{isSep, param, paramOf}
 use Rattle.text.proofs.Cuts.{skip-append, upto-seam, past-seam, any-seam, any-append, all-none}
 use Rattle.text.proofs.Tests.{by-test, and-parts}
 use Rattle.text.proofs.Trims.{skip-stop, skip-twice, end-stop, end-twice, skip-end}
-use Rattle.text.specs.Bytes.{any, all, is, isBlank, skip, keep, skipEnd, trim}
+use Rattle.text.specs.Bytes.{any, all, is, isBlank, past, skip, keep, skipEnd, trim, upto}
 use borrow.Author.Tests.{eqb-true, ne-eqb}
 use lib.Dec.{leb}
 use lib.ListN.{length, replicate}
@@ -74,6 +74,20 @@ param-of-line a v n =
     ap paramOf (ap (skipEnd isBlank) (skip-stop isBlank a 61 v refl) ∙ end-stop isBlank (skip isBlank a) 61 v refl)
     ∙ rw (any-seam (is 61) (skip isBlank a) 61 (skipEnd isBlank v) refl, upto-seam (is 61) (skip isBlank a) 61 (skipEnd isBlank v) m refl, past-seam (is 61) (skip isBlank a) 61 (skipEnd isBlank v) m refl)
     (ap₂ (λ (l w : List ℕ). some (param l w)) (trim-skip a) (trim-end v))
+
+split : (l : List ℕ) → any (is 61) l ≡ true → l ≡ upto (is 61) l ++ 61 ∷ past (is 61) l
+unfolding any upto past
+split [] e = absurd (false≢true e)
+split (x ∷ l) e =
+    by-test (is 61 x) (λ t. rw t (ap (λ (b : ℕ). b ∷ l) (eqb-true x 61 t))) (λ t. rw t (ap (λ (r : List ℕ). x ∷ r) (split l (rw t at e))))
+
+none-before : (l : List ℕ) → any (is 61) (upto (is 61) l) ≡ false
+unfolding any upto
+none-before [] = refl
+none-before (x ∷ l) = by-test (is 61 x) (λ t. rw t) (λ t. rw t (rw t (none-before l)))
+
+pub param-split : (l : List ℕ) → any (is 61) l ≡ true → paramOf (trim l) ≡ some (param (trim (upto (is 61) l)) (trim (past (is 61) l)))
+param-split l e = ap (λ (t : List ℕ). paramOf (trim t)) (split l e) ∙ param-of-line (upto (is 61) l) (past (is 61) l) (none-before l)
 
 pub no-param : (t : List ℕ) → any (is 61) t ≡ false → paramOf t ≡ none
 unfolding paramOf

@@ -5,16 +5,17 @@ use Rattle.text.proofs.Tests.{by-test, by-eq}
 use Rattle.text.specs.Bytes.{part, is, any, upto, past, firstOf, trim}
 use Rattle.text.specs.Lists.{onto, sift}
 use Rattle.text_lines.proofs.Leaves.{trimmed-holds}
-use Rattle.text_lines.proofs.Params.{param-of-line, no-param, equals-trim}
-use Rattle.text_lines.proofs.Steps.{by-turn, lines-step, cut, plain-not}
+use Rattle.text_lines.proofs.Params.{param-split, no-param, equals-trim}
+use Rattle.text_lines.proofs.Steps.{OneLine, of-line, by-turn, lines-step, cut}
 use Rattle.text_lines.specs.Entries.{Entry, entry, entryOf, entries, placeOf, stands, valueAt}
-use Rattle.text_lines.specs.Lines.{Marked, mark, marked, ifInside, ifOutside, inside, isSep, lines, outside, param, paramOf, params, textOf, texts}
-use Rattle.text_lines.specs.Places.{HoldsText, noSpan, partOf, trimmedAt, valueSpan, plainRun, breakOf}
+use Rattle.text_lines.specs.Lines.{Marked, mark, marked, ifInside, ifOutside, inside, isSep, lines, outside, paramIn, params, textOf, texts}
+use Rattle.text_lines.specs.Places.{HoldsText, noSpan, partOf, trimmedAt, valueSpan, breakOf}
+use Rattle.text_lines.specs.Spellings.{Spelling, respell}
 use Rattle.text_lines.specs.Spots.{LineAt, lineAt, lineIf, linesFrom, linesIn, rowSpan, rowPlace, fieldIn, Spot, spot, spotIf, spotIn, spots, placeAt}
 use Rattle.text_lines.specs.declared.Break.the-variants.{After}
 use Rattle.text_lines.specs.declared.Span.{Span}
 use borrow.Author.Tests.{eq-eqb, ne-eqb, eqb-true}
-use lib.Dec.{eqb, lit<}
+use lib.Dec.{eqb}
 use lib.ListN.{length, getD, take, drop, length-take, length-drop}
 use lib.Seq.{drop-drop}
 use mathlib.Core.Bool.{Bool, true, false, _||_, cond, false≢true}
@@ -30,29 +31,27 @@ abbrev Moved : List ℕ → ℕ → ℕ → Type 0
 Moved r k n =
     (m at : ℕ) → linesFrom m (at + (length (upto (is 10) r) + 1)) (lines (drop (k + n) r)) ≡ linesFrom m (at + (k + n)) (lines (drop (k + n) r))
 
-moved : (r : List ℕ) (n : ℕ) → breakOf (drop (plainRun r) r) ≡ After n → Moved r (plainRun r) n
+moved : (r : List ℕ) (k n : ℕ) → OneLine r k → breakOf (drop k r) ≡ After n → Moved r k n
 unfolding upto lines linesFrom
 moved = by-turn Moved (λ m at. refl)
     (λ b bs k n p h m at.
     let s : suc k + n ≡ suc (k + n) = omega arith in
     let l : at + (suc (length (upto (is 10) bs)) + 1) ≡ suc at + (length (upto (is 10) bs) + 1) = omega arith in
     let a : at + suc (k + n) ≡ suc at + (k + n) = omega arith in
-    rw (plain-not b 10 (lit< tt) p, s, l, a) (h m (suc at)))
+    rw (of-line b p .0, s, l, a) (h m (suc at)))
     (λ bs m at. refl)
     (λ cs m at. refl)
 
-pub lines-turn : (r : List ℕ) (n m at : ℕ) → 0 < length r → breakOf (drop (plainRun r) r) ≡ After n
+pub lines-turn : (r : List ℕ) (k n m at : ℕ) → 0 < length r → OneLine r k → breakOf (drop k r) ≡ After n
     → linesFrom m at (lines r)
-    ≡ onto (lineIf m at (take (plainRun r) r))
-    (linesFrom (m + cond (isSep (trim (take (plainRun r) r))) 1 0) (at + (plainRun r + n)) (lines (drop (plainRun r + n) r)))
+    ≡ onto (lineIf m at (take k r)) (linesFrom (m + cond (isSep (trim (take k r))) 1 0) (at + (k + n)) (lines (drop (k + n) r)))
 unfolding linesFrom
-lines-turn r n m at h e =
-    let w = cut r n e in
-    let k = plainRun r in
+lines-turn r k n m at h l e =
+    let w = cut r k n l e in
     let rest : List ℕ → List ℕ → List LineAt = λ l t.
     onto (lineIf m at l) (linesFrom (m + cond (isSep (trim l)) 1 0) (at + (length (upto (is 10) r) + 1)) (lines t)) in
     ap (linesFrom m at) (lines-step r h) ∙ ap₂ rest (w .0) (w .1)
-    ∙ ap (onto (lineIf m at (take k r))) (moved r n e (m + cond (isSep (trim (take k r))) 1 0) at)
+    ∙ ap (onto (lineIf m at (take k r))) (moved r k n l e (m + cond (isSep (trim (take k r))) 1 0) at)
 
 -- ---- lines that stand in a file
 
@@ -188,48 +187,35 @@ entryAt file e = entry (e .at) (partOf file (e .place))
 abbrev pub entriesAt : List ℕ → List Spot → List Entry
 entriesAt file es = map (entryAt file) es
 
-split : (l : List ℕ) → any (is 61) l ≡ true → l ≡ upto (is 61) l ++ 61 ∷ past (is 61) l
-unfolding any upto past
-split [] e = absurd (false≢true e)
-split (x ∷ l) e =
-    by-test (is 61 x) (λ t. rw t (ap (λ (b : ℕ). b ∷ l) (eqb-true x 61 t))) (λ t. rw t (ap (λ (r : List ℕ). x ∷ r) (split l (rw t at e))))
-
-none-before : (l : List ℕ) → any (is 61) (upto (is 61) l) ≡ false
-unfolding any upto
-none-before [] = refl
-none-before (x ∷ l) = by-test (is 61 x) (λ t. rw t) (λ t. rw t (rw t (none-before l)))
-
-param-split : (l : List ℕ) → any (is 61) l ≡ true → paramOf (trim l) ≡ some (param (trim (upto (is 61) l)) (trim (past (is 61) l)))
-param-split l e = ap (λ (t : List ℕ). paramOf (trim t)) (split l e) ∙ param-of-line (upto (is 61) l) (past (is 61) l) (none-before l)
-
 -- what is made of one line
-module _ (file : List ℕ) (ls : List (List ℕ)) (s : LineAt) (h : InFile file s) (es : List Spot) (ps : List (List ℕ)) where
+module _ (sp : List Spelling) (file : List ℕ) (ls : List (List ℕ)) (s : LineAt) (h : InFile file s) (es : List Spot) (ps : List (List ℕ)) where
   abbrev Made : List Spot → List (List ℕ) → Type 0
-  Made es ps = entriesAt file es ≡ entries ls (params ps)
+  Made es ps = entriesAt file es ≡ entries ls (params sp ps)
 
-  field-made : Made es ps → Made (onto (spotIf (fieldIn ls (s .line)) (valueSpan (s .at) (s .line))) es) (trim (s .line) ∷ ps)
-  unfolding spotIf fieldIn entries params sift entryOf
+  field-made : Made es ps → Made (onto (spotIf (fieldIn sp ls (s .line)) (valueSpan (s .at) (s .line))) es) (trim (s .line) ∷ ps)
+  unfolding spotIf fieldIn entries params paramIn sift entryOf
   field-made w =
       by-test (any (is 61) (s .line))
       (λ e.
       rw (param-split (s .line) e, e)
-      (by-test (eqb (placeOf ls (trim (upto (is 61) (s .line)))) 0) (λ z. rw z w)
-      (λ z. rw z (ap₂ (λ (v : List ℕ) (r : List Entry). entry (placeOf ls (trim (upto (is 61) (s .line)))) v ∷ r) (value-holds file s h e .holds) w))))
+      (by-test (eqb (placeOf ls (respell sp (trim (upto (is 61) (s .line))))) 0) (λ z. rw z w)
+      (λ z. rw z (ap₂ (λ (v : List ℕ) (r : List Entry). entry (placeOf ls (respell sp (trim (upto (is 61) (s .line))))) v ∷ r) (value-holds file s h e .holds) w))))
       (λ e. rw (no-param (trim (s .line)) (equals-trim (s .line) ∙ e), e) w)
 
-pub spots-entries : (file : List ℕ) (ls : List (List ℕ)) (ss : List LineAt) → AllIn file ss
-    → entriesAt file (spots ls ss) ≡ entries ls (params (sift ifOutside (map forget ss)))
+pub spots-entries : (sp : List Spelling) (file : List ℕ) (ls : List (List ℕ)) (ss : List LineAt) → AllIn file ss
+    → entriesAt file (spots sp ls ss) ≡ entries ls (params sp (sift ifOutside (map forget ss)))
 unfolding spots sift spotIn ifOutside entries params
-spots-entries file ls [] a = refl
-spots-entries file ls (s ∷ ss) a =
-    let w = spots-entries file ls ss (a .1) in
+spots-entries sp file ls [] a = refl
+spots-entries sp file ls (s ∷ ss) a =
+    let w = spots-entries sp file ls ss (a .1) in
     by-test (eqb (s .above) 1) (λ e. rw e w)
-    (λ e. rw e (field-made file ls s (a .0) (spots ls ss) (sift ifOutside (map forget ss)) w))
+    (λ e. rw e (field-made sp file ls s (a .0) (spots sp ls ss) (sift ifOutside (map forget ss)) w))
 
-pub file-entries : (file : List ℕ) (ls : List (List ℕ)) → entriesAt file (spots ls (linesIn file)) ≡ entries ls (params (outside (texts file)))
+pub file-entries : (sp : List Spelling) (file : List ℕ) (ls : List (List ℕ))
+    → entriesAt file (spots sp ls (linesIn file)) ≡ entries ls (params sp (outside (texts file)))
 unfolding outside
-file-entries file ls =
-    spots-entries file ls (linesIn file) (all-in file) ∙ ap (λ (ms : List Marked). entries ls (params (sift ifOutside ms))) (marked-in file)
+file-entries sp file ls =
+    spots-entries sp file ls (linesIn file) (all-in file) ∙ ap (λ (ms : List Marked). entries ls (params sp (sift ifOutside ms))) (marked-in file)
 
 -- ---- the place of a field, with one more at the end
 
@@ -264,16 +250,16 @@ abbrev AllPlaced : List ℕ → List Spot → Type 0
 AllPlaced file [] = 0 ≤ 0
 AllPlaced file (e ∷ es) = ((e .place .from ≤ e .place .to) × (e .place .to ≤ length file)) × AllPlaced file es
 
-spots-placed : (file : List ℕ) (ls : List (List ℕ)) (ss : List LineAt) → AllIn file ss → AllPlaced file (spots ls ss)
+spots-placed : (sp : List Spelling) (file : List ℕ) (ls : List (List ℕ)) (ss : List LineAt) → AllIn file ss → AllPlaced file (spots sp ls ss)
 unfolding spots sift spotIn spotIf fieldIn
-spots-placed file ls [] a = omega arith
-spots-placed file ls (s ∷ ss) a =
-    let rest = spots-placed file ls ss (a .1) in
+spots-placed sp file ls [] a = omega arith
+spots-placed sp file ls (s ∷ ss) a =
+    let rest = spots-placed sp file ls ss (a .1) in
     by-test (eqb (s .above) 1) (λ o. rw o rest)
     (λ o.
     by-test (any (is 61) (s .line))
     (λ e.
-    by-test (eqb (placeOf ls (trim (upto (is 61) (s .line)))) 0) (λ z. rw (o, e, z) rest)
+    by-test (eqb (placeOf ls (respell sp (trim (upto (is 61) (s .line))))) 0) (λ z. rw (o, e, z) rest)
     (λ z. let w = value-holds file s (a .0) e in rw (o, e, z) ((w .ordered, w .inside), rest)))
     (λ e. rw (o, e) rest))
 
@@ -282,12 +268,12 @@ unfolding placeAt
 place-in file k [] a = (omega arith, omega arith)
 place-in file k (e ∷ es) a = by-test (eqb k (e .at)) (λ t. rw t (a .0)) (λ t. rw t (place-in file k es (a .1)))
 
-pub field-holds : (file : List ℕ) (ls : List (List ℕ)) (k : ℕ)
-    → HoldsText file (placeAt k (spots ls (linesIn file))) (valueAt k (entries ls (params (outside (texts file)))))
-field-holds file ls k =
-    let es = spots ls (linesIn file) in
-    let w = place-in file k es (spots-placed file ls (linesIn file) (all-in file)) in
-    record { ordered = w .0; inside = w .1; holds = sym (value-place file k es) ∙ ap (valueAt k) (file-entries file ls) }
+pub field-holds : (sp : List Spelling) (file : List ℕ) (ls : List (List ℕ)) (k : ℕ)
+    → HoldsText file (placeAt k (spots sp ls (linesIn file))) (valueAt k (entries ls (params sp (outside (texts file)))))
+field-holds sp file ls k =
+    let es = spots sp ls (linesIn file) in
+    let w = place-in file k es (spots-placed sp file ls (linesIn file) (all-in file)) in
+    record { ordered = w .0; inside = w .1; holds = sym (value-place file k es) ∙ ap (valueAt k) (file-entries sp file ls) }
 
 -- the row holds the first line between the separators
 pub row-in : (file : List ℕ) → (length (inside (texts file)) ≡ 0 → ⊥) → HoldsText file (rowPlace file) (getD (inside (texts file)) 0 [])

@@ -1,3 +1,4 @@
+pub mod Spellings
 pub mod Lines
 pub mod Entries
 pub mod Order

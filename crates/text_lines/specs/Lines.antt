@@ -1,9 +1,10 @@
 -- From a file to its lines, the summary row and the parameter lines. Document 01, "Lines of a message".
 -- Bytes: 10 LF, 13 CR, 43 '+', 61 '='.
-use Prim.Native.Nat.{ℕ, suc, _+_}
+use Prim.Native.Nat.{ℕ, suc, _+_, _-_}
 use Rattle.text.specs.Bytes.{upto, past, any, all, is, isPlain, trim}
 use Rattle.text.specs.Lists.{count, onto, sift}
-use lib.Dec.{leb, eqb}
+use Rattle.text_lines.specs.Spellings.{Spelling, respell, labelRoom}
+use lib.Dec.{leb, ltb, eqb}
 use lib.ListN.{length}
 use mathlib.Core.Bool.{Bool, _&&_, _||_, cond}
 use mathlib.Core.List.{List, [], _∷_, map}
@@ -15,10 +16,16 @@ unfoldable pub allowed : ℕ → List ℕ → Bool
 allowed b [] = isPlain b || is 10 b
 allowed b (c ∷ cs) = isPlain b || is 10 b || (is 13 b && is 10 c)
 
--- how many bytes stand before the first that is not allowed: all where there is none
-unfoldable pub allowedUpto : List ℕ → ℕ
-allowedUpto [] = 0
-allowedUpto (b ∷ bs) = cond (allowed b bs) (suc (allowedUpto bs)) 0
+-- document 02, A1: E0 (224) too, inside the part before its line's first '=' where that part, trimmed, is a label with an accent. How many bytes stand before
+-- the first that is not allowed, where n bytes of such a part are left in the line
+unfoldable pub allowedFrom : List Spelling → ℕ → List ℕ → ℕ
+allowedFrom sp n [] = 0
+allowedFrom sp n (b ∷ bs) =
+    cond (allowed b bs || (is 224 b && ltb 0 n)) (suc (allowedFrom sp (cond (is 10 b) (labelRoom sp (upto (is 10) bs)) (n - 1)) bs)) 0
+
+-- of a file: all where there is none
+unfoldable pub allowedUpto : List Spelling → List ℕ → ℕ
+allowedUpto sp file = allowedFrom sp (labelRoom sp (upto (is 10) file)) file
 
 -- ---- lines: each ends at LF or CR LF, and the last may lack it
 
@@ -93,5 +100,13 @@ param l v = record { label = l; value = v }
 unfoldable pub paramOf : List ℕ → Option Param
 paramOf t = cond (any (is 61) t) (some (param (trim (upto (is 61) t)) (trim (past (is 61) t)))) none
 
-unfoldable pub params : List (List ℕ) → List Param
-params ts = sift paramOf ts
+-- its label by its plain spelling
+abbrev pub respelt : List Spelling → Option Param → Option Param
+respelt sp none = none
+respelt sp (some p) = some (param (respell sp (p .label)) (p .value))
+
+unfoldable pub paramIn : List Spelling → List ℕ → Option Param
+paramIn sp t = respelt sp (paramOf t)
+
+unfoldable pub params : List Spelling → List (List ℕ) → List Param
+params sp ts = sift (paramIn sp) ts

@@ -3,6 +3,7 @@ use Prim.Native.Nat.{ℕ, _+_, _≤_}
 use Rattle.text_lines.specs.declared.Break.{Break}
 use Rattle.text_lines.specs.declared.Break.the-variants.{After, Bad}
 use Rattle.text_lines.specs.declared.Span.{Span}
+use Rattle.text_lines.specs.Spellings.{Spelling, opens}
 use Rattle.text.specs.Bytes.{part, is, isPlain, isBlank, upto, past, firstOf, runOf, trim}
 use lib.ListN.{length, getD, take, drop}
 use mathlib.Core.Bool.{Bool, _&&_, not, cond}
@@ -35,6 +36,11 @@ notPlain b = not (isPlain b)
 
 abbrev pub plainRun : List ℕ → ℕ
 plainRun s = length (upto notPlain s)
+
+-- how many bytes the line has that stands first, up to where it ends or to a byte that is not allowed there: a line that opens with an accented label goes on
+-- behind its E0
+unfoldable pub lineRun : List Spelling → List ℕ → ℕ
+lineRun sp r = cond (opens sp (upto (is 10) r)) (plainRun r + 1 + plainRun (drop (plainRun r + 1) r)) (plainRun r)
 
 -- how many bytes end a line, where no more can be printed: none at the end of the file, LF, CR LF. Bad where that byte is not allowed
 unfoldable pub breakOf : List ℕ → Break

@@ -6,6 +6,7 @@ use Rattle.text.specs.Lists.{onto, sift}
 use Rattle.text_lines.specs.Entries.{placeOf}
 use Rattle.text_lines.specs.Lines.{isSep, lines}
 use Rattle.text_lines.specs.Places.{noSpan, trimmedAt, valueSpan}
+use Rattle.text_lines.specs.Spellings.{Spelling, respell}
 use Rattle.text_lines.specs.declared.Span.{Span}
 use lib.Dec.{eqb}
 use lib.ListN.{length}
@@ -49,9 +50,9 @@ rowPlace file = rowSpan (linesIn file)
 
 -- ---- the fields of a list of labels
 
--- the field of a line by its label: 0 where it has none of these
-unfoldable pub fieldIn : List (List ℕ) → List ℕ → ℕ
-fieldIn ls l = cond (any (is 61) l) (placeOf ls (trim (upto (is 61) l))) 0
+-- the field of a line by its label, in either spelling: 0 where it has none of these
+unfoldable pub fieldIn : List Spelling → List (List ℕ) → List ℕ → ℕ
+fieldIn sp ls l = cond (any (is 61) l) (placeOf ls (respell sp (trim (upto (is 61) l)))) 0
 
 -- the place of a field's value
 pub record Spot : Type 0 where
@@ -66,11 +67,11 @@ unfoldable pub spotIf : ℕ → Span → Option Spot
 spotIf k p = cond (eqb k 0) none (some (spot k p))
 
 -- of a line that does not stand between the separators
-unfoldable pub spotIn : List (List ℕ) → LineAt → Option Spot
-spotIn ls s = cond (eqb (s .above) 1) none (spotIf (fieldIn ls (s .line)) (valueSpan (s .at) (s .line)))
+unfoldable pub spotIn : List Spelling → List (List ℕ) → LineAt → Option Spot
+spotIn sp ls s = cond (eqb (s .above) 1) none (spotIf (fieldIn sp ls (s .line)) (valueSpan (s .at) (s .line)))
 
-unfoldable pub spots : List (List ℕ) → List LineAt → List Spot
-spots ls ss = sift (spotIn ls) ss
+unfoldable pub spots : List Spelling → List (List ℕ) → List LineAt → List Spot
+spots sp ls ss = sift (spotIn sp ls) ss
 
 -- the place of the field k: of its first line
 unfoldable pub placeAt : ℕ → List Spot → Span
@@ -83,5 +84,5 @@ placesFrom zero k es = []
 placesFrom (suc n) k es = placeAt k es ∷ placesFrom n (suc k) es
 
 -- THE DEFINITION: where the value of each field stands, 0..0 where it has no line. The room has 26 fields; the first place is nobody's
-unfoldable pub placesIn : List (List ℕ) → List ℕ → List Span
-placesIn ls file = noSpan ∷ placesFrom 26 1 (spots ls (linesIn file))
+unfoldable pub placesIn : List Spelling → List (List ℕ) → List ℕ → List Span
+placesIn sp ls file = noSpan ∷ placesFrom 26 1 (spots sp ls (linesIn file))
