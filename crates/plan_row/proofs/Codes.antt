@@ -127,7 +127,8 @@ module _ (s : List ℕ) (b : Bool) (told : b ≡ starts (bytes "type=") s) where
       three : drop 5 s ≡ getD s 5 0 ∷ getD s 6 0 ∷ 10 ∷ drop 8 s
       three =
           drop-step s 5 (omega arith)
-          ∙ ap (λ (l : List ℕ). getD s 5 0 ∷ l) (drop-step s 6 (omega arith) ∙ ap (λ (l : List ℕ). getD s 6 0 ∷ l) (drop-step s 7 h ∙ ap (λ (b : ℕ). b ∷ drop 8 s) g))
+          ∙ ap (λ (l : List ℕ). getD s 5 0 ∷ l)
+          (drop-step s 6 (omega arith) ∙ ap (λ (l : List ℕ). getD s 6 0 ∷ l) (drop-step s 7 h ∙ ap (λ (b : ℕ). b ∷ drop 8 s) g))
 
       pub type-line : (t : TypeRead) → t ≡ typeReadOf (typeFrom types (getD s 5 0 ∷ getD s 6 0 ∷ [])) → t ≡ typeReadOf (typeAt s)
       unfolding typeAt

@@ -307,7 +307,8 @@ module _ (s : List ℕ) (b : Bool) (told : b ≡ starts (bytes "unit=") s) where
           let w : within 1 16 (length (unit-value s)) ≡ true =
           within-tells 1 16 (length (unit-value s)) .1 (omega (arith, v .1, z), omega (arith, v .1, ltb-false 16 m (q .1))) in
           let a : all isUnitByte (unit-value s) ≡ true = ap (all isUnitByte) (v .0) ∙ run-front isUnitByte m (drop 5 s) (counted (bytes "unit=") s unit-clean unit-begins isUnitByte refl m run) in
-          rw (line-ends (bytes "unit=") s unit-clean unit-begins isUnitByte refl m run n g, w, a) (ap To (line-place (bytes "unit=") s unit-clean unit-begins isUnitByte refl m run n g))
+          rw (line-ends (bytes "unit=") s unit-clean unit-begins isUnitByte refl m run n g, w, a)
+          (ap To (line-place (bytes "unit=") s unit-clean unit-begins isUnitByte refl m run n g))
 
 -- a unit that was read is what stands in its line, past the five bytes of the key
 pub unit-told : (s u : List ℕ) → unitAt s ≡ some u → (u ≡ valueIn (bytes "unit=") s) × (5 ≤ firstOf 10 s) × (firstOf 10 s < length s)

@@ -57,7 +57,8 @@ column-step : (n : ℕ) (file : List ℕ) (spans : List Span) (k : ℕ) → k < 
     → drop k (columnIn n file spans) ≡ partOf file (spanAt spans (k + 1)) ∷ drop (k + 1) (columnIn n file spans)
 column-step n file spans k h j =
     let e = column-at n (suc k) file spans (omega arith) h j in
-    rw add-one (drop-cons (columnIn n file spans) k [] (omega (arith, column-length n file spans j)) ∙ ap (λ (t : List ℕ). t ∷ drop (suc k) (columnIn n file spans)) e)
+    rw add-one
+    (drop-cons (columnIn n file spans) k [] (omega (arith, column-length n file spans j)) ∙ ap (λ (t : List ℕ). t ∷ drop (suc k) (columnIn n file spans)) e)
 
 -- ---- the first k fields are read: their values stand in the cells, and what is to come is the column from k on
 

@@ -60,7 +60,8 @@ all-suit VoltVar = (refl, (refl, (tt, (tt, ((refl, refl), ((refl, refl), ((refl,
 all-suit Rejection = (refl, (refl, (tt, (tt, ((refl, refl), ((refl, refl), tt))))))
 all-suit Reserve = (refl, (refl, (tt, (tt, ((refl, refl), (tt, ((refl, refl), ((refl, refl), (tt, tt)))))))))
 
-suits-at : (l : Layout) (k : ℕ) (ds : List Kind) (j : ℕ) → j < length ds → AllSuit l k ds → SuitsAs l (k + j) (getD ds j noKind .blank) (getD ds j noKind .shape)
+suits-at : (l : Layout) (k : ℕ) (ds : List Kind) (j : ℕ) → j < length ds → AllSuit l k ds
+    → SuitsAs l (k + j) (getD ds j noKind .blank) (getD ds j noKind .shape)
 unfolding AllSuit
 suits-at l k [] j h a = absurd (omega arith)
 suits-at l k (d ∷ ds) zero h a = let e : k + 0 ≡ k = omega arith in rw e (a .0)

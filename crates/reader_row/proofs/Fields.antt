@@ -101,7 +101,9 @@ module _ (l : Layout) (file : List ℕ) (at end : ℕ) (spans : List Span) (n p 
           inside = s .inside;
           size = s .size;
           near = step-fits file p end (59 ∷ partOf file (spanAt spans k)) r e (s .near) (s .inside) q w;
-          rest = s .rest ∙ ap (stepOf file p end) next ∙ sym (step-on file p end (59 ∷ partOf file (spanAt spans k)) r e (tailText (drop (i + 1) (texts l file spans))) q w);
+          rest =
+              s .rest ∙ ap (stepOf file p end) next
+              ∙ sym (step-on file p end (59 ∷ partOf file (spanAt spans k)) r e (tailText (drop (i + 1) (texts l file spans))) q w);
         }
 
     pub later-no : r ≡ Differs → Differs ≡ stepOf file at end (rowText (texts l file spans))
@@ -119,7 +121,8 @@ all-on l file at end spans n p i s h =
 
 -- ---- the bands
 
-pub no-bands : (file : List ℕ) (at end : ℕ) (l m : Layout) (col : List (List ℕ)) → l ≡ m → bandsIn m col ≡ [] → To at ≡ stepOf file at end (tailText (bandsIn l col))
+pub no-bands : (file : List ℕ) (at end : ℕ) (l m : Layout) (col : List (List ℕ)) → l ≡ m → bandsIn m col ≡ []
+    → To at ≡ stepOf file at end (tailText (bandsIn l col))
 unfolding tailText
 no-bands file at end l m col e n =
     step-none file at end ∙ ap (λ (ts : List (List ℕ)). stepOf file at end (tailText ts)) (sym (ap (λ (k : Layout). bandsIn k col) e ∙ n))

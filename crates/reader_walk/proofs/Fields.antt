@@ -106,7 +106,8 @@ module _ (file : List ℕ) (ls : List (List ℕ)) (m : Marks) (spans : List Span
               (number-more (m .again) k (again [] above) some-field (f .repeat));
           place = λ j a b.
               getD-set-other spans 0 j p noSpan (λ z. omega (arith, z, a)) ∙ f .place j a b
-              ∙ by-eq j k (λ c. sym (place-old file j es (spot k p) (ap (λ (i : ℕ). stands i above) c ∙ t))) (λ c. sym (place-other j es (spot k p) (ne-eqb j k c)));
+              ∙ by-eq j k (λ c. sym (place-old file j es (spot k p) (ap (λ (i : ℕ). stands i above) c ∙ t)))
+              (λ c. sym (place-other j es (spot k p) (ne-eqb j k c)));
         }
 
     -- a field that did not: its bit is set, and its place kept

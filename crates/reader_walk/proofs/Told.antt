@@ -79,7 +79,8 @@ module _ (t : MessageType) (file : List ℕ) (r : Found) (w : r ≡ foundOf t fi
   unfolding foundOf
   stop-by =
       ap (λ (x : Found). x .stop) w
-      ∙ by-eq (allowedUpto file) (length file) (λ e. rw (eq-eqb (allowedUpto file) (length file) e) (sym e)) (λ e. rw (ne-eqb (allowedUpto file) (length file) e))
+      ∙ by-eq (allowedUpto file) (length file) (λ e. rw (eq-eqb (allowedUpto file) (length file) e) (sym e))
+      (λ e. rw (ne-eqb (allowedUpto file) (length file) e))
 
   module _ (all-allowed : allowedUpto file ≡ length file) where
     pub whole-by : r ≡ wholeOf t file

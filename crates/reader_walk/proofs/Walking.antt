@@ -253,7 +253,8 @@ module _ (t : MessageType) (s : List ℕ) (at : ℕ) (f : Frame) (m : Marks) (sp
     unfolding placesIn
     places-are ls n ps k = set-back s ls n ps (spots ls (w .done)) k ∙ ap (λ (ss : List LineAt). noSpan ∷ placesFrom 26 1 (spots ls ss)) done-all
 
-    marks-of : (ls : List (List ℕ)) (n : Marks) (ps : List Span) → Kept s ls n ps (spots ls (w .done)) → n ≡ marksOf ls (entries ls (params (outside (texts s))))
+    marks-of : (ls : List (List ℕ)) (n : Marks) (ps : List Span) → Kept s ls n ps (spots ls (w .done))
+        → n ≡ marksOf ls (entries ls (params (outside (texts s))))
     marks-of ls n ps k =
         marks-are s ls n ps (spots ls (w .done)) k
         ∙ ap (marksOf ls) (ap (λ (ss : List LineAt). entriesAt s (spots ls ss)) done-all ∙ file-entries s ls)

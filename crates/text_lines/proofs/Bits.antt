@@ -78,7 +78,8 @@ module _ (ls : List (List ℕ)) (es : List Entry) where
   pub seen-old : (e : Entry) → stands (e .at) es ≡ true → maskOf (standing 1 ls (es ++ e ∷ [])) ≡ maskOf (standing 1 ls es)
   seen-old e h = ap maskOf (standing-old 1 ls es e h)
 
-  pub seen-new : (e : Entry) (j : ℕ) → j < length ls → e .at ≡ suc j → stands (e .at) es ≡ false → maskOf (standing 1 ls (es ++ e ∷ [])) ≡ maskOf (standing 1 ls es) + 2 ^ j
+  pub seen-new : (e : Entry) (j : ℕ) → j < length ls → e .at ≡ suc j → stands (e .at) es ≡ false
+      → maskOf (standing 1 ls (es ++ e ∷ [])) ≡ maskOf (standing 1 ls es) + 2 ^ j
   seen-new e j h k t =
       let n : e .at ≡ 1 + j = omega (arith, k) in
       ap maskOf (standing-new 1 ls es e j n)

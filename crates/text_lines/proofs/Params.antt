@@ -72,7 +72,11 @@ unfolding trim paramOf
 param-of-line a v n =
     let m : any (is 61) (skip isBlank a) ≡ false = equals-skip a ∙ n in
     ap paramOf (ap (skipEnd isBlank) (skip-stop isBlank a 61 v refl) ∙ end-stop isBlank (skip isBlank a) 61 v refl)
-    ∙ rw (any-seam (is 61) (skip isBlank a) 61 (skipEnd isBlank v) refl, upto-seam (is 61) (skip isBlank a) 61 (skipEnd isBlank v) m refl, past-seam (is 61) (skip isBlank a) 61 (skipEnd isBlank v) m refl)
+    ∙ rw (
+      any-seam (is 61) (skip isBlank a) 61 (skipEnd isBlank v) refl,
+      upto-seam (is 61) (skip isBlank a) 61 (skipEnd isBlank v) m refl,
+      past-seam (is 61) (skip isBlank a) 61 (skipEnd isBlank v) m refl,
+    )
     (ap₂ (λ (l w : List ℕ). some (param l w)) (trim-skip a) (trim-end v))
 
 split : (l : List ℕ) → any (is 61) l ≡ true → l ≡ upto (is 61) l ++ 61 ∷ past (is 61) l
@@ -120,7 +124,8 @@ pub spaced : (i j k m : ℕ) (a v : List ℕ) → any (is 61) a ≡ false
 spaced i j k m a v n =
     param-of-line (blanks i ++ (a ++ blanks j)) (blanks k ++ (v ++ blanks m))
     (any-append (is 61) (blanks i) (a ++ blanks j) (blanks-equals (blanks i) (all-blanks i)) (any-append (is 61) a (blanks j) n (blanks-equals (blanks j) (all-blanks j))))
-    ∙ ap₂ (λ (l w : List ℕ). some (param l w)) (trim-front-blanks (blanks i) (a ++ blanks j) (all-blanks i) ∙ trim-end-blanks a (blanks j) (all-blanks j)) (trim-front-blanks (blanks k) (v ++ blanks m) (all-blanks k) ∙ trim-end-blanks v (blanks m) (all-blanks m))
+    ∙ ap₂ (λ (l w : List ℕ). some (param l w)) (trim-front-blanks (blanks i) (a ++ blanks j) (all-blanks i) ∙ trim-end-blanks a (blanks j) (all-blanks j))
+    (trim-front-blanks (blanks k) (v ++ blanks m) (all-blanks k) ∙ trim-end-blanks v (blanks m) (all-blanks m))
     ∙ sym (param-of-line a v n)
 
 -- a line that begins with a label, with blanks or none before its '='

@@ -62,7 +62,8 @@ first none o = o
 first (some k) o = some k
 
 -- the first repeat: the old one, or the new entry's, where it stood above
-again-snoc : (seen es : List Entry) (e : Entry) → again seen (es ++ e ∷ []) ≡ first (again seen es) (cond (stands (e .at) seen || stands (e .at) es) (some (e .at)) none)
+again-snoc : (seen es : List Entry) (e : Entry)
+    → again seen (es ++ e ∷ []) ≡ first (again seen es) (cond (stands (e .at) seen || stands (e .at) es) (some (e .at)) none)
 unfolding again stands
 again-snoc seen [] e = ap (λ (b : Bool). cond b (some (e .at)) none) (sym (or-none (stands (e .at) seen)))
 again-snoc seen (x ∷ es) e =
@@ -123,7 +124,8 @@ standing-same k (l ∷ ls) es gs h =
 pub standing-old : (k : ℕ) (ls : List (List ℕ)) (es : List Entry) (e : Entry) → stands (e .at) es ≡ true → standing k ls (es ++ e ∷ []) ≡ standing k ls es
 standing-old k ls es e h = standing-same k ls (es ++ e ∷ []) es (λ j m. stands-yes j es e h)
 
-pub standing-new : (k : ℕ) (ls : List (List ℕ)) (es : List Entry) (e : Entry) (j : ℕ) → e .at ≡ k + j → standing k ls (es ++ e ∷ []) ≡ set (standing k ls es) j true
+pub standing-new : (k : ℕ) (ls : List (List ℕ)) (es : List Entry) (e : Entry) (j : ℕ) → e .at ≡ k + j
+    → standing k ls (es ++ e ∷ []) ≡ set (standing k ls es) j true
 unfolding standing
 standing-new k [] es e j h = refl
 standing-new k (l ∷ ls) es e zero h =

@@ -41,5 +41,7 @@ rest-below s t r =
     let n : length s - length t + (length t - length (below t)) ≡ length s - length (below t) = omega arith in
     record {
       near = omega arith;
-      left = past-place (is 10) t ∙ ap (λ (x : List ℕ). drop (length t - length (below t)) x) (r .left) ∙ drop-drop (length t - length (below t)) (length s - length t) s ∙ ap (λ (k : ℕ). drop k s) n;
+      left =
+          past-place (is 10) t ∙ ap (λ (x : List ℕ). drop (length t - length (below t)) x) (r .left)
+          ∙ drop-drop (length t - length (below t)) (length s - length t) s ∙ ap (λ (k : ℕ). drop k s) n;
     }

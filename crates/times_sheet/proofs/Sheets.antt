@@ -174,7 +174,9 @@ for-good unit s e = and-parts (unitLine unit s) (goodNumbers (below s)) e .1
 module _ (s : List ℕ) (good : goodNumbers (below s) ≡ true) where
   both : numberLine (bytes "avviamento=") (below s) && numberLine (bytes "rampa=") (below (below s)) ≡ true
   unfolding goodNumbers
-  both = and-parts (numberLine (bytes "avviamento=") (below s) && numberLine (bytes "rampa=") (below (below s))) (eqb (length (below (below (below s)))) 0) good .0
+  both =
+      and-parts (numberLine (bytes "avviamento=") (below s) && numberLine (bytes "rampa=") (below (below s))) (eqb (length (below (below (below s)))) 0)
+      good .0
 
   start-up : numberLine (bytes "avviamento=") (below s) ≡ true
   start-up = and-parts (numberLine (bytes "avviamento=") (below s)) (numberLine (bytes "rampa=") (below (below s))) both .0

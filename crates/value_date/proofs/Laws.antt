@@ -53,7 +53,8 @@ pub shape-differs : (ps s : List ℕ) → (length ps ≡ length s → ⊥) → f
 shape-differs ps s n = by-test (shaped ps s) (λ e. absurd (n (shape-length ps s e))) sym
 
 module _ (ps s : List ℕ) (i : ℕ) where
-  pub shape-on : i < length ps → i < length s → fitsByte (getD ps i 0) (getD s i 0) ≡ true → shaped (drop i ps) (drop i s) ≡ shaped (drop (i + 1) ps) (drop (i + 1) s)
+  pub shape-on : i < length ps → i < length s → fitsByte (getD ps i 0) (getD s i 0) ≡ true
+      → shaped (drop i ps) (drop i s) ≡ shaped (drop (i + 1) ps) (drop (i + 1) s)
   unfolding shaped
   shape-on hp hs e = rw (drop-step ps i hp, drop-step s i hs, e)
 
@@ -281,7 +282,8 @@ mark-put l l₁ l₂ at a b k n r p q =
     (omega (arith, p .0, q .0), then x y .bytes)
 
 -- a blank, then a letter
-pub letter-put : (l l₁ l₂ : List ℕ) (at a b r : ℕ) (z : Bool) → (a ≡ at + 1) × (l₁ ≡ sets l at (32 ∷ [])) → b ≡ letter z → (r ≡ a + 1) × (l₂ ≡ sets l₁ a (b ∷ []))
+pub letter-put : (l l₁ l₂ : List ℕ) (at a b r : ℕ) (z : Bool) → (a ≡ at + 1) × (l₁ ≡ sets l at (32 ∷ [])) → b ≡ letter z
+    → (r ≡ a + 1) × (l₂ ≡ sets l₁ a (b ∷ []))
     → (r ≡ at + 2) × (l₂ ≡ sets l at (letterText z))
 unfolding letterText
 letter-put l l₁ l₂ at a b r z p e q =
@@ -313,7 +315,8 @@ module _ (l l₁ l₂ l₃ : List ℕ) (at a b r : ℕ) (d : Date) where
       let z = marked l₂ l₃ b 58 2 (d .second) r s in
       (omega (arith, p .0, q .0, s .0), then (then x y) z .bytes)
 
-  pub date-put : (a ≡ at + 10) × (l₁ ≡ sets l at (dayText d)) → (b ≡ a + 9) × (l₂ ≡ sets l₁ a (timeText d)) → (r ≡ b + 2) × (l₃ ≡ sets l₂ b (letterText (d .legal)))
+  pub date-put : (a ≡ at + 10) × (l₁ ≡ sets l at (dayText d)) → (b ≡ a + 9) × (l₂ ≡ sets l₁ a (timeText d))
+      → (r ≡ b + 2) × (l₃ ≡ sets l₂ b (letterText (d .legal)))
       → (r ≡ at + 21) × (l₃ ≡ sets l at (dateText d))
   unfolding dateText
   date-put p q s =

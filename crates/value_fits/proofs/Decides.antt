@@ -97,7 +97,8 @@ module _ (t : MessageType) (r : Rooms) where
   to-numbers IsReactive x e = absurd (none-listed x e)
 
   -- the shape has the number that the value wants
-  by-shape : (s : Shape) (n : ℕ) (v : Value) (b : Bool) → eqb n 7 ≡ false → eqb (shapeNumber s) n && b ≡ true → (b ≡ true → Fits t r (shapeAt n) v) → Fits t r s v
+  by-shape : (s : Shape) (n : ℕ) (v : Value) (b : Bool) → eqb n 7 ≡ false → eqb (shapeNumber s) n && b ≡ true → (b ≡ true → Fits t r (shapeAt n) v)
+      → Fits t r s v
   by-shape s n v b h e f =
       let p = and-parts (eqb (shapeNumber s) n) b e in
       subst (λ (u : Shape). Fits t r u v) (sym (shape-is s n h (eqb-true (shapeNumber s) n (p .0)))) (f (p .1))
@@ -106,7 +107,8 @@ module _ (t : MessageType) (r : Rooms) where
   unfolding fits
   to-fits s Blank e = absurd (false≢true e)
   to-fits s (Id n) e =
-      by-shape s (typeNumber t) (Id n) (ltb n (10 ^ 10)) (type-back t .0) e (λ h. subst (λ (u : Shape). Fits t r u (Id n)) (sym (type-back t .1)) (id (ltb-true n (10 ^ 10) h)))
+      by-shape s (typeNumber t) (Id n) (ltb n (10 ^ 10)) (type-back t .0) e
+      (λ h. subst (λ (u : Shape). Fits t r u (Id n)) (sym (type-back t .1)) (id (ltb-true n (10 ^ 10) h)))
   to-fits s (UnitOf n) e = by-shape s 1 (UnitOf n) (isNamed (r .unit) n) refl e (λ h. let p = named-tells (r .unit) n .0 h in unit (p .0) (p .1))
   to-fits s (When d) e = by-shape s 2 (When d) (isReal d) refl e when
   to-fits s (Amount v) e = by-shape s 3 (Amount v) (inRange v) refl e (λ h. amount (range-tells v .0 h))

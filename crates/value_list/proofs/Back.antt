@@ -55,7 +55,8 @@ module _ {A : Type 0} (read : List ℕ → Option A) (text : A → List ℕ) (Go
   rest-back a (b ∷ l) g gs =
       rw (cut-seam a (text b ++ runText text sep l), trim-back a g, rest-back b l (gs .0) (gs .1))
 
-  pub list-back : (least most : ℕ) (l : List A) → 1 ≤ length l → least ≤ length l → length l ≤ most → Each Good l → someOf read sep least most (listText text sep l) ≡ some l
+  pub list-back : (least most : ℕ) (l : List A) → 1 ≤ length l → least ≤ length l → length l ≤ most → Each Good l
+      → someOf read sep least most (listText text sep l) ≡ some l
   unfolding Each listText someOf counted
   list-back least most [] h lo hi g = absurd (omega arith)
   list-back least most (a ∷ l) h lo hi g = rw (rest-back a l (g .0) (g .1), le-leb _ _ lo, le-leb _ _ hi)
@@ -109,7 +110,8 @@ module _ {A : Type 0} (read : List ℕ → Option A) (Good : A → Type 0) (good
   every-good [] l e = let n : l ≡ [] = cc in rw n tt
   every-good (p ∷ ps) l e = go (read (trim p)) (everyOf read ps) refl (every-good ps) l e
     where
-      go : (o : Option A) (r : Option (List A)) → read (trim p) ≡ o → ((m : List A) → r ≡ some m → Each Good m) → (l : List A) → consRead o r ≡ some l → Each Good l
+      go : (o : Option A) (r : Option (List A)) → read (trim p) ≡ o → ((m : List A) → r ≡ some m → Each Good m) → (l : List A) → consRead o r ≡ some l
+          → Each Good l
       go none r f g l e = let z : _≡_ {A = ℕ} 0 1 = cc in absurd (omega arith)
       go (some a) none f g l e = let z : _≡_ {A = ℕ} 0 1 = cc in absurd (omega arith)
       go (some a) (some m) f g l e = let n : l ≡ a ∷ m = cc in rw n (good (trim p) a f, g m refl)

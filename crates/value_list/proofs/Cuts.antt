@@ -92,7 +92,8 @@ unfolding consRead onto
 onto-end done a = refl
 
 -- what is read of a text is never nothing
-more-than : {A : Type 0} (done : List A) (first : Option A) (r : Option (List A)) (least most : ℕ) → most ≤ length done → counted least most (onto done (consRead first r)) ≡ none
+more-than : {A : Type 0} (done : List A) (first : Option A) (r : Option (List A)) (least most : ℕ) → most ≤ length done
+    → counted least most (onto done (consRead first r)) ≡ none
 unfolding consRead onto counted
 more-than done none r least most h = refl
 more-than done (some a) none least most h = refl
@@ -158,7 +159,9 @@ module _ {A : Type 0} (read : List ℕ → Option A) (sep : ℕ) (z : A) where
             inside = omega (arith, ends);
             within-room = rw (length-set room n a) (omega arith);
             unused = rw (length-set room n a) unused-one;
-            all-parts = f .all-parts ∙ rw (part-next sep s at e (f .inside) ee ne, h, taken-one) (onto-one (take n room) a (everyOf read (cutAt sep (drop (e + 1) s))));
+            all-parts =
+                f .all-parts
+                ∙ rw (part-next sep s at e (f .inside) ee ne, h, taken-one) (onto-one (take n room) a (everyOf read (cutAt sep (drop (e + 1) s))));
           }
 
       -- the last part

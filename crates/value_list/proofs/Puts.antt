@@ -42,7 +42,8 @@ module _ {A : Type 0} (text : A → List ℕ) (sep : ℕ) where
       sym (length-sets now p (runText text sep (drop i l))) ∙ ap length (f .bytes) ∙ length-sets first at (runText text sep (drop 1 l))
 
   -- the separator and the next
-  pub next-put : {l : List A} {first : List ℕ} {at i p : ℕ} {now : List ℕ} {q p₂ : ℕ} {now₁ now₂ : List ℕ} (z a : A) → Putting l first at i p now → a ≡ getD l i z → i < length l
+  pub next-put : {l : List A} {first : List ℕ} {at i p : ℕ} {now : List ℕ} {q p₂ : ℕ} {now₁ now₂ : List ℕ} (z a : A) → Putting l first at i p now
+      → a ≡ getD l i z → i < length l
       → Run now p (sep ∷ []) q now₁ → Run now₁ q (text a) p₂ now₂ → Putting l first at (i + 1) p₂ now₂
   next-put {l = l} {i = i} {p = p} {now = now} {p₂ = p₂} {now₂ = now₂} z a f ea h e₁ e₂ =
       let r = runText text sep (drop (i + 1) l) in

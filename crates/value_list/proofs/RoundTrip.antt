@@ -123,7 +123,8 @@ pub gradients-valid : (s : List ℕ) → gradientsIn s .good ≡ true → ValidG
 unfolding gradientsIn gradientsRead gradientsOf
 gradients-valid s e = go (someOf tripleIn 59 1 16 s) refl e
   where
-    go : (o : Option (List Triple)) → someOf tripleIn 59 1 16 s ≡ o → gradientsRead o .good ≡ true → ValidGradients (gradientsRead o .list .values) (gradientsRead o .list .count)
+    go : (o : Option (List Triple)) → someOf tripleIn 59 1 16 s ≡ o → gradientsRead o .good ≡ true
+        → ValidGradients (gradientsRead o .list .values) (gradientsRead o .list .count)
     go none f e = absurd (false≢true e)
     go (some l) f e =
         let k = list-known tripleIn TripleRange triple-good 59 1 16 s l f in

@@ -122,7 +122,8 @@ module _ (sep : ℕ) (other : isOfNumber sep ≡ false) where
     pub drop-body : drop (runOf isDigit t) (partBody sep t) ≡ partBody sep (drop (runOf isDigit t) t)
     drop-body =
         let r = runOf isDigit t in
-        ap (drop r) cut ∙ ap (λ (k : ℕ). drop k (take r t ++ partBody sep (drop r t))) (sym digits-length) ∙ drop-append-seam (take r t) (partBody sep (drop r t))
+        ap (drop r) cut ∙ ap (λ (k : ℕ). drop k (take r t ++ partBody sep (drop r t))) (sym digits-length)
+        ∙ drop-append-seam (take r t) (partBody sep (drop r t))
 
     pub run-body : runOf isDigit (partBody sep t) ≡ runOf isDigit t
     run-body = omega (arith, body-length, ap length (skip-body t ∙ ap (partBody sep) (skip-drop isDigit t)))

@@ -50,7 +50,8 @@ fraction-below (b ∷ t) f e = go (digitsOf 3 t) refl e
 
 -- ---- the number without its sign
 
-pub unsigned-at : (s : List ℕ) (p : ℕ) (d f : Digits) → p ≡ firstOf 46 s → d ≡ digitsOf 6 (take p s) → f ≡ fractionOf (drop p s) → joinedDigits d f ≡ unsignedOf s
+pub unsigned-at : (s : List ℕ) (p : ℕ) (d f : Digits) → p ≡ firstOf 46 s → d ≡ digitsOf 6 (take p s) → f ≡ fractionOf (drop p s)
+    → joinedDigits d f ≡ unsignedOf s
 unfolding unsignedOf
 unsigned-at s p d f e hd hf = cc
 

@@ -56,6 +56,7 @@ fraction-short (suc k) f =
 
 -- ---- the parts, one after the other
 
-pub text-is : (v : ℤ) (m a b : ℕ) → m ≡ natAbs v → fractionText 3 (m % 1000) ≡ decimalsText a b → signText v ++ wholeText 6 (m / 1000) ++ decimalsText a b ≡ numberText v
+pub text-is : (v : ℤ) (m a b : ℕ) → m ≡ natAbs v → fractionText 3 (m % 1000) ≡ decimalsText a b
+    → signText v ++ wholeText 6 (m / 1000) ++ decimalsText a b ≡ numberText v
 unfolding numberText
 text-is v m a b e h = rw (← e, h)

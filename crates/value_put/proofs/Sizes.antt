@@ -18,7 +18,8 @@ use native.Mathlib.Omega.{arith}
 room-short : (n m : ℕ) (room : List ℕ) → length room ≤ m → length (take n room) ≤ m
 room-short n m room h = omega (arith, length-take n room)
 
-pub text-short : (t : MessageType) (r : Rooms) (v : Value) → Narrow (r .unit) (r .reason) (r .note) → length (r .gradients) ≡ 16 → length (valueText t r v) ≤ 623
+pub text-short : (t : MessageType) (r : Rooms) (v : Value) → Narrow (r .unit) (r .reason) (r .note) → length (r .gradients) ≡ 16
+    → length (valueText t r v) ≤ 623
 unfolding valueText
 text-short t r Blank w g = omega arith
 text-short t r (Id n) w g = omega (arith, identifier-length t n)

@@ -30,7 +30,10 @@ returns-2 c = arm (labelAt Exclusion) (c .before .match .keys2) (c .created .ens
 
 returns-3 : tie.Need-returns-3
 unfolding labelAt labelsOf fieldsOf ri eb
-returns-3 c = found (short-of ([] ∷ labelsOf Rejection) (drop 7 ([] ∷ labelsOf Exclusion)) (c .before .before .args .k) (above 7 2 (c .before .before .args .k) (c .before .match .rest))) (c .ri-label .ensures)
+returns-3 c =
+    let at-args = c .before .before in
+    found (short-of ([] ∷ labelsOf Rejection) (drop 7 ([] ∷ labelsOf Exclusion)) (at-args .args .k) (above 7 2 (at-args .args .k) (c .before .match .rest)))
+    (c .ri-label .ensures)
 
 pub eb-label-spec : {M : Type 1} → statement M
 eb-label-spec =

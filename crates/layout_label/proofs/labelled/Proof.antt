@@ -36,7 +36,12 @@ four-requires c κs = search needs
 
 returns : tie.Need-returns
 unfolding wordsOf
-returns c = rw (c .before .before .before .before .before .before .before .before .eight .ensures, c .before .before .before .before .before .before .eight2 .ensures, c .before .before .before .before .eight3 .ensures, c .before .before .eight4 .ensures, c .four .ensures)
+returns c =
+    let at-eight4 = c .before .before in
+    let at-eight3 = at-eight4 .before .before in
+    let at-eight2 = at-eight3 .before .before in
+    let at-eight = at-eight2 .before .before in
+    rw (at-eight .eight .ensures, at-eight2 .eight2 .ensures, at-eight3 .eight3 .ensures, at-eight4 .eight4 .ensures, c .four .ensures)
 
 pub labelled-spec : {M : Type 1} → statement M
 labelled-spec =

@@ -62,11 +62,18 @@ returns-6 c = arm (labelAt Limitation) (c .before .match .keys6) (c .created .en
 
 returns-7 : tie.Need-returns-7
 unfolding labelAt labelsOf fieldsOf ri lb
-returns-7 c = found (alike (take 5 ([] ∷ labelsOf Rejection)) (drop 5 ([] ∷ labelsOf Rejection)) (drop 5 ([] ∷ labelsOf Limitation)) (c .before .before .before .before .args .k) (omega arith)) (c .ri-label .ensures)
+returns-7 c =
+    let at-args = c .before .before .before .before in
+    found (alike (take 5 ([] ∷ labelsOf Rejection)) (drop 5 ([] ∷ labelsOf Rejection)) (drop 5 ([] ∷ labelsOf Limitation)) (at-args .args .k) (omega arith))
+    (c .ri-label .ensures)
 
 returns-8 : tie.Need-returns-8
 unfolding labelsOf fieldsOf lb
-returns-8 c = no-arm-at Limitation 5 6 (c .before .before .before .args .k) (c .before .before .match .rest) refl (λ h. since (c .before .if1 .came) (λ t. t .taken) (λ e. e .1 .left) h) (c .no-label .ensures)
+returns-8 c =
+    let at-match = c .before .before in
+    let at-args = at-match .before in
+    no-arm-at Limitation 5 6 (at-args .args .k) (at-match .match .rest) refl (λ h. since (c .before .if1 .came) (λ t. t .taken) (λ e. e .1 .left) h)
+    (c .no-label .ensures)
 
 pub lb-label-spec : {M : Type 1} → statement M
 lb-label-spec =

@@ -45,7 +45,11 @@ returns-5 c = search needs
 
 returns-6 : tie.Need-returns-6
 unfolding labelsOf fieldsOf market command technical
-returns-6 c = no-arm-at Market 26 1 (c .before .before .before .args .k) (c .before .before .match .rest) refl (λ h. since (c .before .if1 .came) (λ t. t .taken) (λ e. e .4 .left) h) (c .no-label .ensures)
+returns-6 c =
+    let at-match = c .before .before in
+    let at-args = at-match .before in
+    no-arm-at Market 26 1 (at-args .args .k) (at-match .match .rest) refl (λ h. since (c .before .if1 .came) (λ t. t .taken) (λ e. e .4 .left) h)
+    (c .no-label .ensures)
 
 pub market-label-spec : {M : Type 1} → statement M
 market-label-spec =

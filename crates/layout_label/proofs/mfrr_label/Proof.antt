@@ -25,7 +25,9 @@ returns-2 c = search needs
 
 returns-3 : tie.Need-returns-3
 unfolding labelsOf fieldsOf mfrr
-returns-3 c = no-arm-at Mfrr 13 0 (c .before .before .args .k) tt refl (λ h. since (c .before .if1 .came) (λ t. t .taken) (λ e. e .2 .left) h) (c .no-label .ensures)
+returns-3 c =
+    let at-args = c .before .before in
+    no-arm-at Mfrr 13 0 (at-args .args .k) tt refl (λ h. since (c .before .if1 .came) (λ t. t .taken) (λ e. e .2 .left) h) (c .no-label .ensures)
 
 pub mfrr-label-spec : {M : Type 1} → statement M
 mfrr-label-spec =

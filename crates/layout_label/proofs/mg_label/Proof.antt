@@ -22,7 +22,10 @@ returns c = arm (labelAt Generic) (c .before .match .keys1) (c .created .ensures
 
 returns-2 : tie.Need-returns-2
 unfolding labelAt labelsOf fieldsOf ri mg
-returns-2 c = found (short-of ([] ∷ labelsOf Rejection) (drop 7 ([] ∷ labelsOf Generic)) (c .before .before .args .k) (above 7 1 (c .before .before .args .k) (c .before .match .rest))) (c .ri-label .ensures)
+returns-2 c =
+    let at-args = c .before .before in
+    found (short-of ([] ∷ labelsOf Rejection) (drop 7 ([] ∷ labelsOf Generic)) (at-args .args .k) (above 7 1 (at-args .args .k) (c .before .match .rest)))
+    (c .ri-label .ensures)
 
 pub mg-label-spec : {M : Type 1} → statement M
 mg-label-spec = tie.close (tie.spec created-requires ri-label-requires returns returns-2)

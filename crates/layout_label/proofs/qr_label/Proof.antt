@@ -55,11 +55,18 @@ returns-5 c = arm (labelAt Reserve) (c .before .match .keys5) (c .created .ensur
 
 returns-6 : tie.Need-returns-6
 unfolding labelAt labelsOf fieldsOf ri qr
-returns-6 c = found (alike (take 5 ([] ∷ labelsOf Rejection)) (drop 5 ([] ∷ labelsOf Rejection)) (drop 5 ([] ∷ labelsOf Reserve)) (c .before .before .before .before .args .k) (omega arith)) (c .ri-label .ensures)
+returns-6 c =
+    let at-args = c .before .before .before .before in
+    found (alike (take 5 ([] ∷ labelsOf Rejection)) (drop 5 ([] ∷ labelsOf Rejection)) (drop 5 ([] ∷ labelsOf Reserve)) (at-args .args .k) (omega arith))
+    (c .ri-label .ensures)
 
 returns-7 : tie.Need-returns-7
 unfolding labelsOf fieldsOf qr
-returns-7 c = no-arm-at Reserve 5 5 (c .before .before .before .args .k) (c .before .before .match .rest) refl (λ h. since (c .before .if1 .came) (λ t. t .taken) (λ e. e .1 .left) h) (c .no-label .ensures)
+returns-7 c =
+    let at-match = c .before .before in
+    let at-args = at-match .before in
+    no-arm-at Reserve 5 5 (at-args .args .k) (at-match .match .rest) refl (λ h. since (c .before .if1 .came) (λ t. t .taken) (λ e. e .1 .left) h)
+    (c .no-label .ensures)
 
 pub qr-label-spec : {M : Type 1} → statement M
 qr-label-spec =

@@ -56,7 +56,10 @@ returns-6 c = arm (labelAt VoltVar) (c .before .before .before .match .keys6) (c
 
 returns-7 : tie.Need-returns-7
 unfolding labelAt labelsOf fieldsOf vq labelOf padded
-returns-7 c = last-arm (labelAt VoltVar) 5 6 (c .before .before .before .before .args .k) (c .before .before .before .match .rest) (omega arith) (omega arith) (c .labelled7 .ensures)
+returns-7 c =
+    let at-match = c .before .before .before in
+    let at-args = at-match .before in
+    last-arm (labelAt VoltVar) 5 6 (at-args .args .k) (at-match .match .rest) (omega arith) (omega arith) (c .labelled7 .ensures)
 
 pub setting-label-spec : {M : Type 1} → statement M
 setting-label-spec =

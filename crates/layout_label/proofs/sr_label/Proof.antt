@@ -55,11 +55,18 @@ returns-5 c = arm (labelAt Secondary) (c .before .match .keys5) (c .created .ens
 
 returns-6 : tie.Need-returns-6
 unfolding labelAt labelsOf fieldsOf ri sr
-returns-6 c = found (alike (take 5 ([] ∷ labelsOf Rejection)) (drop 5 ([] ∷ labelsOf Rejection)) (drop 5 ([] ∷ labelsOf Secondary)) (c .before .before .before .before .args .k) (omega arith)) (c .ri-label .ensures)
+returns-6 c =
+    let at-args = c .before .before .before .before in
+    found (alike (take 5 ([] ∷ labelsOf Rejection)) (drop 5 ([] ∷ labelsOf Rejection)) (drop 5 ([] ∷ labelsOf Secondary)) (at-args .args .k) (omega arith))
+    (c .ri-label .ensures)
 
 returns-7 : tie.Need-returns-7
 unfolding labelsOf fieldsOf sr
-returns-7 c = no-arm-at Secondary 5 5 (c .before .before .before .args .k) (c .before .before .match .rest) refl (λ h. since (c .before .if1 .came) (λ t. t .taken) (λ e. e .1 .left) h) (c .no-label .ensures)
+returns-7 c =
+    let at-match = c .before .before in
+    let at-args = at-match .before in
+    no-arm-at Secondary 5 5 (at-args .args .k) (at-match .match .rest) refl (λ h. since (c .before .if1 .came) (λ t. t .taken) (λ e. e .1 .left) h)
+    (c .no-label .ensures)
 
 pub sr-label-spec : {M : Type 1} → statement M
 sr-label-spec =

@@ -56,7 +56,10 @@ returns-6 c = arm (labelAt Market) (c .before .before .before .match .keys6) (c 
 
 returns-7 : tie.Need-returns-7
 unfolding labelAt labelsOf fieldsOf market command technical labelOf padded
-returns-7 c = last-arm (labelAt Market) 13 6 (c .before .before .before .before .args .k) (c .before .before .before .match .rest) (omega arith) (omega arith) (c .labelled7 .ensures)
+returns-7 c =
+    let at-match = c .before .before .before in
+    let at-args = at-match .before in
+    last-arm (labelAt Market) 13 6 (at-args .args .k) (at-match .match .rest) (omega arith) (omega arith) (c .labelled7 .ensures)
 
 pub technical-label-spec : {M : Type 1} → statement M
 technical-label-spec =

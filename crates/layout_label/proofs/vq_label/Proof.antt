@@ -36,14 +36,21 @@ returns-2 c = arm (labelAt VoltVar) (c .before .match .keys2) (c .created .ensur
 
 returns-3 : tie.Need-returns-3
 unfolding labelAt labelsOf fieldsOf ri vq
-returns-3 c = found (alike (take 5 ([] ∷ labelsOf Rejection)) (drop 5 ([] ∷ labelsOf Rejection)) (drop 5 ([] ∷ labelsOf VoltVar)) (c .before .before .before .before .args .k) (omega arith)) (c .ri-label .ensures)
+returns-3 c =
+    let at-args = c .before .before .before .before in
+    found (alike (take 5 ([] ∷ labelsOf Rejection)) (drop 5 ([] ∷ labelsOf Rejection)) (drop 5 ([] ∷ labelsOf VoltVar)) (at-args .args .k) (omega arith))
+    (c .ri-label .ensures)
 
 returns-4 : tie.Need-returns-4
 returns-4 c = search needs
 
 returns-5 : tie.Need-returns-5
 unfolding labelsOf fieldsOf vq
-returns-5 c = no-arm-at VoltVar 12 2 (c .before .before .before .args .k) (c .before .before .match .rest) refl (λ h. since (c .before .if1 .came) (λ t. t .taken) (λ e. e .2 .left) h) (c .no-label .ensures)
+returns-5 c =
+    let at-match = c .before .before in
+    let at-args = at-match .before in
+    no-arm-at VoltVar 12 2 (at-args .args .k) (at-match .match .rest) refl (λ h. since (c .before .if1 .came) (λ t. t .taken) (λ e. e .2 .left) h)
+    (c .no-label .ensures)
 
 pub vq-label-spec : {M : Type 1} → statement M
 vq-label-spec =

@@ -45,7 +45,8 @@ most-of c = c .before .before .before .before .before .before .args .most
 place : (c : tie.After-lead) → length (key-of c) + c .lead .result .count ≤ length (s-of c)
 place c =
     let t = c .before .before .before in
-    number-place (key-of c) (most-of c) (s-of c) _ (t .starts .ensures) (c .before .before .before .before .before .before .pre) (not-false _ (c .before .before .if1 .left)) _ (c .lead .ensures)
+    number-place (key-of c) (most-of c) (s-of c) _ (t .starts .ensures) (c .before .before .before .before .before .before .pre)
+    (not-false _ (c .before .before .if1 .left)) _ (c .lead .ensures)
 
 add-e : tie.Need-add-e
 add-e c = omega (arith, place (c .before))
@@ -67,14 +68,16 @@ returns-3 c =
     let u = c .before .before .before .before .before in
     let r = u .before .before in
     let t = r .before .before .before in
-    number-not _ _ _ _ (t .starts .ensures) (t .before .before .before .pre) (not-false _ (r .before .before .if1 .left)) _ (r .lead .ensures) (u .if2 .left) (c .if3 .taken)
+    number-not _ _ _ _ (t .starts .ensures) (t .before .before .before .pre) (not-false _ (r .before .before .if1 .left)) _ (r .lead .ensures) (u .if2 .left)
+    (c .if3 .taken)
 
 returns-4 : tie.Need-returns-4
 returns-4 c =
     let u = c .before .before .before .before .before in
     let r = u .before .before in
     let t = r .before .before .before in
-    number-is _ _ _ _ (t .starts .ensures) (t .before .before .before .pre) (not-false _ (r .before .before .if1 .left)) _ (r .lead .ensures) (u .if2 .left) (c .if3 .left)
+    number-is _ _ _ _ (t .starts .ensures) (t .before .before .before .pre) (not-false _ (r .before .before .if1 .left)) _ (r .lead .ensures) (u .if2 .left)
+    (c .if3 .left)
 
 pub number-line-spec : {M : Type 1} → statement M
 number-line-spec =

@@ -33,7 +33,12 @@ type-of-requires : tie.Need-type-of-requires
 type-of-requires c κs = search needs
 
 returns-4 : tie.Need-returns-4
-returns-4 c = type-line _ _ (c .before .before .before .before .before .before .before .starts .ensures) (not-false _ (c .before .before .before .before .before .before .if1 .left)) (c .before .before .before .before .before .if2 .left) (c .before .before .before .if3 .left) _ (c .type-of .ensures)
+returns-4 c =
+    let at-if3 = c .before .before .before in
+    let at-if2 = at-if3 .before .before in
+    let at-if1 = at-if2 .before in
+    let at-starts = at-if1 .before in
+    type-line _ _ (at-starts .starts .ensures) (not-false _ (at-if1 .if1 .left)) (at-if2 .if2 .left) (at-if3 .if3 .left) _ (c .type-of .ensures)
 
 pub type-line-spec : {M : Type 1} → statement M
 type-line-spec =

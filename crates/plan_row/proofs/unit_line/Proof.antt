@@ -45,12 +45,14 @@ shared-slice-read-if3 c =
 returns-3 : tie.Need-returns-3
 returns-3 c =
     let r = c .before .before .before in
-    unit-not _ _ (r .before .before .before .starts .ensures) (not-false _ (r .before .before .if1 .left)) _ (r .run .ensures) (c .before .before .if2 .left) (c .if3 .taken)
+    unit-not _ _ (r .before .before .before .starts .ensures) (not-false _ (r .before .before .if1 .left)) _ (r .run .ensures) (c .before .before .if2 .left)
+    (c .if3 .taken)
 
 returns-4 : tie.Need-returns-4
 returns-4 c =
     let r = c .before .before .before in
-    unit-is _ _ (r .before .before .before .starts .ensures) (not-false _ (r .before .before .if1 .left)) _ (r .run .ensures) (c .before .before .if2 .left) (c .if3 .left)
+    unit-is _ _ (r .before .before .before .starts .ensures) (not-false _ (r .before .before .if1 .left)) _ (r .run .ensures) (c .before .before .if2 .left)
+    (c .if3 .left)
 
 pub unit-line-spec : {M : Type 1} → statement M
 unit-line-spec =

@@ -21,7 +21,9 @@ reason-field-requires : tie.Need-reason-field-requires
 reason-field-requires c κs = search needs
 
 text-at-requires-2 : tie.Need-text-at-requires-2
-text-at-requires-2 c κs = (omega (arith, reason-in (c .before .before .before .before .args .l), c .reason-field .ensures), c .before .before .before .before .pre)
+text-at-requires-2 c κs =
+    let at-args = c .before .before .before .before in
+    (omega (arith, reason-in (at-args .args .l), c .reason-field .ensures), at-args .pre)
 
 keep-reason-requires : tie.Need-keep-reason-requires
 keep-reason-requires c κs = search needs
@@ -30,7 +32,10 @@ note-field-requires : tie.Need-note-field-requires
 note-field-requires c κs = search needs
 
 text-at-requires-3 : tie.Need-text-at-requires-3
-text-at-requires-3 c κs = (omega (arith, note-in (c .before .before .before .before .before .before .before .args .l), c .note-field .ensures), c .before .before .before .before .before .before .before .pre)
+text-at-requires-3 c κs =
+    let mid = c .before .before .before .before in
+    let at-args = mid .before .before .before in
+    (omega (arith, note-in (at-args .args .l), c .note-field .ensures), at-args .pre)
 
 keep-note-requires : tie.Need-keep-note-requires
 keep-note-requires c κs = search needs

@@ -18,7 +18,11 @@ use native.Mathlib.Omega.{arith}
 -- ---- the label, and whether the line begins with it
 
 abbrev name-of : tie.After-starts → List ℕ
-name-of c = labelAt (c .before .before .before .before .before .before .before .before .before .args .l) (c .before .before .before .before .before .before .before .before .before .args .k)
+name-of c =
+    let mid = c .before .before .before .before in
+    let mid-on = mid .before .before .before .before in
+    let at-args = mid-on .before in
+    labelAt (at-args .args .l) (at-args .args .k)
 
 abbrev line-of : tie.After-starts → List ℕ
 line-of c = c .before .before .before .before .before .before .before .before .before .args .s .now
@@ -106,7 +110,8 @@ add-result c = let h = fits (c .before .before .before) in search needs
 returns-5 : tie.Need-returns-5
 returns-5 c =
     let z = c .before .before .before .before .before in
-    head-here _ _ _ _ (sized (z .before)) (begun z) (c .before .before .before .lead .ensures) (z .before .before .before .before .before .before .before .if1 .left) (c .before .before .if3 .left) (c .if4 .left)
+    head-here _ _ _ _ (sized (z .before)) (begun z) (c .before .before .before .lead .ensures)
+    (z .before .before .before .before .before .before .before .if1 .left) (c .before .before .if3 .left) (c .if4 .left)
 
 pub head-spec : {M : Type 1} → statement M
 head-spec =

@@ -15,14 +15,16 @@ start c = c .before .before .before .before
 head-near : (c : tie.After-expected-head) → start c .args .at + c .expected-head .result ≤ length (start c .args .s .now)
 head-near c =
     let z = start c .args in
-    head-inside (z .t) (z .s .now) (z .at) (z .seps) (c .before .before .expect .result) (c .before .before .expect .ensures) (c .expected-head .result) 0 (start c .pre .0) (c .expected-head .ensures)
+    head-inside (z .t) (z .s .now) (z .at) (z .seps) (c .before .before .expect .result) (c .before .before .expect .ensures) (c .expected-head .result) 0
+    (start c .pre .0) (c .expected-head .ensures)
 
 end-near : (c : tie.After-plain-run)
     → start (c .before .before) .args .at + c .before .before .expected-head .result + c .plain-run .result ≤ length (start (c .before .before) .args .s .now)
 end-near c =
     let head = c .before .before in
     let z = start head .args in
-    run-inside (z .t) (z .s .now) (z .at) (z .seps) (head .before .before .expect .result) (head .before .before .expect .ensures) _ _ (start head .pre .0) (head .expected-head .ensures)
+    run-inside (z .t) (z .s .now) (z .at) (z .seps) (head .before .before .expect .result) (head .before .before .expect .ensures) _ _ (start head .pre .0)
+    (head .expected-head .ensures)
     (c .plain-run .ensures)
 
 expect-requires : tie.Need-expect-requires

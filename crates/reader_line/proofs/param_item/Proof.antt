@@ -25,7 +25,8 @@ value-near : (c : tie.Else2)
 value-near c =
     let f = sought (trimmed c) in
     let z = start f in
-    value-fits (z .args .s .now) (z .args .at) (z .args .end) (f .first .result) (z .pre .0) (z .pre .1) (f .first .ensures) (trimmed c .before .before .if1 .left)
+    value-fits (z .args .s .now) (z .args .at) (z .args .end) (f .first .result) (z .pre .0) (z .pre .1) (f .first .ensures)
+    (trimmed c .before .before .if1 .left)
 
 sub-line : tie.Need-sub-line
 sub-line c = search needs

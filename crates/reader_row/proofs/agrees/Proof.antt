@@ -40,12 +40,14 @@ enum-told-2 c = search needs
 returns-2 : tie.Need-returns-2
 returns-2 c =
     let z = c .before .before .before .before .before .before .before .before .before .before in
-    bands-other _ _ _ _ _ (z .pre .0) (z .pre .1) _ (c .before .before .before .before .before .before .skip-fields .ensures) _ (c .before .before .before .before .a .given .1) _ (c .before .before .skip-bands .ensures) (c .enum-told2 .given .1)
+    bands-other _ _ _ _ _ (z .pre .0) (z .pre .1) _ (c .before .before .before .before .before .before .skip-fields .ensures) _
+    (c .before .before .before .before .a .given .1) _ (c .before .before .skip-bands .ensures) (c .enum-told2 .given .1)
 
 returns-3 : tie.Need-returns-3
 returns-3 c =
     let z = c .before .before .before .before .before .before .before .before .before .before .before in
-    bands-last _ _ _ _ _ (z .pre .0) (z .pre .1) _ (c .before .before .before .before .before .before .before .skip-fields .ensures) _ (c .before .before .before .before .before .a .given .1) _ (c .before .before .before .skip-bands .ensures) _ (c .before .b .given .1)
+    bands-last _ _ _ _ _ (z .pre .0) (z .pre .1) _ (c .before .before .before .before .before .before .before .skip-fields .ensures) _
+    (c .before .before .before .before .before .a .given .1) _ (c .before .before .before .skip-bands .ensures) _ (c .before .b .given .1)
 
 pub agrees-spec : {M : Type 1} → statement M
 agrees-spec =

@@ -41,7 +41,8 @@ returns c =
 loop-holds : tie.Need-loop-holds Inv-loop μ-loop
 loop-holds c =
     let z = c .before .before .before .before .before .before .before in
-    first-on _ _ _ _ _ (z .pre .0) (z .pre .1) (z .pre .2) _ (c .before .before .before .skip-piece .ensures) _ (c .before .before .before .before .before .size .ensures) _ (c .before .first .given .1)
+    first-on _ _ _ _ _ (z .pre .0) (z .pre .1) (z .pre .2) _ (c .before .before .before .skip-piece .ensures) _
+    (c .before .before .before .before .before .size .ensures) _ (c .before .first .given .1)
 
 field-requires : tie.Need-field-requires Inv-loop μ-loop
 field-requires c κs = omega (arith, c .before .loop .inv .size)

@@ -47,7 +47,8 @@ add-t13 c = search needs
 returns-2 : tie.Need-returns-2
 returns-2 c =
     let z = c .before .before .before .before .before .before .before in
-    piece-passed (z .args .file .now) (z .args .at) (z .args .end) (z .args .p .from) (z .args .p .to) (z .pre .3) (sym (c .before .starts .ensures) ∙ not-false _ (c .if1 .left))
+    piece-passed (z .args .file .now) (z .args .at) (z .args .end) (z .args .p .from) (z .args .p .to) (z .pre .3)
+    (sym (c .before .starts .ensures) ∙ not-false _ (c .if1 .left))
 
 pub skip-piece-spec : {M : Type 1} → statement M
 skip-piece-spec =

@@ -36,7 +36,8 @@ first-near c = first-le _ _ _ _ _ (item-is _ _ _ _ _ (c .line-of .ensures))
 second-near : (c : tie.After-line-of Inv-loop μ-loop) → c .line-of .result .second ≤ 26
 second-near c = second-le _ _ _ _ _ (item-is _ _ _ _ _ (c .line-of .ensures))
 
-ended-at : (c : tie.After-line-of Inv-loop μ-loop) → c .line-of .result .end ≡ c .before .before .loop .at + plainRun (drop (c .before .before .loop .at) (begun c .args .s .now))
+ended-at : (c : tie.After-line-of Inv-loop μ-loop)
+    → c .line-of .result .end ≡ c .before .before .loop .at + plainRun (drop (c .before .before .loop .at) (begun c .args .s .now))
 ended-at c = end-is _ _ _ _ _ (c .line-of .ensures)
 
 kept-first : (c : tie.After-note Inv-loop μ-loop) → c .note .result .into ≤ 26

@@ -21,7 +21,10 @@ loop-holds : tie.Need-loop-holds Inv-loop μ-loop
 loop-holds c = (omega arith, search needs, refl)
 
 returns : tie.Need-returns Inv-loop μ-loop
-returns c = sym (c .before .before .loop .inv .2 ∙ front-done rises (c .before .before .before .args .n) (c .before .before .before .args .t1) (c .before .before .loop .i) (omega (arith, c .if1 .taken)))
+returns c =
+    let at-loop = c .before .before in
+    let at-args = at-loop .before in
+    sym (at-loop .loop .inv .2 ∙ front-done rises (at-args .args .n) (at-args .args .t1) (at-loop .loop .i) (omega (arith, c .if1 .taken)))
 
 mul-rises : tie.Need-mul-rises Inv-loop μ-loop
 mul-rises c = search needs

@@ -28,7 +28,13 @@ returns-2 : tie.Need-returns-2
 returns-2 c =
     let w = c .before .before in
     let f = w .before in
-    rw (sym (w .says .ensures) ∙ c .before .if1 .left, f .before .before .filled .ensures, f .before .filled2 .ensures, f .filled3 .ensures, c .at-most .ensures)
+    rw (
+      sym (w .says .ensures) ∙ c .before .if1 .left,
+      f .before .before .filled .ensures,
+      f .before .filled2 .ensures,
+      f .filled3 .ensures,
+      c .at-most .ensures,
+    )
 
 pub limited-spec : {M : Type 1} → statement M
 limited-spec =

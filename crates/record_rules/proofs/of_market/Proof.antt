@@ -15,7 +15,10 @@ updated-requires : tie.Need-updated-requires
 updated-requires c κs = search needs
 
 returns-2 : tie.Need-returns-2
-returns-2 c = broken-here _ _ _ (c .before .updated .ensures) (c .if2 .taken) ∙ holds-on _ _ _ (c .before .before .before .in-order .ensures) (c .before .before .if1 .left)
+returns-2 c =
+    let at-if1 = c .before .before in
+    let at-in-order = at-if1 .before in
+    broken-here _ _ _ (c .before .updated .ensures) (c .if2 .taken) ∙ holds-on _ _ _ (at-in-order .in-order .ensures) (at-if1 .if1 .left)
 
 profiled-requires : tie.Need-profiled-requires
 profiled-requires c κs = search needs

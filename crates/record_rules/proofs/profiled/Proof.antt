@@ -25,7 +25,14 @@ returns : tie.Need-returns
 returns c =
     let h = c .before .before .before in
     let b = c .before in
-    rw (h .before .before .filled .ensures, h .before .filled2 .ensures, h .filled3 .ensures, b .before .filled4 .ensures, b .filled5 .ensures, c .filled6 .ensures)
+    rw (
+      h .before .before .filled .ensures,
+      h .before .filled2 .ensures,
+      h .filled3 .ensures,
+      b .before .filled4 .ensures,
+      b .filled5 .ensures,
+      c .filled6 .ensures,
+    )
 
 pub profiled-spec : {M : Type 1} → statement M
 profiled-spec =

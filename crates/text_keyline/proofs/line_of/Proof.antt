@@ -18,7 +18,10 @@ returns-2 : tie.Need-returns-2
 returns-2 c = no-end _ _ _ (c .before .before .before .starts .ensures) _ (c .before .first .ensures) (c .if2 .taken)
 
 returns-3 : tie.Need-returns-3
-returns-3 c = ends-at _ _ _ (c .before .before .before .starts .ensures) _ (c .before .first .ensures) (not-false _ (c .before .before .if1 .left)) (c .if2 .left)
+returns-3 c =
+    let at-if1 = c .before .before in
+    let at-starts = at-if1 .before in
+    ends-at _ _ _ (at-starts .starts .ensures) _ (c .before .first .ensures) (not-false _ (at-if1 .if1 .left)) (c .if2 .left)
 
 pub line-of-spec : {M : Type 1} → statement M
 line-of-spec = tie.close (tie.spec starts-requires returns first-requires returns-2 returns-3)

@@ -23,7 +23,10 @@ whole-requires : tie.Need-whole-requires
 whole-requires c κs = search needs
 
 returns-2 : tie.Need-returns-2
-returns-2 c = line-number _ _ _ _ (c .before .before .before .before .line-of .ensures) _ _ _ (c .before .before .enum-told .given .1) (c .before .value .ensures) (c .whole .ensures)
+returns-2 c =
+    let at-enum-told = c .before .before in
+    let at-line-of = at-enum-told .before .before in
+    line-number _ _ _ _ (at-line-of .line-of .ensures) _ _ _ (at-enum-told .enum-told .given .1) (c .before .value .ensures) (c .whole .ensures)
 
 pub number-spec : {M : Type 1} → statement M
 number-spec =

@@ -29,10 +29,20 @@ shared-slice-read-if4-2 : tie.Need-shared-slice-read-if4-2
 shared-slice-read-if4-2 c = search needs
 
 returns-4 : tie.Need-returns-4
-returns-4 c = break-pair _ _ (c .before .before .before .before .before .before .before .pre) (c .before .before .before .before .before .before .if1 .left) (c .before .before .before .if3 .left) (c .before .before .before .before .if2 .left) (c .if4 .taken)
+returns-4 c =
+    let at-if3 = c .before .before .before in
+    let at-if2 = at-if3 .before in
+    let at-if1 = at-if2 .before .before in
+    let at-pre = at-if1 .before in
+    break-pair _ _ (at-pre .pre) (at-if1 .if1 .left) (at-if3 .if3 .left) (at-if2 .if2 .left) (c .if4 .taken)
 
 returns-5 : tie.Need-returns-5
-returns-5 c = break-bad _ _ (c .before .before .before .before .before .before .before .pre) (c .before .before .before .before .before .before .if1 .left) (c .before .before .before .if3 .left) (c .before .before .before .before .if2 .left) (c .if4 .left)
+returns-5 c =
+    let at-if3 = c .before .before .before in
+    let at-if2 = at-if3 .before in
+    let at-if1 = at-if2 .before .before in
+    let at-pre = at-if1 .before in
+    break-bad _ _ (at-pre .pre) (at-if1 .if1 .left) (at-if3 .if3 .left) (at-if2 .if2 .left) (c .if4 .left)
 
 pub break-at-spec : {M : Type 1} → statement M
 break-at-spec =

@@ -54,7 +54,8 @@ is-plain-requires c κs = search needs
 
 returns : tie.Need-returns Inv-loop μ-loop Inv-loop2 μ-loop2
 returns c =
-    plain-here _ _ (c .before .before .before .before .loop2 .inv .1) (c .before .before .before .loop2-test .taken) (sym (c .before .is-plain .ensures) ∙ not-true _ (c .if2 .taken))
+    plain-here _ _ (c .before .before .before .before .loop2 .inv .1) (c .before .before .before .loop2-test .taken)
+    (sym (c .before .is-plain .ensures) ∙ not-true _ (c .if2 .taken))
 
 add-i-2 : tie.Need-add-i-2 Inv-loop μ-loop Inv-loop2 μ-loop2
 add-i-2 c = search needs

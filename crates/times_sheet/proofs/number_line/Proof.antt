@@ -23,7 +23,10 @@ is-number-requires : tie.Need-is-number-requires
 is-number-requires c κs = search needs
 
 returns-2 : tie.Need-returns-2
-returns-2 c = number-line _ _ _ (c .before .before .before .before .line-of .ensures) _ _ _ (c .before .before .enum-told .given .1) (c .before .value .ensures) (c .is-number .ensures)
+returns-2 c =
+    let at-enum-told = c .before .before in
+    let at-line-of = at-enum-told .before .before in
+    number-line _ _ _ (at-line-of .line-of .ensures) _ _ _ (at-enum-told .enum-told .given .1) (c .before .value .ensures) (c .is-number .ensures)
 
 pub number-line-spec : {M : Type 1} → statement M
 number-line-spec =

@@ -26,7 +26,10 @@ returns : tie.Need-returns
 returns c = start-up-at _ _ _ _ (c .before .enum-told .given .1) (c .before .before .before .below .ensures) (c .after-key .ensures)
 
 returns-2 : tie.Need-returns-2
-returns-2 c = ramp-at _ _ _ _ _ (c .before .before .enum-told2 .given .1) (c .before .before .before .before .below .ensures) (c .before .below2 .ensures) (c .after-key2 .ensures)
+returns-2 c =
+    let at-enum-told2 = c .before .before in
+    let at-below = at-enum-told2 .before .before in
+    ramp-at _ _ _ _ _ (at-enum-told2 .enum-told2 .given .1) (at-below .below .ensures) (c .before .below2 .ensures) (c .after-key2 .ensures)
 
 pub time-part-spec : {M : Type 1} → statement M
 time-part-spec =

@@ -26,7 +26,10 @@ same-requires : tie.Need-same-requires
 same-requires c κs = search needs
 
 returns-2 : tie.Need-returns-2
-returns-2 c = unit-line _ _ _ (c .before .before .before .before .line-of .ensures) _ _ _ (c .before .before .enum-told .given .1) (c .before .value .ensures) (c .same .ensures)
+returns-2 c =
+    let at-enum-told = c .before .before in
+    let at-line-of = at-enum-told .before .before in
+    unit-line _ _ _ (at-line-of .line-of .ensures) _ _ _ (at-enum-told .enum-told .given .1) (c .before .value .ensures) (c .same .ensures)
 
 pub unit-line-spec : {M : Type 1} → statement M
 unit-line-spec =

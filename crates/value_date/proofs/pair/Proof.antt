@@ -33,7 +33,8 @@ start c = c .before .before .before .before .before .before
 read : (c : tie.After-known-told) → (c .before .v .given .0 .0 ≡ fieldAt (start c .args .s .now) (start c .args .at) 2) × (c .before .v .given .0 .0 < 10 ^ 2)
 read c =
     let s = start c in
-    field-read (s .args .s .now) (s .args .at) 2 _ (c .before .before .before .read-digits .ensures) (lit≤ tt) (s .pre .0) (s .pre .1) _ (c .before .v .given .1)
+    field-read (s .args .s .now) (s .args .at) 2 _ (c .before .before .before .read-digits .ensures) (lit≤ tt) (s .pre .0) (s .pre .1) _
+    (c .before .v .given .1)
 
 cast-result : tie.Need-cast-result
 cast-result c = omega (arith, read c .1)

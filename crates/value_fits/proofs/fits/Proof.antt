@@ -114,7 +114,10 @@ returns-4 c = rw (c .before .before .v3 .given .1, c .before .before .before .be
 
 returns-5 : tie.Need-returns-5
 unfolding fits
-returns-5 c = rw (c .before .before .v4 .given .1, c .before .before .before .before .number .ensures, c .in-range .ensures, toZ-ofZ w32 (c .before .before .v4 .given .0 .0) (search needs))
+returns-5 c =
+    let at-v4 = c .before .before in
+    let at-number = at-v4 .before .before in
+    rw (at-v4 .v4 .given .1, at-number .number .ensures, c .in-range .ensures, toZ-ofZ w32 (at-v4 .v4 .given .0 .0) (search needs))
 
 returns-6 : tie.Need-returns-6
 unfolding fits
@@ -142,19 +145,31 @@ returns-11 c = rw (c .before .before .v10 .given .1, c .before .before .before .
 
 returns-12 : tie.Need-returns-12
 unfolding fits
-returns-12 c = rw (c .before .before .before .v11 .given .1, c .before .before .before .before .before .number .ensures, c .in-range2 .ensures, toZ-ofZ w32 (c .before .before .before .v11 .given .0 .0 .0) (search needs))
+returns-12 c =
+    let at-v11 = c .before .before .before in
+    let at-number = at-v11 .before .before in
+    rw (at-v11 .v11 .given .1, at-number .number .ensures, c .in-range2 .ensures, toZ-ofZ w32 (at-v11 .v11 .given .0 .0 .0) (search needs))
 
 returns-13 : tie.Need-returns-13
 unfolding fits
-returns-13 c = rw (c .before .before .before .v12 .given .1, c .before .before .before .before .before .number .ensures, c .in-range3 .ensures, toZ-ofZ w32 (c .before .before .before .v12 .given .0 .0 .0) (search needs))
+returns-13 c =
+    let at-v12 = c .before .before .before in
+    let at-number = at-v12 .before .before in
+    rw (at-v12 .v12 .given .1, at-number .number .ensures, c .in-range3 .ensures, toZ-ofZ w32 (at-v12 .v12 .given .0 .0 .0) (search needs))
 
 returns-14 : tie.Need-returns-14
 unfolding fits
-returns-14 c = rw (c .before .before .before .v13 .given .1, c .before .before .before .before .before .number .ensures, c .in-range4 .ensures, toZ-ofZ w32 (c .before .before .before .v13 .given .0 .0 .0) (search needs))
+returns-14 c =
+    let at-v13 = c .before .before .before in
+    let at-number = at-v13 .before .before in
+    rw (at-v13 .v13 .given .1, at-number .number .ensures, c .in-range4 .ensures, toZ-ofZ w32 (at-v13 .v13 .given .0 .0 .0) (search needs))
 
 returns-15 : tie.Need-returns-15
 unfolding fits
-returns-15 c = rw (c .before .before .before .v14 .given .1, c .before .before .before .before .before .number .ensures, c .in-range5 .ensures, toZ-ofZ w32 (c .before .before .before .v14 .given .0 .0 .0) (search needs))
+returns-15 c =
+    let at-v14 = c .before .before .before in
+    let at-number = at-v14 .before .before in
+    rw (at-v14 .v14 .given .1, at-number .number .ensures, c .in-range5 .ensures, toZ-ofZ w32 (at-v14 .v14 .given .0 .0 .0) (search needs))
 
 pub fits-spec : {M : Type 1} → statement M
 fits-spec =

@@ -13,7 +13,8 @@ is-filled-requires c κs = search needs
 returns : tie.Need-returns
 returns c =
     let a = c .before .before .before .before .before .args in
-    holds-blank (a .t) (rooms (a .unit .now) (a .reason .now) (a .note .now) (a .gradients)) (a .k) (a .v) (sym (c .before .is-filled .ensures) ∙ not-true (c .before .is-filled .result) (c .if1 .taken))
+    holds-blank (a .t) (rooms (a .unit .now) (a .reason .now) (a .note .now) (a .gradients)) (a .k) (a .v)
+    (sym (c .before .is-filled .ensures) ∙ not-true (c .before .is-filled .result) (c .if1 .taken))
 
 fits-requires : tie.Need-fits-requires
 fits-requires c κs = search needs

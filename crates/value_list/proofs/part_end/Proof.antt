@@ -21,7 +21,8 @@ part-first-end c = search needs
 first-requires : tie.Need-first-requires
 first-requires c κs = search needs
 
-found : (c : tie.After-first) → c .first .result ≡ firstOf (c .before .before .before .args .sep) (drop (c .before .before .before .args .at) (c .before .before .before .args .s .now))
+found : (c : tie.After-first)
+    → c .first .result ≡ firstOf (c .before .before .before .args .sep) (drop (c .before .before .before .args .at) (c .before .before .before .args .s .now))
 found c = let a = c .before .before .before .args in rw (tail (a .s .now) (a .at)) at (c .first .ensures)
 
 add-result : tie.Need-add-result

@@ -34,7 +34,8 @@ front-requires c κs = search needs
 put-text-requires : tie.Need-put-text-requires
 put-text-requires c κs =
     let h = c .before .before .before .before .before .before .before .before .before .pre in
-    front-fits (c .before .before .before .before .before .before .before .before .before .args .unit .now) _ _ (c .before .before .before .v2 .given .0 .0) (c .front .ensures) (omega (arith, h .1 .unit-few)) (h .0)
+    front-fits (c .before .before .before .before .before .before .before .before .before .args .unit .now) _ _ (c .before .before .before .v2 .given .0 .0)
+    (c .front .ensures) (omega (arith, h .1 .unit-few)) (h .0)
 
 enum-known-v-3 : tie.Need-enum-known-v-3
 enum-known-v-3 c = search needs
@@ -63,7 +64,8 @@ front-requires-2 c κs = search needs
 put-text-requires-2 : tie.Need-put-text-requires-2
 put-text-requires-2 c κs =
     let h = c .before .before .before .before .before .before .before .before .before .pre in
-    front-fits (c .before .before .before .before .before .before .before .before .before .args .reason .now) _ _ (c .before .before .before .v6 .given .0 .0) (c .front2 .ensures) (omega (arith, h .1 .reason-few)) (h .0)
+    front-fits (c .before .before .before .before .before .before .before .before .before .args .reason .now) _ _ (c .before .before .before .v6 .given .0 .0)
+    (c .front2 .ensures) (omega (arith, h .1 .reason-few)) (h .0)
 
 enum-known-v-7 : tie.Need-enum-known-v-7
 enum-known-v-7 c = search needs
@@ -74,7 +76,8 @@ front-requires-3 c κs = search needs
 put-text-requires-3 : tie.Need-put-text-requires-3
 put-text-requires-3 c κs =
     let h = c .before .before .before .before .before .before .before .before .before .pre in
-    front-fits (c .before .before .before .before .before .before .before .before .before .args .note .now) _ _ (c .before .before .before .v7 .given .0 .0) (c .front3 .ensures) (omega (arith, h .1 .note-few)) (h .0)
+    front-fits (c .before .before .before .before .before .before .before .before .before .args .note .now) _ _ (c .before .before .before .v7 .given .0 .0)
+    (c .front3 .ensures) (omega (arith, h .1 .note-few)) (h .0)
 
 enum-known-v-8 : tie.Need-enum-known-v-8
 enum-known-v-8 c = search needs
@@ -130,14 +133,19 @@ unfolding valueText
 returns-2 c =
     let t = c .before .before .before .before .before .before .before .before .before .before .before .args .t in
     let n = c .before .before .before .before .before .v .given .0 .0 in
-    shown _ _ _ _ _ _ _ _ _ (c .before .before .before .before .before .v .given .1) refl (sized _ _ _ _ (identifierText t n) 13 (identifier-length t n) (c .before .before .put .ensures))
+    shown _ _ _ _ _ _ _ _ _ (c .before .before .before .before .before .v .given .1) refl
+    (sized _ _ _ _ (identifierText t n) 13 (identifier-length t n) (c .before .before .put .ensures))
 
 same-length-2 : tie.Need-same-length-2
 same-length-2 c = search needs
 
 returns-3 : tie.Need-returns-3
 unfolding valueText
-returns-3 c = shown _ _ _ _ _ _ _ _ _ (c .before .before .before .before .before .before .v2 .given .1) (c .before .before .before .front .ensures) (c .before .before .put-text .ensures)
+returns-3 c =
+    let at-put-text = c .before .before in
+    let at-front = at-put-text .before in
+    let at-v2 = at-front .before .before .before in
+    shown _ _ _ _ _ _ _ _ _ (at-v2 .v2 .given .1) (at-front .front .ensures) (at-put-text .put-text .ensures)
 
 same-length-3 : tie.Need-same-length-3
 same-length-3 c = search needs
@@ -146,14 +154,20 @@ returns-4 : tie.Need-returns-4
 unfolding valueText
 returns-4 c =
     let d = c .before .before .before .before .before .v3 .given .0 .0 in
-    shown _ _ _ _ _ _ _ _ _ (c .before .before .before .before .before .v3 .given .1) refl (sized _ _ _ _ (dateText d) 21 (date-length d) (c .before .before .put2 .ensures))
+    shown _ _ _ _ _ _ _ _ _ (c .before .before .before .before .before .v3 .given .1) refl
+    (sized _ _ _ _ (dateText d) 21 (date-length d) (c .before .before .put2 .ensures))
 
 same-length-4 : tie.Need-same-length-4
 same-length-4 c = search needs
 
 returns-5 : tie.Need-returns-5
 unfolding valueText
-returns-5 c = shown _ _ _ _ _ _ _ _ _ (c .before .before .before .before .before .v4 .given .1) refl (rw (toZ-ofZ w32 (c .before .before .before .before .before .v4 .given .0 .0) (record { sfits = c .before .before .before .before .known-told4 .given .0 .1 })) at (c .before .before .put3 .ensures))
+returns-5 c =
+    let at-put3 = c .before .before in
+    let at-known-told4 = at-put3 .before .before in
+    let at-v4 = at-known-told4 .before in
+    shown _ _ _ _ _ _ _ _ _ (at-v4 .v4 .given .1) refl
+    (rw (toZ-ofZ w32 (at-v4 .v4 .given .0 .0) (record { sfits = at-known-told4 .known-told4 .given .0 .1 })) at (at-put3 .put3 .ensures))
 
 same-length-5 : tie.Need-same-length-5
 same-length-5 c = search needs
@@ -167,14 +181,22 @@ same-length-6 c = search needs
 
 returns-7 : tie.Need-returns-7
 unfolding valueText
-returns-7 c = shown _ _ _ _ _ _ _ _ _ (c .before .before .before .before .before .before .v6 .given .1) (c .before .before .before .front2 .ensures) (c .before .before .put-text2 .ensures)
+returns-7 c =
+    let at-put-text2 = c .before .before in
+    let at-front2 = at-put-text2 .before in
+    let at-v6 = at-front2 .before .before .before in
+    shown _ _ _ _ _ _ _ _ _ (at-v6 .v6 .given .1) (at-front2 .front2 .ensures) (at-put-text2 .put-text2 .ensures)
 
 same-length-7 : tie.Need-same-length-7
 same-length-7 c = search needs
 
 returns-8 : tie.Need-returns-8
 unfolding valueText
-returns-8 c = shown _ _ _ _ _ _ _ _ _ (c .before .before .before .before .before .before .v7 .given .1) (c .before .before .before .front3 .ensures) (c .before .before .put-text3 .ensures)
+returns-8 c =
+    let at-put-text3 = c .before .before in
+    let at-front3 = at-put-text3 .before in
+    let at-v7 = at-front3 .before .before .before in
+    shown _ _ _ _ _ _ _ _ _ (at-v7 .v7 .given .1) (at-front3 .front3 .ensures) (at-put-text3 .put-text3 .ensures)
 
 same-length-8 : tie.Need-same-length-8
 same-length-8 c = search needs
@@ -235,7 +257,8 @@ unfolding valueText
 returns-15 c =
     let x = c .before .before .before .before .before .before .v14 .given .0 .0 .0 in
     let h : SFits w32 x = search needs in
-    shown _ _ _ _ _ _ _ _ _ (c .before .before .before .before .before .before .v14 .given .1) refl (rw (toZ-ofZ w32 x h) at (c .before .before .put10 .ensures))
+    shown _ _ _ _ _ _ _ _ _ (c .before .before .before .before .before .before .v14 .given .1) refl
+    (rw (toZ-ofZ w32 x h) at (c .before .before .put10 .ensures))
 
 pub put-value-spec : {M : Type 1} → statement M
 put-value-spec =

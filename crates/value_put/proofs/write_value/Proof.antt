@@ -51,7 +51,12 @@ same-length-3 : tie.Need-same-length-3
 same-length-3 c = search needs
 
 returns-3 : tie.Need-returns-3
-returns-3 c = done-write _ _ _ _ _ (c .before .before .before .before .before .before .before .before .before .before .before .put-value .ensures) _ _ (omega arith) (c .before .before .put-value2 .ensures)
+returns-3 c =
+    let at-put-value2 = c .before .before in
+    let mid = at-put-value2 .before .before .before .before in
+    let mid-on = mid .before .before .before .before in
+    let at-put-value = mid-on .before in
+    done-write _ _ _ _ _ (at-put-value .put-value .ensures) _ _ (omega arith) (at-put-value2 .put-value2 .ensures)
 
 pub write-value-spec : {M : Type 1} → statement M
 write-value-spec =

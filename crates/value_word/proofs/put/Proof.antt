@@ -12,7 +12,8 @@ use mathlib.Core.Path.{_≡_, ap}
 use native.Mathlib.Omega.{arith}
 
 -- what is handed on is the word
-written : (c : tie.After-front) → now (c .front .result) ≡ word (c .before .before .before .before .before .before .before .before .before .before .before .before .before .before .args .w)
+written : (c : tie.After-front)
+    → now (c .front .result) ≡ word (c .before .before .before .before .before .before .before .before .before .before .before .before .before .before .args .w)
 written c =
     let third = c .before .before .before .before in
     let second = third .before .before .before in
@@ -49,7 +50,12 @@ front-requires : tie.Need-front-requires
 front-requires c κs = search needs
 
 put-text-requires : tie.Need-put-text-requires
-put-text-requires c κs = omega (arith, ap length (written c), word-short (c .before .before .before .before .before .before .before .before .before .before .before .before .before .before .args .w))
+put-text-requires c κs =
+    let mid = c .before .before .before .before in
+    let mid-on = mid .before .before .before .before in
+    let mid-on-on = mid-on .before .before .before .before in
+    let at-args = mid-on-on .before .before in
+    omega (arith, ap length (written c), word-short (at-args .args .w))
 
 same-length : tie.Need-same-length
 same-length c = search needs
@@ -57,7 +63,8 @@ same-length c = search needs
 returns : tie.Need-returns
 returns c =
     let front = c .before .before .before in
-    same-puts (word (front .before .before .before .before .before .before .before .before .before .before .before .before .before .before .args .w)) (written front) (puts (c .before .before .put-text .ensures))
+    same-puts (word (front .before .before .before .before .before .before .before .before .before .before .before .before .before .before .args .w))
+    (written front) (puts (c .before .before .put-text .ensures))
 
 pub put-spec : {M : Type 1} → statement M
 put-spec =

@@ -21,7 +21,10 @@ read-word-requires : tie.Need-read-word-requires
 read-word-requires c κs = search needs
 
 returns : tie.Need-returns
-returns c = rw (toZ-ofZ w32 (c .before .n .given .0 .0) (record { sfits = c .known-told .given .0 .1 })) (is-number reactive _ _ _ (c .before .n .given .1) (c .before .before .before .read .ensures))
+returns c =
+    let at-read = c .before .before .before in
+    rw (toZ-ofZ w32 (c .before .n .given .0 .0) (record { sfits = c .known-told .given .0 .1 }))
+    (is-number reactive _ _ _ (c .before .n .given .1) (at-read .read .ensures))
 
 returns-2 : tie.Need-returns-2
 returns-2 c = c .read-word .ensures ∙ is-word reactive _ _ _ (c .before .enum-told .given .1) (c .before .before .before .read .ensures)

@@ -104,7 +104,10 @@ read-reactive-requires c κs = search needs
 
 returns : tie.Need-returns
 unfolding shapeOf
-returns c = c .read-id .ensures ∙ ap (λ (x : Shape). shapeOf x (c .before .before .before .before .before .args .s .now)) (sym (c .before .before .shape .given .1))
+returns c =
+    let at-shape = c .before .before in
+    let at-args = at-shape .before .before .before in
+    c .read-id .ensures ∙ ap (λ (x : Shape). shapeOf x (at-args .args .s .now)) (sym (at-shape .shape .given .1))
 
 returns-2 : tie.Need-returns-2
 unfolding shapeOf
@@ -132,35 +135,52 @@ returns-7 c = c .read-note .ensures ∙ ap (λ (x : Shape). shapeOf x (c .before
 
 returns-8 : tie.Need-returns-8
 unfolding shapeOf
-returns-8 c = c .read-word .ensures ∙ ap (λ (x : Shape). shapeOf x (c .before .before .before .before .before .args .s .now)) (sym (c .before .before .shape2 .given .1))
+returns-8 c =
+    let at-shape2 = c .before .before in
+    let at-args = at-shape2 .before .before .before in
+    c .read-word .ensures ∙ ap (λ (x : Shape). shapeOf x (at-args .args .s .now)) (sym (at-shape2 .shape2 .given .1))
 
 returns-9 : tie.Need-returns-9
 unfolding shapeOf
-returns-9 c = c .listed .ensures ∙ ap listFrom (c .before .read-profile .ensures) ∙ ap (λ (x : Shape). shapeOf x (c .before .before .before .before .before .args .s .now)) (sym (c .before .before .enum-told7 .given .1))
+returns-9 c =
+    c .listed .ensures ∙ ap listFrom (c .before .read-profile .ensures)
+    ∙ ap (λ (x : Shape). shapeOf x (c .before .before .before .before .before .args .s .now)) (sym (c .before .before .enum-told7 .given .1))
 
 returns-10 : tie.Need-returns-10
 unfolding shapeOf
-returns-10 c = c .listed2 .ensures ∙ ap listFrom (c .before .read-bands .ensures) ∙ ap (λ (x : Shape). shapeOf x (c .before .before .before .before .before .args .s .now)) (sym (c .before .before .enum-told8 .given .1))
+returns-10 c =
+    c .listed2 .ensures ∙ ap listFrom (c .before .read-bands .ensures)
+    ∙ ap (λ (x : Shape). shapeOf x (c .before .before .before .before .before .args .s .now)) (sym (c .before .before .enum-told8 .given .1))
 
 returns-11 : tie.Need-returns-11
 unfolding shapeOf
-returns-11 c = c .read-triples .ensures ∙ ap (λ (x : Shape). shapeOf x (c .before .before .before .before .args .s .now)) (sym (c .before .enum-told9 .given .1))
+returns-11 c =
+    let at-args = c .before .before .before .before in
+    c .read-triples .ensures ∙ ap (λ (x : Shape). shapeOf x (at-args .args .s .now)) (sym (c .before .enum-told9 .given .1))
 
 returns-12 : tie.Need-returns-12
 unfolding shapeOf
-returns-12 c = c .read-voltage .ensures ∙ ap (λ (x : Shape). shapeOf x (c .before .before .before .before .args .s .now)) (sym (c .before .enum-told10 .given .1))
+returns-12 c =
+    let at-args = c .before .before .before .before in
+    c .read-voltage .ensures ∙ ap (λ (x : Shape). shapeOf x (at-args .args .s .now)) (sym (c .before .enum-told10 .given .1))
 
 returns-13 : tie.Need-returns-13
 unfolding shapeOf
-returns-13 c = c .read-regulator .ensures ∙ ap (λ (x : Shape). shapeOf x (c .before .before .before .before .args .s .now)) (sym (c .before .enum-told11 .given .1))
+returns-13 c =
+    let at-args = c .before .before .before .before in
+    c .read-regulator .ensures ∙ ap (λ (x : Shape). shapeOf x (at-args .args .s .now)) (sym (c .before .enum-told11 .given .1))
 
 returns-14 : tie.Need-returns-14
 unfolding shapeOf
-returns-14 c = c .read-change .ensures ∙ ap (λ (x : Shape). shapeOf x (c .before .before .before .before .args .s .now)) (sym (c .before .enum-told12 .given .1))
+returns-14 c =
+    let at-args = c .before .before .before .before in
+    c .read-change .ensures ∙ ap (λ (x : Shape). shapeOf x (at-args .args .s .now)) (sym (c .before .enum-told12 .given .1))
 
 returns-15 : tie.Need-returns-15
 unfolding shapeOf
-returns-15 c = c .read-reactive .ensures ∙ ap (λ (x : Shape). shapeOf x (c .before .before .before .before .args .s .now)) (sym (c .before .enum-told13 .given .1))
+returns-15 c =
+    let at-args = c .before .before .before .before in
+    c .read-reactive .ensures ∙ ap (λ (x : Shape). shapeOf x (at-args .args .s .now)) (sym (c .before .enum-told13 .given .1))
 
 pub read-shape-spec : {M : Type 1} → statement M
 read-shape-spec =

@@ -42,7 +42,8 @@ loop-holds : tie.Need-loop-holds Inv-loop μ-loop
 loop-holds c = (omega arith, omega (arith, c .before .before .before .before .before .if1 .left), begin-put numberText _ _ _ _)
 
 -- what is put first is the first number
-at-first : (c : tie.After-put-arg Inv-loop μ-loop) → toZ w32 (ofZ w32 (c .before .before .before .before .args .x .first)) ≡ getD (listOf (c .before .before .before .before .args .x)) 0 (pos 0)
+at-first : (c : tie.After-put-arg Inv-loop μ-loop)
+    → toZ w32 (ofZ w32 (c .before .before .before .before .args .x .first)) ≡ getD (listOf (c .before .before .before .before .args .x)) 0 (pos 0)
 at-first c =
     let x = c .before .before .before .before .args .x in
     toZ-ofZ w32 (x .first) (search needs) ∙ held-at x 0 (omega (arith, c .before .before .held .ensures, c .before .if1 .left))
@@ -92,7 +93,8 @@ returns-2 c =
     let l = c .before in
     let p = l .before .before .before in
     let h = p .before .before .before .before .held .ensures in
-    all-put numberText _ (pos 0) _ (at-first (p .before .before)) (omega (arith, p .before .before .before .if1 .left)) (puts (p .put .ensures)) (l .loop .inv .2) (omega arith)
+    all-put numberText _ (pos 0) _ (at-first (p .before .before)) (omega (arith, p .before .before .before .if1 .left)) (puts (p .put .ensures))
+    (l .loop .inv .2) (omega arith)
 
 pub put-spec : {M : Type 1} → statement M
 put-spec =

@@ -83,7 +83,8 @@ returns-2 c =
     let p = k .before .before .before .before .before in
     let l = p .before .before in
     c .are .ensures
-    ∙ are-gradients _ _ _ _ _ (k .before .t .given .0 .0) (l .loop .inv .0) (l .loop .inv .1) (p .part-end .ensures) (was-read k) (c .before .if1 .taken) (omega arith)
+    ∙ are-gradients _ _ _ _ _ (k .before .t .given .0 .0) (l .loop .inv .0) (l .loop .inv .1) (p .part-end .ensures) (was-read k) (c .before .if1 .taken)
+    (omega arith)
 
 add-at : tie.Need-add-at Inv-loop μ-loop
 add-at c =

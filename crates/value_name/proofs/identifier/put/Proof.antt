@@ -20,7 +20,11 @@ same-length : tie.Need-same-length
 same-length c = search needs
 
 returns : tie.Need-returns
-returns c = identifier-put _ _ _ _ _ _ _ _ _ (c .before .before .before .before .before .before .before .before .before .prefix .ensures) (c .before .before .before .before .before .before .put-text .ensures) (c .before .before .put-digits .ensures)
+returns c =
+    let at-put-digits = c .before .before in
+    let at-put-text = at-put-digits .before .before .before .before in
+    let at-prefix = at-put-text .before .before .before in
+    identifier-put _ _ _ _ _ _ _ _ _ (at-prefix .prefix .ensures) (at-put-text .put-text .ensures) (at-put-digits .put-digits .ensures)
 
 pub put-spec : {M : Type 1} → statement M
 put-spec =

@@ -38,7 +38,13 @@ read-digits-requires : tie.Need-read-digits-requires
 read-digits-requires c κs = search needs
 
 returns-3 : tie.Need-returns-3
-returns-3 c = identifier-read _ _ _ _ (c .before .before .before .before .before .before .prefix .ensures) (c .before .before .before .same .ensures) _ (c .before .before .before .before .before .before .before .if1 .left) (not-false _ (c .before .before .if2 .left)) (c .read-digits .ensures)
+returns-3 c =
+    let at-if2 = c .before .before in
+    let at-same = at-if2 .before in
+    let at-prefix = at-same .before .before .before in
+    let at-if1 = at-prefix .before in
+    identifier-read _ _ _ _ (at-prefix .prefix .ensures) (at-same .same .ensures) _ (at-if1 .if1 .left) (not-false _ (at-if2 .if2 .left))
+    (c .read-digits .ensures)
 
 pub read-spec : {M : Type 1} → statement M
 read-spec =

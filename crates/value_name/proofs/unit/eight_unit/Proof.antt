@@ -83,7 +83,8 @@ returns c =
     let b = t .before .before in
     let a = b .before .before in
     let s = a .before .before .before in
-    eight-units (s .args .s .now) (s .args .i) _ _ _ _ _ _ _ _ (s .pre) (a .is-unit-byte .ensures) (b .is-unit-byte2 .ensures) (t .is-unit-byte3 .ensures) (d .is-unit-byte4 .ensures) (e .is-unit-byte5 .ensures) (f .is-unit-byte6 .ensures) (g .is-unit-byte7 .ensures) (c .is-unit-byte8 .ensures)
+    eight-units (s .args .s .now) (s .args .i) _ _ _ _ _ _ _ _ (s .pre) (a .is-unit-byte .ensures) (b .is-unit-byte2 .ensures) (t .is-unit-byte3 .ensures)
+    (d .is-unit-byte4 .ensures) (e .is-unit-byte5 .ensures) (f .is-unit-byte6 .ensures) (g .is-unit-byte7 .ensures) (c .is-unit-byte8 .ensures)
 
 pub eight-unit-spec : {M : Type 1} → statement M
 eight-unit-spec =
