@@ -8,34 +8,43 @@ use Rattle.reader_line.specs.declared.Expected.{Expected}
 use Rattle.reader_line.specs.declared.Item.{Item}
 use Rattle.layout.proofs.Labels.{GoodLabel}
 use Rattle.layout.specs.Layouts.{labelAt}
+use Rattle.reader_accent.proofs.Table.{accents-good}
+use Rattle.reader_accent.specs.Accents.{accentsOf}
 use Rattle.text_lines.proofs.Params.{sep-equals, equals-trim, blanks-equals, trim-end-blanks}
 use Rattle.text_lines.proofs.Steps.{run-length}
 use Rattle.text_lines.specs.Entries.{placeOf}
 use Rattle.text_lines.specs.Lines.{isSep}
-use Rattle.text_lines.specs.Places.{notPlain, plainRun, trimmedAt, valueSpan}
+use Rattle.text_lines.proofs.Allowed.{line-run}
+use Rattle.text_lines.proofs.Spelt.{opens-rest, plain-unaccented, respell-plain}
+use Rattle.text_lines.specs.Places.{notPlain, plainRun, lineRun, trimmedAt, valueSpan}
+use Rattle.text_lines.specs.Spellings.{Spelling, opens, respell}
 use Rattle.text_lines.specs.Spots.{fieldIn}
 use Rattle.text_lines.specs.declared.Span.{Span}
 use Rattle.value_name.specs.declared.MessageType.{MessageType}
 use Rattle.text.proofs.Cuts.{tail, upto-take, any-append, any-seam, upto-seam, past-seam}
 use Rattle.text.proofs.Tests.{by-test, by-eq, and-parts}
 use Rattle.text.proofs.Trims.{tidy-parts}
-use Rattle.text.specs.Bytes.{part, upto, past, any, is, firstOf, trim}
+use Rattle.text.specs.Bytes.{part, upto, past, all, any, is, isPlain, firstOf, trim}
 use borrow.Author.Tests.{eq-eqb, ne-eqb, eqb-true}
 use lib.Dec.{eqb}
 use lib.ListN.{length, take, drop, length-append, length-drop}
 use lib.Seq.{drop-drop}
-use mathlib.Core.Bool.{true, false, _&&_, cond}
+use mathlib.Core.Bool.{true, false, _&&_, cond, and-false}
 use mathlib.Core.List.{List, _∷_, _++_, append-assoc}
 use mathlib.Core.Path.{_≡_, refl, sym, ap, ap₂, _∙_}
 use native.Mathlib.Omega.{arith}
 
 -- ---- a line that begins as it was expected to
 
--- the line from `at` to the end of its printable bytes
-line-is : (file : List ℕ) (at end : ℕ) → end ≡ at + plainRun (drop at file) → part at end file ≡ lineFrom file at
-line-is file at end e =
+-- the bytes from `at` to the end of its first run of printable ones
+run-part : (file : List ℕ) (at end : ℕ) → end ≡ at + plainRun (drop at file) → part at end file ≡ upto notPlain (drop at file)
+run-part file at end e =
     let n : end - at ≡ plainRun (drop at file) = omega arith in
     ap (λ (k : ℕ). take k (drop at file)) n ∙ sym (upto-take notPlain (drop at file))
+
+-- and to the line's end
+line-is : (sp : List Spelling) (file : List ℕ) (at end : ℕ) → end ≡ at + lineRun sp (drop at file) → part at end file ≡ lineFrom sp file at
+line-is sp file at end e = let n : end - at ≡ lineRun sp (drop at file) = omega arith in ap (λ (k : ℕ). take k (drop at file)) n
 
 module _ (t : MessageType) (file : List ℕ) (at n h : ℕ) (x : Expected) (hx : IsExpected t x)
     (hh : h ≡ headOf (labelAt (x .layout) (x .field)) (drop at file)) (some-head : 0 < h) where
@@ -57,8 +66,9 @@ module _ (t : MessageType) (file : List ℕ) (at n h : ℕ) (x : Expected) (hx :
   expected-end end k r e =
       omega (arith, e, r, run-past label (drop at file) h begins (tidy-parts label (good .is-tidy) .0), ap plainRun (drop-drop h at file))
 
+  -- such a label has no accent: the line is its first run of printable bytes
   abbrev line : List ℕ
-  line = lineFrom file at
+  line = upto notPlain (drop at file)
 
   -- the label with the blanks behind it, and the value
   abbrev front : List ℕ
@@ -82,14 +92,37 @@ module _ (t : MessageType) (file : List ℕ) (at n h : ℕ) (x : Expected) (hx :
   label-is : trim (upto (is 61) line) ≡ label
   label-is = ap trim before-is ∙ trim-end-blanks label (begins .front) (begins .blank) ∙ tidy-parts label (good .is-tidy) .1
 
-  field : (ls : List (List ℕ)) → placeOf ls label ≡ fieldIn ls line
-  field ls = ap (placeOf ls) (sym label-is) ∙ its-field ls line equals
+  plain-label : all isPlain label ≡ true
+  plain-label = tidy-parts label (good .is-tidy) .0
+
+  field : (ls : List (List ℕ)) → placeOf ls label ≡ fieldIn (accentsOf t) ls line
+  field ls =
+      ap (placeOf ls) (sym (ap (respell (accentsOf t)) label-is ∙ respell-plain (accentsOf t) label (accents-good t) plain-label))
+      ∙ its-field (accentsOf t) ls line equals
+
+  -- what is left of the file begins so too
+  left-cut : drop at file ≡ front ++ 61 ∷ drop h (drop at file)
+  left-cut = begins .cut ∙ sym (append-assoc label (begins .front) (61 ∷ drop h (drop at file)))
+
+  left-label : trim (upto (is 61) (drop at file)) ≡ label
+  left-label =
+      ap trim (ap (upto (is 61)) left-cut ∙ upto-seam (is 61) front 61 (drop h (drop at file)) no-equals-before refl)
+      ∙ trim-end-blanks label (begins .front) (begins .blank) ∙ tidy-parts label (good .is-tidy) .1
+
+  no-accent : opens (accentsOf t) (upto (is 10) (drop at file)) ≡ false
+  no-accent =
+      opens-rest (accentsOf t) (drop at file) (accents-good t)
+      ∙ rw (left-label, plain-unaccented (accentsOf t) label (accents-good t) plain-label) (and-false (any (is 61) (drop at file)))
+
+  run-is-line : lineFrom (accentsOf t) file at ≡ line
+  unfolding lineRun
+  run-is-line = rw no-accent (sym (upto-take notPlain (drop at file)))
 
   value-span : (end : ℕ) → end ≡ at + h + plainRun (drop (at + h) file) → trimmedAt (at + h) (part (at + h) end file) ≡ valueSpan at line
   value-span end e =
       let first : at + h ≡ at + firstOf 61 line + 1 = omega (arith, ap length before-is, length-append label (begins .front), begins .size) in
       let rest : part (at + h) end file ≡ past (is 61) line =
-      line-is file (at + h) end e ∙ ap (upto notPlain) (sym (drop-drop h at file))
+      run-part file (at + h) end e ∙ ap (upto notPlain) (sym (drop-drop h at file))
       ∙ sym (ap (past (is 61)) cut ∙ past-seam (is 61) front 61 value no-equals-before refl) in
       ap₂ trimmedAt first rest
 
@@ -112,8 +145,9 @@ module _ (t : MessageType) (file : List ℕ) (at n h : ℕ) (x : Expected) (hx :
       let here : item end false (x .first) (x .second) v ≡ fielded end (x .first) (x .second) at line = rw (some-of-both, v-is ∙ value-span end e) in
       here
       ∙ ap₂ (λ (f g : ℕ). fielded end f g at line) a b
-      ∙ ap (λ (k : ℕ). fielded k (fieldIn (firstLabels t) line) (fieldIn (secondLabels t) line) at line) size
+      ∙ ap (λ (k : ℕ). fielded k (fieldIn (accentsOf t) (firstLabels t) line) (fieldIn (accentsOf t) (secondLabels t) line) at line) size
       ∙ as-field t n at line no-sep ne
+      ∙ ap (itemIn t n at) (sym run-is-line)
 
 -- ---- what the code finds: h bytes of an expected label and '=', 0 where they do not stand there, and k printable bytes behind them
 
@@ -141,9 +175,15 @@ module _ (t : MessageType) (file : List ℕ) (at n : ℕ) (x : Expected) (hx : I
         → item (at + h + k) false (x .first) (x .second) v ≡ itemOf t file at n
     met s v w = as-expected t file at n h x hx (head-is (not-row s)) s (at + h + k) v (ap (λ (j : ℕ). at + h + j) run-is) (not-row s) w
 
-    pub not-met : h ≤ 0 → (i : Item) → i ≡ itemIn t n at (part at (at + h + k) file) → i ≡ itemOf t file at n
-    unfolding itemOf
-    not-met s i w =
-        let z : at + h ≡ at = omega arith in
-        let size : at + h + k ≡ at + plainRun (drop at file) = omega (arith, run-is, ap (λ (j : ℕ). plainRun (drop j file)) z) in
-        w ∙ ap (itemIn t n at) (line-is file at (at + h + k) size)
+    module _ (s : h ≤ 0) where
+      -- of any other line the first run of printable bytes was found
+      pub run-there : at + h + k ≡ at + plainRun (drop at file)
+      run-there = let z : at + h ≡ at = omega arith in omega (arith, run-is, ap (λ (j : ℕ). plainRun (drop j file)) z)
+
+      module _ (end : ℕ) (e : end ≡ at + lineRun (accentsOf t) (drop at file)) where
+        pub end-inside : end ≤ length file
+        end-inside = omega (arith, e, line-run (accentsOf t) (accents-good t) (drop at file) .inside, length-drop at file)
+
+        pub not-met : (i : Item) → i ≡ itemIn t n at (part at end file) → i ≡ itemOf t file at n
+        unfolding itemOf
+        not-met i w = w ∙ ap (itemIn t n at) (line-is (accentsOf t) file at end e)

@@ -7,14 +7,16 @@ use Rattle.layout.specs.Layouts.{labelsOf, labelAt, layoutOf}
 use Rattle.layout.specs.declared.Layout.the-variants.{Mfrr}
 use Rattle.text_lines.specs.Entries.{placeOf}
 use Rattle.text_lines.specs.Lines.{isSep}
-use Rattle.text_lines.specs.Places.{noSpan, notPlain, trimmedAt, valueSpan}
+use Rattle.reader_accent.specs.Accents.{accentsOf}
+use Rattle.text_lines.specs.Places.{noSpan, trimmedAt, valueSpan, lineRun}
+use Rattle.text_lines.specs.Spellings.{Spelling}
 use Rattle.text_lines.specs.Spots.{fieldIn}
 use Rattle.text_lines.specs.declared.Span.{Span}
 use Rattle.value_name.specs.declared.MessageType.{MessageType}
 use Rattle.value_name.specs.declared.MessageType.the-variants.{Cb, Rc, Mg, Eb, Lb, Sr, Vq, Ri, Qr}
-use Rattle.text.specs.Bytes.{is, skip, starts, isBlank, upto, trim}
+use Rattle.text.specs.Bytes.{is, skip, starts, isBlank, trim}
 use lib.Dec.{eqb, leb}
-use lib.ListN.{length, getD, drop}
+use lib.ListN.{length, getD, take, drop}
 use mathlib.Core.Bool.{Bool, true, false, _&&_, _||_, cond}
 use mathlib.Core.List.{List, [], _∷_, _++_}
 use mathlib.Core.Path.{_≡_}
@@ -64,9 +66,9 @@ pub record IsExpected (t : MessageType) (e : Expected) : Type 0 where
 abbrev pub item : ℕ → Bool → ℕ → ℕ → Span → Item
 item end s f g p = record { end = end; separator = s; first = f; second = g; value = p }
 
--- the bytes of the line that begins at a place: those that can be printed
-abbrev pub lineFrom : List ℕ → ℕ → List ℕ
-lineFrom file at = upto notPlain (drop at file)
+-- the bytes of the line that begins at a place: those that can be printed, and the accent of a label that it opens with
+abbrev pub lineFrom : List Spelling → List ℕ → ℕ → List ℕ
+lineFrom sp file at = take (lineRun sp (drop at file)) (drop at file)
 
 -- a line with the fields a and b: the place of its value, or nowhere where it has none
 unfoldable pub fielded : ℕ → ℕ → ℕ → ℕ → List ℕ → Item
@@ -76,8 +78,8 @@ fielded end a b at l = item end false a b (cond (eqb a 0 && eqb b 0) noSpan (val
 unfoldable pub itemIn : MessageType → ℕ → ℕ → List ℕ → Item
 itemIn t n at l =
     cond (isSep (trim l) || eqb n 1) (item (at + length l) (isSep (trim l)) 0 0 (trimmedAt at l))
-    (fielded (at + length l) (fieldIn (firstLabels t) l) (fieldIn (secondLabels t) l) at l)
+    (fielded (at + length l) (fieldIn (accentsOf t) (firstLabels t) l) (fieldIn (accentsOf t) (secondLabels t) l) at l)
 
 -- THE DEFINITION: what the line at a place of a file is
 unfoldable pub itemOf : MessageType → List ℕ → ℕ → ℕ → Item
-itemOf t file at n = itemIn t n at (lineFrom file at)
+itemOf t file at n = itemIn t n at (lineFrom (accentsOf t) file at)

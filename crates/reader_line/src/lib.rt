@@ -6,8 +6,10 @@ use value_name::MessageType;
 ghost use Prim.Native.Nat.{_≤_, _<_};
 ghost use Rattle.reader_line.specs.Items.{firstLabels, secondLabels, headOf, isPrinted, isForeign, IsExpected, item, fielded, itemIn, itemOf};
 ghost use Rattle.layout.specs.Layouts.{labelsOf, labelAt};
+ghost use Rattle.reader_accent.specs.Accents.{accentsOf};
 ghost use Rattle.text_lines.specs.Entries.{placeOf};
 ghost use Rattle.text_lines.specs.Places.{noSpan};
+ghost use Rattle.text_lines.specs.Spellings.{respell};
 ghost use Rattle.text_lines.specs.Spots.{fieldIn};
 ghost use Rattle.text.specs.Bytes.{part, same};
 ghost use lib.Dec.{eqb};
@@ -63,9 +65,9 @@ fn field_of(l: Layout, s: &[u8]) -> usize
     0
 }
 
-// The field in the mFRR layout, for CB alone.
+// The field in the mFRR layout, for CB alone, which has no accents.
 fn second_of(t: MessageType, s: &[u8]) -> usize
-    ensures { λ r. ⌜ r ≡ placeOf (secondLabels t) (now (s .entry)) ⌝ }
+    ensures { λ r. ⌜ r ≡ placeOf (secondLabels t) (respell (accentsOf t) (now (s .entry))) ⌝ }
 {
     match t {
         MessageType::Cb => field_of(Layout::Mfrr, s),
@@ -73,13 +75,18 @@ fn second_of(t: MessageType, s: &[u8]) -> usize
     }
 }
 
-// The field in the type's layout, where the field in the mFRR layout is known: from the third on, its labels are no other layout's.
+// The field in the type's layout, by either spelling of its label, where the field in the mFRR layout is known: from the third on, its labels are no other
+// layout's.
 fn first_of(t: MessageType, second: usize, s: &[u8]) -> usize
-    requires { ⌜ second ≡ placeOf (secondLabels t) (now s) ⌝ }
-    ensures { λ r. ⌜ r ≡ placeOf (firstLabels t) (now (s .entry)) ⌝ }
+    requires { ⌜ second ≡ placeOf (secondLabels t) (respell (accentsOf t) (now s)) ⌝ }
+    ensures { λ r. ⌜ r ≡ placeOf (firstLabels t) (respell (accentsOf t) (now (s .entry))) ⌝ }
 {
     if 2 < second {
         return 0;
+    }
+    let k = reader_accent::field_of(t, s);
+    if k != 0 {
+        return k;
     }
     field_of(layout::of_type(t), s)
 }
@@ -223,7 +230,7 @@ fn nothing(end: usize) -> Item
 // A line that is no separator: the first '=' divides it, and label and value are trimmed.
 fn param_item(t: MessageType, s: &[u8], at: usize, end: usize) -> Item
     requires { ⌜ (at ≤ end) × (end ≤ length (now s)) × (end < 65536) ⌝ }
-    ensures { λ r. ⌜ r ≡ fielded end (fieldIn (firstLabels t) (part at end (now (s .entry)))) (fieldIn (secondLabels t) (part at end (now (s .entry)))) at (part at end (now (s .entry))) ⌝ }
+    ensures { λ r. ⌜ r ≡ fielded end (fieldIn (accentsOf t) (firstLabels t) (part at end (now (s .entry)))) (fieldIn (accentsOf t) (secondLabels t) (part at end (now (s .entry)))) at (part at end (now (s .entry))) ⌝ }
 {
     let line = &s[at..end];
     let e = scan::first(line, b'=');
@@ -294,7 +301,7 @@ fn expected_head(e: Expected, s: &[u8], seps: usize) -> usize
 }
 
 // What the line at a place is, below seps separators, and where it ends, with the label that is expected at this turn tried first: the bytes of a label that
-// was met are printable, so that only those behind it are looked at.
+// was met are printable, so that only those behind it are looked at. (The accent of a label can stand in any other line alone.)
 pub fn line_of(t: MessageType, s: &[u8], at: usize, seps: usize, turn: usize) -> Item
     requires { ⌜ (at ≤ length (now s)) × (length (now s) < 65536) ⌝ }
     ensures { λ r. ⌜ r ≡ itemOf t (now (s .entry)) at seps ⌝ }
@@ -313,5 +320,5 @@ pub fn line_of(t: MessageType, s: &[u8], at: usize, seps: usize, turn: usize) ->
             value,
         };
     }
-    other_item(t, s, at, end, seps)
+    other_item(t, s, at, reader_accent::line_end(t, s, at, end), seps)
 }

@@ -96,6 +96,25 @@ respell-plain (s ∷ sp) t g h =
     absurd (false≢true (sym (plain-none t h) ∙ ap (any (is 224)) (sym q) ∙ and-parts (all isPlain (upto (is 224) (s .accented))) (any (is 224) (s .accented)) (w .0) .1)))
     (λ e. rw e (respell-plain sp t (o .1) h))
 
+pub plain-unaccented : (sp : List Spelling) (t : List ℕ) → allGood sp ≡ true → all isPlain t ≡ true → isAccented sp t ≡ false
+unfolding oneAccent
+plain-unaccented sp t g h =
+    by-test (isAccented sp t)
+    (λ a.
+    let w = accented-good sp t g a in
+    let x = all isPlain (upto (is 224) t) && any (is 224) t in
+    let y = all isPlain (past (is 224) t) in
+    let one = and-parts (all isPlain (upto (is 224) t)) (any (is 224) t) (and-parts x y (and-parts (x && y) (not (any (is 61) t)) w .0) .0) .1 in
+    absurd (false≢true (sym (plain-none t h) ∙ one)))
+    (λ a. a)
+
+-- a text that is none of them is its own respelling
+pub respell-other : (sp : List Spelling) (t : List ℕ) → isAccented sp t ≡ false → respell sp t ≡ t
+unfolding respell isAccented any
+respell-other [] t e = refl
+respell-other (s ∷ sp) t e =
+    by-test (same (s .accented) t) (λ h. absurd (false≢true (sym (rw h at e)))) (λ h. rw h (respell-other sp t (rw h at e)))
+
 -- ---- the line of such a label
 
 pub record Accented (r : List ℕ) : Type 0 where

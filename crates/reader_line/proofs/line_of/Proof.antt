@@ -1,6 +1,6 @@
 -- The label that is expected, and what stands behind it; or any other line.
 use Prim.Native.Nat.{_+_, _≤_}
-use Rattle.reader_line.proofs.Tries.{head-inside, run-inside, met, not-met}
+use Rattle.reader_line.proofs.Tries.{head-inside, run-inside, met, run-there, end-inside, not-met}
 use Rattle.reader_line.proofs.line_of.Statement.{statement}
 use Rattle.reader_line.proofs.line_of.Tie as tie
 use borrow.Author.Needs.{needs}
@@ -70,15 +70,39 @@ returns c =
     met _ _ _ _ _ (head .before .before .expect .ensures) _ _ (start head .pre .0) (head .expected-head .ensures)
     (run .plain-run .ensures) (c .before .if1 .taken) _ (c .trim-span .ensures)
 
+-- where no expected label was met, and where that line ends
+abbrev other : tie.Else1 → tie.After-plain-run
+other c = c .before
+
+line-end-requires : tie.Need-line-end-requires
+line-end-requires c κs =
+    let run = other c in
+    let head = run .before .before in
+    let z = start head in
+    (z .pre .0, run-there (z .args .t) (z .args .s .now) (z .args .at) (z .args .seps) _ (head .before .before .expect .ensures) _ _ (z .pre .0)
+    (head .expected-head .ensures) (run .plain-run .ensures) (c .if1 .left))
+
+end-here : (c : tie.After-line-end) → c .line-end .result ≤ length (start (other (c .before) .before .before) .args .s .now)
+end-here c =
+    let run = other (c .before) in
+    let head = run .before .before in
+    let z = start head in
+    end-inside (z .args .t) (z .args .s .now) (z .args .at) (z .args .seps) _ (head .before .before .expect .ensures) _ _ (z .pre .0)
+    (head .expected-head .ensures) (run .plain-run .ensures) (c .before .if1 .left) _ (c .line-end .ensures)
+
 other-item-requires : tie.Need-other-item-requires
-other-item-requires c κs = let near = end-near (c .before) in (omega arith, near, omega arith)
+other-item-requires c κs =
+    let near = end-here c in
+    let z = start (other (c .before) .before .before) in
+    (omega (arith, c .line-end .ensures), near, omega (arith, near, z .pre .1))
 
 returns-2 : tie.Need-returns-2
 returns-2 c =
-    let run = c .before .before in
+    let e = c .before in
+    let run = other (e .before) in
     let head = run .before .before in
     not-met _ _ _ _ _ (head .before .before .expect .ensures) _ _ (start head .pre .0) (head .expected-head .ensures)
-    (run .plain-run .ensures) (c .before .if1 .left) _ (c .other-item .ensures)
+    (run .plain-run .ensures) (e .before .if1 .left) _ (e .line-end .ensures) _ (c .other-item .ensures)
 
 pub line-of-spec : {M : Type 1} → statement M
 line-of-spec =
@@ -97,5 +121,6 @@ line-of-spec =
     add-end
     trim-span-requires
     returns
+    line-end-requires
     other-item-requires
     returns-2)
