@@ -57,7 +57,8 @@ three-none false true c rest e = absurd (eqb-false 29 0 refl e)
 three-none false false true rest e = absurd (eqb-false 21 0 refl e)
 three-none false false false rest e = refl
 
-module _ (calls : Layout → Bool) (unit : List ℕ) (r : Record) (rest : List (Bool × ℕ)) (right : Bool) (which : right ≡ calls (r .layout)) (n : ℕ) (u : n ≡ unfitOf right unit r) where
+module _ (calls : Layout → Bool) (unit : List ℕ) (r : Record) (rest : List (Bool × ℕ)) (right : Bool) (which : right ≡ calls (r .layout)) (n : ℕ)
+    (u : n ≡ unfitOf right unit r) where
   unfit-some : (n ≡ 0 → ⊥) → firstHolding (unfit calls unit r rest) ≡ n
   unfolding unfitOf
   unfit-some z = rw (← which) (three-some (not (isValid r)) (not right) (not (same (unitOf r) unit)) rest (λ e. z (u ∙ e)) ∙ sym u)
@@ -96,7 +97,8 @@ unheld r l = (not (any (named (strikeOf r .name)) l), 25) ∷ (any (already (str
 pub call-malformed : (k : Call) (b : Book) (y : Tally) → y ≡ tallyOf b → OneOf (0 ∷ []) (tagOf the-type y) → outcome 20 b ≡ outcomeOf k b
 call-malformed k b y e h = malformed k b (holds-none b y e h)
 
-pub question-malformed : (t : ℕ) (b : Book) (y : Tally) → y ≡ tallyOf b → OneOf (0 ∷ []) (tagOf the-type y) → record { answer = Refused 20 0; book = b } ≡ askedOf t b
+pub question-malformed : (t : ℕ) (b : Book) (y : Tally) → y ≡ tallyOf b → OneOf (0 ∷ []) (tagOf the-type y)
+    → record { answer = Refused 20 0; book = b } ≡ askedOf t b
 question-malformed t b y e h = asked-malformed t b (holds-none b y e h)
 
 module _ (b : Book) (count : ℕ) (h : Holding b count) where
@@ -125,7 +127,9 @@ module _ (b : Book) (count : ℕ) (h : Holding b count) where
   module _ (r : Record) (right : Bool) (which : right ≡ isCommand (r .layout)) (n : ℕ) (u : n ≡ unfitOf right (take (b .size) (b .unit)) r) where
     pub command-unfit : (n ≡ 0 → ⊥) → outcome n b ≡ outcomeOf (command r) b
     unfolding shelf
-    command-unfit z = refusal (command r) n (unfit-some isCommand (take (b .size) (b .unit)) r (others (orderOf r) (b .floor) (shelf b .orders)) right which n u z) (ne-eqb n 0 z)
+    command-unfit z =
+        refusal (command r) n (unfit-some isCommand (take (b .size) (b .unit)) r (others (orderOf r) (b .floor) (shelf b .orders)) right which n u z)
+        (ne-eqb n 0 z)
 
     module _ (z : n ≡ 0) (o : Order) (brought : o ≡ orderOf r) where
       command-rest : answer (command r) (shelf b) ≡ firstHolding (others o (b .floor) (take count (b .orders)))
@@ -211,7 +215,8 @@ module _ (b : Book) (count : ℕ) (h : Holding b count) where
   unfolding shelf
   close-early t k = refusal (close t) 27 (rw (lt-ltb t (b .floor) k)) refl
 
-  pub close-done : (t : ℕ) → b .floor ≤ t → (next : Book) → next ≡ withOrders b t (packed (keep (pastEnd t) (take count (b .orders)))) → outcome 0 next ≡ outcomeOf (close t) b
+  pub close-done : (t : ℕ) → b .floor ≤ t → (next : Book) → next ≡ withOrders b t (packed (keep (pastEnd t) (take count (b .orders))))
+      → outcome 0 next ≡ outcomeOf (close t) b
   unfolding shelf
   close-done t k next e =
       makes (close t) t (packed (keep (pastEnd t) (take count (b .orders)))) (keep (pastEnd t) (take count (b .orders))) next
@@ -223,6 +228,7 @@ module _ (b : Book) (count : ℕ) (h : Holding b count) where
   unfolding shelf
   question-early t k = asked-refused t b 28 (h .formed) (rw (lt-ltb t (b .floor) k)) refl
 
-  pub question-done : (t : ℕ) → b .floor ≤ t → (a : InForce) → a ≡ found (greatest number (live t) (take count (b .orders))) → record { answer = a; book = b } ≡ askedOf t b
+  pub question-done : (t : ℕ) → b .floor ≤ t → (a : InForce) → a ≡ found (greatest number (live t) (take count (b .orders)))
+      → record { answer = a; book = b } ≡ askedOf t b
   unfolding shelf
   question-done t k a e = rw (e, ← (h .held)) (asked-done t b (h .formed) (rw (le-ltb t (b .floor) k)))

@@ -67,7 +67,8 @@ all-rest {A = A} p x h n k l s e =
 
 -- ---- the unit and the places of a book
 
-pub formed-unit : (size : ℕ) (unit : List ℕ) → length unit ≡ 16 → formedUnit size unit ≡ true → (size ≡ length (take size unit)) × (unit ≡ roomOf 16 (take size unit))
+pub formed-unit : (size : ℕ) (unit : List ℕ) → length unit ≡ 16 → formedUnit size unit ≡ true
+    → (size ≡ length (take size unit)) × (unit ≡ roomOf 16 (take size unit))
 unfolding formedUnit roomOf
 formed-unit size unit h e =
     let p = and-parts (leb size 16) _ e in
@@ -102,11 +103,13 @@ pub malformed : (k : Call) (b : Book) → formedBook b ≡ false → outcome 20 
 unfolding callNumber nextOf
 malformed k b e = rw e
 
-pub refused : (k : Call) (b : Book) (n : ℕ) → length (b .orders) ≡ 96 → length (b .unit) ≡ 16 → formedBook b ≡ true → answer k (shelf b) ≡ n → eqb n 0 ≡ false → outcome n b ≡ outcomeOf k b
+pub refused : (k : Call) (b : Book) (n : ℕ) → length (b .orders) ≡ 96 → length (b .unit) ≡ 16 → formedBook b ≡ true → answer k (shelf b) ≡ n → eqb n 0 ≡ false
+    → outcome n b ≡ outcomeOf k b
 unfolding callNumber nextOf
 refused k b n h u e a z = rw (e, a, z) (ap (outcome n) (shelf-book b h u e))
 
-pub done : (k : Call) (b : Book) (l : List Order) (f : ℕ) → formedBook b ≡ true → answer k (shelf b) ≡ 0 → withOrders b f l ≡ bookOf (effect k (shelf b)) → outcome 0 (withOrders b f l) ≡ outcomeOf k b
+pub done : (k : Call) (b : Book) (l : List Order) (f : ℕ) → formedBook b ≡ true → answer k (shelf b) ≡ 0 → withOrders b f l ≡ bookOf (effect k (shelf b))
+    → outcome 0 (withOrders b f l) ≡ outcomeOf k b
 unfolding callNumber nextOf
 done k b l f e a q = rw (e, a) (ap (outcome 0) q)
 
@@ -116,11 +119,13 @@ pub asked-malformed : (t : ℕ) (b : Book) → formedBook b ≡ false → record
 unfolding askedOf callNumber
 asked-malformed t b e = rw e
 
-pub asked-refused : (t : ℕ) (b : Book) (n : ℕ) → formedBook b ≡ true → answer (ask t) (shelf b) ≡ n → eqb n 0 ≡ false → record { answer = Refused n 0; book = b } ≡ askedOf t b
+pub asked-refused : (t : ℕ) (b : Book) (n : ℕ) → formedBook b ≡ true → answer (ask t) (shelf b) ≡ n → eqb n 0 ≡ false
+    → record { answer = Refused n 0; book = b } ≡ askedOf t b
 unfolding askedOf callNumber
 asked-refused t b zero e a z = absurd (true≢false z)
 asked-refused t b (suc n) e a z = rw (e, a)
 
-pub asked-done : (t : ℕ) (b : Book) → formedBook b ≡ true → answer (ask t) (shelf b) ≡ 0 → record { answer = found (inForce t (shelf b)); book = b } ≡ askedOf t b
+pub asked-done : (t : ℕ) (b : Book) → formedBook b ≡ true → answer (ask t) (shelf b) ≡ 0
+    → record { answer = found (inForce t (shelf b)); book = b } ≡ askedOf t b
 unfolding askedOf callNumber
 asked-done t b e a = rw (e, a)

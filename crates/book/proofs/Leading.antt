@@ -159,5 +159,7 @@ module _ (b : Book) where
     pub tally-holds : all isEmpty (drop count (b .orders)) ≡ true → Holds count ≡ tallyOf b
     unfolding tallyOf formedBook shelf
     tally-holds e =
-        let g : formedFrom (b .floor) 0 (b .orders) ≡ true = formed-leading (b .floor) 0 (b .orders) ∙ ap (λ (k : ℕ). all isEmpty (drop k (b .orders))) (sym c) ∙ e in
-        rw (u, g, kept-leading (b .floor) 0 (b .orders) g) (ap Holds (c ∙ sym (length-take-le (leading (b .floor) 0 (b .orders)) (b .orders) (leading-long (b .floor) 0 (b .orders)))))
+        let g : formedFrom (b .floor) 0 (b .orders) ≡ true =
+        formed-leading (b .floor) 0 (b .orders) ∙ ap (λ (k : ℕ). all isEmpty (drop k (b .orders))) (sym c) ∙ e in
+        rw (u, g, kept-leading (b .floor) 0 (b .orders) g)
+        (ap Holds (c ∙ sym (length-take-le (leading (b .floor) 0 (b .orders)) (b .orders) (leading-long (b .floor) 0 (b .orders)))))

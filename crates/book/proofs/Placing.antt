@@ -37,7 +37,8 @@ insert-ranked o (x ∷ h) e =
     let n : x .number ≡ o .number → ⊥ = eqb-false (x .number) (o .number) z in
     rw (q, lt-ltb (o .number) (x .number) (omega (arith, leb-true (o .number) (x .number) q, n))))
     (λ q.
-    let z : (ltb (rankOf (o .number) h) (length h) && eqb (orderAt (rankOf (o .number) h) h .number) (o .number)) ≡ false = rw (q, leb·suc-suc (suc (rankOf (o .number) h)) (length h)) at e in
+    let z : (ltb (rankOf (o .number) h) (length h) && eqb (orderAt (rankOf (o .number) h) h .number) (o .number)) ≡ false =
+    rw (q, leb·suc-suc (suc (rankOf (o .number) h)) (length h)) at e in
     rw (q, le-ltb (o .number) (x .number) (omega (arith, leb-false (o .number) (x .number) q))) (ap (λ (m : List Order). x ∷ m) (insert-ranked o h z)))
 
 -- the places after held orders
@@ -56,7 +57,8 @@ put-packed count o l w e c t =
     let s : length (take count l) ≡ count = length-take-le count l c′ in
     let n : 96 - count ≡ suc (96 - suc count) = omega (arith, c) in
     let d : drop (suc count) l ≡ replicate (96 - suc count) emptyOrder =
-    sym (ap (λ (k : ℕ). drop k l) (add-one count)) ∙ sym (drop-drop 1 count l) ∙ ap (drop 1) (rest-packed count l c′ e) ∙ ap (λ (k : ℕ). drop 1 (replicate k emptyOrder)) n in
+    sym (ap (λ (k : ℕ). drop k l) (add-one count)) ∙ sym (drop-drop 1 count l) ∙ ap (drop 1) (rest-packed count l c′ e)
+    ∙ ap (λ (k : ℕ). drop 1 (replicate k emptyOrder)) n in
     rw (length-insert number o (take count l), s, insert-ranked o (take count l) t, take-take at count l (rank-within (o .number) count l), d)
     (sym (append-assoc (take at l) (o ∷ drop at (take count l)) (replicate (96 - suc count) emptyOrder)))
 
@@ -97,7 +99,8 @@ put-turn (suc i) count l m p h c e =
     rw (n, a, e) (put-set (suc i) count (orderAt (suc i) l) (orderAt i l) l (omega (arith, h, c)) ∙ put-twice i count l h (omega (arith, c)))
 
 -- the last store
-pub put-end : (at i count : ℕ) (o : Order) (l m : List Order) → at ≤ i → i ≤ at → at ≤ length l → m ≡ putIn i count (orderAt i l) l → set m at o ≡ putIn at count o l
+pub put-end : (at i count : ℕ) (o : Order) (l m : List Order) → at ≤ i → i ≤ at → at ≤ length l → m ≡ putIn i count (orderAt i l) l
+    → set m at o ≡ putIn at count o l
 put-end at i count o l m p q h e =
     let n : i ≡ at = omega (arith, p, q) in
     rw (e, n) (put-set at count (orderAt at l) o l h)
@@ -116,7 +119,8 @@ module _ (s : Strike) where
   none-struck : (lo : ℕ) (h : List Order) → its < lo → Rising lo h → map (strikeAt s) h ≡ h
   none-struck lo [] k r = refl
   none-struck lo (o ∷ h) k r =
-      rw (ne-eqb (o .number) its (λ e. omega (arith, k, r .0, e))) (ap (λ (m : List Order). o ∷ m) (none-struck (suc (o .number)) h (omega (arith, k, r .0)) (r .1)))
+      rw (ne-eqb (o .number) its (λ e. omega (arith, k, r .0, e)))
+      (ap (λ (m : List Order). o ∷ m) (none-struck (suc (o .number)) h (omega (arith, k, r .0)) (r .1)))
 
   -- of rising orders one has the number, and it stands at its rank
   strike-ranked : (lo : ℕ) (h : List Order) → Rising lo h → (ltb (rankOf its h) (length h) && eqb (orderAt (rankOf its h) h .number) its) ≡ true
@@ -130,7 +134,8 @@ module _ (s : Strike) where
       rw (q, z, none-struck (suc (o .number)) h (omega (arith, leb-true its (o .number) q)) (r .1)))
       (λ q.
       let z : (ltb (rankOf its h) (length h) && eqb (orderAt (rankOf its h) h .number) its) ≡ true = rw (q, leb·suc-suc (suc (rankOf its h)) (length h)) at e in
-      rw (q, ne-eqb (o .number) its (λ n. omega (arith, leb-false its (o .number) q, n))) (ap (λ (m : List Order). o ∷ m) (strike-ranked (suc (o .number)) h (r .1) z)))
+      rw (q, ne-eqb (o .number) its (λ n. omega (arith, leb-false its (o .number) q, n)))
+      (ap (λ (m : List Order). o ∷ m) (strike-ranked (suc (o .number)) h (r .1) z)))
 
   pub strike-packed : (count : ℕ) (l : List Order) → length l ≡ 96 → l ≡ packed (take count l) → count ≤ 96 → Rising 0 (take count l)
       → seatOf its (take count l) .held ≡ true → struckIn (seatOf its (take count l) .at) l ≡ packed (map (strikeAt s) (take count l))
@@ -179,7 +184,9 @@ module _ (t i kept : ℕ) (l out : List Order) (p : Passed t i kept l out) where
   close-keep h k e =
       record {
         count-is = rw (passed-more t i l h, lt-ltb t (orderAt i l .end) e, length-append) (omega (arith, p .count-is));
-        places = rw (passed-more t i l h, lt-ltb t (orderAt i l .end) e, p .places, p .count-is) (packed-set (passed t i l) (orderAt i l) (omega (arith, passed-few t i l, k)));
+        places =
+            rw (passed-more t i l h, lt-ltb t (orderAt i l .end) e, p .places, p .count-is)
+            (packed-set (passed t i l) (orderAt i l) (omega (arith, passed-few t i l, k)));
       }
 
   pub close-leave : i < length l → orderAt i l .end ≤ t → Passed t (i + 1) kept l out
@@ -229,7 +236,8 @@ module _ (t i count : ℕ) (l : List Order) (so-far : greatest number (live t) (
     pub live-not : live t (orderAt (i - 1) l) ≡ false → greatest number (live t) (take count l) ≡ greatest number (live t) (take (i - 1) l)
     live-not e = so-far ∙ ap (greatest number (live t)) last-taken ∙ greatest-last (live t) (take (i - 1) l) (orderAt (i - 1) l) ∙ rw e (omega arith)
 
-    pub live-here : Ascending number (take count l) → live t (orderAt (i - 1) l) ≡ true → Number (orderAt (i - 1) l .number) ≡ found (greatest number (live t) (take count l))
+    pub live-here : Ascending number (take count l) → live t (orderAt (i - 1) l) ≡ true
+        → Number (orderAt (i - 1) l .number) ≡ found (greatest number (live t) (take count l))
     live-here s e =
         let a : Ascending number (take (i - 1) l ++ (orderAt (i - 1) l ∷ [])) = rw (take-take i count l k, last-taken) at (ascending-take i (take count l) s) in
         let g : greatest number (live t) (take count l) ≡ suc (orderAt (i - 1) l .number) =

@@ -63,6 +63,7 @@ module _ (n : ℕ) (s e : Date) (v : ℤ) (low : ltb n 10000000000 ≡ true) (st
   unfolding isValid isSized holdsAll areClear noTriples holds fits isAmong inRange isRanged isNoTriple areTriples isNamed isUnit all kindsOf fieldsOf market command technical valuesIn cellsOf fieldOf brokenIn lowest rulesOf inOrder updated profiled sloped rises
   market-valid w second before = rw (low, starts, ends, first, second, before)
 
-  pub mfrr-valid : (u : Date) → isReal u ≡ true → ltb (instantOf s) (instantOf u) ≡ true → ltb (instantOf u) (instantOf e) ≡ true → isValid (mfrrCommand n s u e v) ≡ true
+  pub mfrr-valid : (u : Date) → isReal u ≡ true → ltb (instantOf s) (instantOf u) ≡ true → ltb (instantOf u) (instantOf e) ≡ true
+      → isValid (mfrrCommand n s u e v) ≡ true
   unfolding isValid isSized holdsAll areClear noTriples holds fits isAmong inRange isNoTriple isNamed isUnit all kindsOf fieldsOf mfrr valuesIn cellsOf fieldOf brokenIn lowest rulesOf ramps
   mfrr-valid u up rise fall = rw (low, starts, ends, first, up, rise, le-leb (instantOf u) (instantOf u) (omega arith), fall)

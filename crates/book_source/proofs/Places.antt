@@ -22,7 +22,8 @@ owed-at l a j i s b = record { at = record { place = j; field-is = refl; inside 
 pub number-at : (l : Layout) → isCommand l ≡ true → Owed l (IsId (typeOf l)) 1
 unfolding kindsOf fieldsOf market command technical mfrr
 number-at =
-    by-command (λ (l : Layout). Owed l (IsId (typeOf l)) 1) (owed-at Market (IsId (typeOf Market)) 0 refl refl refl) (owed-at Mfrr (IsId (typeOf Mfrr)) 0 refl refl refl)
+    by-command (λ (l : Layout). Owed l (IsId (typeOf l)) 1) (owed-at Market (IsId (typeOf Market)) 0 refl refl refl)
+    (owed-at Mfrr (IsId (typeOf Mfrr)) 0 refl refl refl)
 
 pub start-at : (l : Layout) → isCommand l ≡ true → Owed l IsWhen 3
 unfolding kindsOf fieldsOf market command technical mfrr

@@ -61,7 +61,17 @@ module _ (l : Layout) (r : Rooms) (cells : List Cell) (t : MessageType) (size k 
       next =
           let f : k < length (kindsOf l) = omega (arith, inside, kinds-length l) in
           let g : k < length (valuesIn l cells) = omega (arith, inside, values-length l cells (s .room)) in
-          rw (s .rest, a, s .type-is, e, add-one, kind-at l k, drop-cons (kindsOf l) k noKind f, drop-cons (valuesIn l cells) k Blank g, value-here l cells (s .room) k inside)
+          rw (
+            s .rest,
+            a,
+            s .type-is,
+            e,
+            add-one,
+            kind-at l k,
+            drop-cons (kindsOf l) k noKind f,
+            drop-cons (valuesIn l cells) k Blank g,
+            value-here l cells (s .room) k inside,
+          )
 
       pub one-fails : not b ≡ true → false ≡ holdsAll (typeOf l) r (kindsOf l) (valuesIn l cells)
       one-fails n = rw (next, not-true b n)

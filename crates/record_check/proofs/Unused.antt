@@ -46,4 +46,10 @@ pub sized : (r : Record) (vs : List Val) → Is (row the-type) r vs → isSized 
 unfolding isSized
 sized r vs p =
     let q = p .1 .1 .1 in
-    rw (of-length _ (r .cells) 26 (q .0 .1 .0 .1), of-length _ (r .unit) 16 (q .1 .0 .1 .0 .1), of-length _ (r .reason) 128 (q .1 .1 .0 .1 .0 .1), of-length _ (r .note) 256 (q .1 .1 .1 .0 .1 .0 .1), of-length _ (r .gradients) 16 (q .1 .1 .1 .1 .0 .1 .0 .1))
+    rw (
+      of-length _ (r .cells) 26 (q .0 .1 .0 .1),
+      of-length _ (r .unit) 16 (q .1 .0 .1 .0 .1),
+      of-length _ (r .reason) 128 (q .1 .1 .0 .1 .0 .1),
+      of-length _ (r .note) 256 (q .1 .1 .1 .0 .1 .0 .1),
+      of-length _ (r .gradients) 16 (q .1 .1 .1 .1 .0 .1 .0 .1),
+    )

@@ -46,6 +46,7 @@ unfolding fileOf
 held-small r h = message-small (r .layout) (roomsOf r) (r .cells) (h .hold)
 
 -- what was read and accepted
-pub read-held : (a : Answer) (ca ioa : ℕ) (plan file : List ℕ) → a ≡ readOf ca ioa plan file → a .number ≡ 0 → Held (a .content .layout) (roomsOf (a .content)) (a .content .cells)
+pub read-held : (a : Answer) (ca ioa : ℕ) (plan file : List ℕ) → a ≡ readOf ca ioa plan file → a .number ≡ 0
+    → Held (a .content .layout) (roomsOf (a .content)) (a .content .cells)
 read-held a ca ioa plan file e n =
     valid-held (a .content) (subst (λ (x : Answer). Valid (x .content)) (sym e) (read-valid ca ioa plan file (ap (λ (x : Answer). x .number) (sym e) ∙ n)))

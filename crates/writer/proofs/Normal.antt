@@ -115,6 +115,7 @@ module _ (ca ioa : ℕ) (plan file : List ℕ) (x : Reading) (is : x ≡ reading
         own-text (x .layout) u s n (x .gradients) (x .cells) narrow kept-held
         ∙ ap (λ (r : Rooms). messageText (x .layout) r (x .cells)) kept-is
 
-    pub taken-end : (out : List ℕ) (w : Written) (m : List ℕ) → Put (messageText (x .layout) (rooms u s n (x .gradients)) (x .cells)) out w m → Normal out answer w m
+    pub taken-end : (out : List ℕ) (w : Written) (m : List ℕ) → Put (messageText (x .layout) (rooms u s n (x .gradients)) (x .cells)) out w m
+        → Normal out answer w m
     taken-end out w m p =
         subst (λ (a : Answer). Normal out a w m) read-as (accepted-normal out body w m (subst (λ (t : List ℕ). Put t out w m) file-is p))

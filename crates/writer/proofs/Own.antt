@@ -75,7 +75,9 @@ module _ (t : MessageType) (u s n : List ℕ) (g : List Triple) (narrow : Narrow
 
   unit-own : (k : ℕ) → k ≤ length (keptIn 16 u) → isUnit (take k (keptIn 16 u)) ≡ true → Ahead k (keptIn 16 u) u
   unfolding isUnit
-  unit-own k h e = kept-front isUnitByte refl 16 u (narrow .unit-few) k h (and-parts (within 1 16 (length (take k (keptIn 16 u)))) (all isUnitByte (take k (keptIn 16 u))) e .1)
+  unit-own k h e =
+      kept-front isUnitByte refl 16 u (narrow .unit-few) k h
+      (and-parts (within 1 16 (length (take k (keptIn 16 u)))) (all isUnitByte (take k (keptIn 16 u))) e .1)
 
   fits-own : {a : Shape} {v : Value} → Fits t kept a v → Fits t own a v × Says v
   unfolding valueText

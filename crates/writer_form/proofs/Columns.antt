@@ -68,7 +68,8 @@ field-at l cells j h =
     ap (λ (c : Cell). c .value) (sym (getD-take (sizeOf l) cells j (cell Blank) h))
     ∙ sym (List·getD-map (λ (c : Cell). c .value) (take (sizeOf l) cells) j (cell Blank))
 
-pub text-at : (l : Layout) (r : Rooms) (cells : List Cell) (k : ℕ) → 1 ≤ k → k ≤ sizeOf l → textAt (columnOf l r cells) k ≡ valueText (typeOf l) r (fieldOf cells k)
+pub text-at : (l : Layout) (r : Rooms) (cells : List Cell) (k : ℕ) → 1 ≤ k → k ≤ sizeOf l
+    → textAt (columnOf l r cells) k ≡ valueText (typeOf l) r (fieldOf cells k)
 unfolding valueText
 text-at l r cells zero h j = absurd (omega arith)
 text-at l r cells (suc i) h j =

@@ -72,7 +72,8 @@ pub no-value-more : (xs : List (List ℕ)) → tailText (drop 1 (take 1 xs)) ≡
 no-value-more [] = no-tail
 no-value-more (x ∷ xs) = no-tail
 
-pub one-value-more : (xs : List (List ℕ)) (i : ℕ) → 1 ≤ i → i < length xs → tailText (drop 1 (take (suc i) xs)) ≡ tailText (drop 1 (take i xs)) ++ tailText (getD xs i [] ∷ [])
+pub one-value-more : (xs : List (List ℕ)) (i : ℕ) → 1 ≤ i → i < length xs
+    → tailText (drop 1 (take (suc i) xs)) ≡ tailText (drop 1 (take i xs)) ++ tailText (getD xs i [] ∷ [])
 one-value-more xs zero h k = absurd (omega arith)
 one-value-more [] (suc i) h k = absurd (omega arith)
 one-value-more (x ∷ xs) (suc i) h k = one-more tailText no-tail tail-more xs i (omega arith)

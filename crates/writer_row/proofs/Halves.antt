@@ -72,7 +72,9 @@ unfolding fieldsOf kindsOf command technical sr
 halved r cells held =
     record {
       narrow = held .narrow;
-      halves-are = holds-two Sr r (getD (kindsOf Secondary) 5 noKind) (fieldOf cells 6) refl (field-holds Secondary r cells held 5 (leb-true 6 (sizeOf Secondary) refl));
+      halves-are =
+          holds-two Sr r (getD (kindsOf Secondary) 5 noKind) (fieldOf cells 6) refl
+          (field-holds Secondary r cells held 5 (leb-true 6 (sizeOf Secondary) refl));
     }
 
 -- ---- a blank

@@ -84,7 +84,8 @@ module _ (l : Layout) (r : Rooms) (cells : List Cell) (out : List ℕ) (at : ℕ
     pub same-room : length m ≡ length out
     same-room = ap length (s .done .bytes) ∙ length-sets out at (tailText (drop 1 (take i (textsOf l r cells))))
 
-    module _ (h : i < length (rowFields l)) (t : MessageType) (is-type : t ≡ typeOf l) (k : ℕ) (f : k ≡ getD (rowFields l) i 0) (v : Value) (z : v ≡ fieldOf cells k) where
+    module _ (h : i < length (rowFields l)) (t : MessageType) (is-type : t ≡ typeOf l) (k : ℕ) (f : k ≡ getD (rowFields l) i 0) (v : Value)
+        (z : v ≡ fieldOf cells k) where
       next : (59 ∷ []) ++ valueText t r v ≡ tailText (getD (textsOf l r cells) i [] ∷ [])
       unfolding tailText
       next =
@@ -93,7 +94,8 @@ module _ (l : Layout) (r : Rooms) (cells : List Cell) (out : List ℕ) (at : ℕ
           ∙ ap (valueText (typeOf l) r) z
           ∙ sym (append-nil (getD (textsOf l r cells) i []) ∙ value-text l r cells i k h f))
 
-      pub turn : (a : ℕ) (l₁ : List ℕ) (q : ℕ) (m′ : List ℕ) → (a ≡ p + 1) × (l₁ ≡ sets m p (59 ∷ [])) → Puts l₁ a (valueText t r v) q m′ → Sofar l r cells out at (i + 1) q m′
+      pub turn : (a : ℕ) (l₁ : List ℕ) (q : ℕ) (m′ : List ℕ) → (a ≡ p + 1) × (l₁ ≡ sets m p (59 ∷ [])) → Puts l₁ a (valueText t r v) q m′
+          → Sofar l r cells out at (i + 1) q m′
       turn a l₁ q m′ mark w =
           let done = tailText (drop 1 (take i (textsOf l r cells))) in
           let more = tailText (drop 1 (take (suc i) (textsOf l r cells))) in
@@ -138,7 +140,8 @@ module _ (l : Layout) (r : Rooms) (cells : List Cell) (out : List ℕ) (at : ℕ
 
 -- ---- the half-bands, put
 
-module _ (t : MessageType) (r : Rooms) (v : Value) (l : List ℕ) (at a : ℕ) (l₁ : List ℕ) (b : ℕ) (m : List ℕ) (mark : (a ≡ at + 1) × (l₁ ≡ sets l at (59 ∷ []))) where
+module _ (t : MessageType) (r : Rooms) (v : Value) (l : List ℕ) (at a : ℕ) (l₁ : List ℕ) (b : ℕ) (m : List ℕ)
+    (mark : (a ≡ at + 1) × (l₁ ≡ sets l at (59 ∷ []))) where
   pub put-no-halves : isFilled v ≡ false → (b ≡ a + 1) × (m ≡ sets l₁ a (59 ∷ [])) → Puts l at (tailText (halves (valueText t r v))) b m
   put-no-halves e w =
       same-puts (tailText (halves (valueText t r v))) (blank-halves t r v e) (then (puts-of {t = 59 ∷ []} 1 refl mark) (puts-of {t = 59 ∷ []} 1 refl w))
@@ -200,7 +203,8 @@ halves-short t r v h g =
     (λ e. rw (h .halves-are e) (omega (arith, text-short t r v (h .narrow) g)))
     (λ e. rw (sym (blank-halves t r v e)) (omega arith))
 
-bands-short : (l : Layout) (r : Rooms) (cells : List Cell) → Held l r cells → length (r .gradients) ≡ 16 → length (tailText (bandsIn l (columnOf l r cells))) ≤ 700
+bands-short : (l : Layout) (r : Rooms) (cells : List Cell) → Held l r cells → length (r .gradients) ≡ 16
+    → length (tailText (bandsIn l (columnOf l r cells))) ≤ 700
 unfolding tailText
 bands-short Market r cells held g = omega arith
 bands-short Mfrr r cells held g = omega arith

@@ -24,7 +24,8 @@ upper s = all isPlain s && noSep s
 -- ---- what stands above
 
 module _ (us : List (List ℕ)) where
-  outside-over : (ss : List (List ℕ)) → all noSep ss ≡ true → sift ifOutside (marked 0 (map trim (ss ++ us))) ≡ map trim ss ++ sift ifOutside (marked 0 (map trim us))
+  outside-over : (ss : List (List ℕ)) → all noSep ss ≡ true
+      → sift ifOutside (marked 0 (map trim (ss ++ us))) ≡ map trim ss ++ sift ifOutside (marked 0 (map trim us))
   unfolding all marked mark sift ifOutside
   outside-over [] h = refl
   outside-over (s ∷ ss) h =

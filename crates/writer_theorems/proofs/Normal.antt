@@ -86,7 +86,8 @@ message-normal t unit file h =
 
 -- ---- at an address of a plan
 
-at-normal : (s : Sought) (file : List ℕ) → answerAt s file .number ≡ 0 → NoneHolds (planned s file) → answerAt s (fileOf (answerAt s file .content)) ≡ answerAt s file
+at-normal : (s : Sought) (file : List ℕ) → answerAt s file .number ≡ 0 → NoneHolds (planned s file)
+    → answerAt s (fileOf (answerAt s file .content)) ≡ answerAt s file
 unfolding planned
 at-normal s file h (next e (next d n)) =
     let here = planned-back s file e d in

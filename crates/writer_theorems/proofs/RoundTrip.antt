@@ -82,9 +82,11 @@ module _ {r : Record} {vs : List Value} (v : ValidAs r vs) where
       let once : isThere (again [] (entriesIn type f)) ≡ false = rw (b .layout-is, b .none-twice) in
       let complete : ltb 0 (missing 1 (labelsOf (layoutIn type (given f))) (entriesIn type f)) ≡ false = rw (b .layout-is, b .none-missing) in
       let read : isBad (valuesOf (layoutIn type (given f)) (bodyColumn type f)) ≡ false = rw (b .layout-is, b .column-is, typed-back 1 (v .hold)) in
-      let unbroken : ltb 0 (brokenIn (columnRecord (layoutIn type (given f)) (bodyColumn type f))) ≡ false = rw (b .layout-is, b .column-is, body-of, v .unbroken) in
+      let unbroken : ltb 0 (brokenIn (columnRecord (layoutIn type (given f)) (bodyColumn type f))) ≡ false =
+      rw (b .layout-is, b .column-is, body-of, v .unbroken) in
       let named : not (same unit (textAt (bodyColumn type f) 2)) ≡ false = rw (b .layout-is, b .column-is, u, same-refl (textAt col 2)) in
-      let summed : not (same (rowIn f) (rowOf (layoutIn type (given f)) (bodyColumn type f))) ≡ false = rw (b .layout-is, b .row-is, b .column-is, same-refl (rowOf lay col)) in
+      let summed : not (same (rowIn f) (rowOf (layoutIn type (given f)) (bodyColumn type f))) ≡ false =
+      rw (b .layout-is, b .row-is, b .column-is, same-refl (rowOf lay col)) in
       next size (next bytes (next frame (next once (next complete (next read (next unbroken (next named (next summed none))))))))
 
   pub message-back : (unit : List ℕ) → unit ≡ textAt col 2 → messageOf type unit (fileOf r) ≡ accepted r
@@ -94,7 +96,8 @@ module _ {r : Record} {vs : List Value} (v : ValidAs r vs) where
 -- ---- at an address of a plan
 
 -- where the plan is good and has the address, a file is read as a message, whatever it is
-pub planned-back : (s : Sought) (file : List ℕ) → eqb (s .number) 13 ≡ false → eqb (s .number) 1 ≡ false → answerAt s file ≡ messageOf (s .message) (unitIn s) file
+pub planned-back : (s : Sought) (file : List ℕ) → eqb (s .number) 13 ≡ false → eqb (s .number) 1 ≡ false
+    → answerAt s file ≡ messageOf (s .message) (unitIn s) file
 unfolding answerAt planned messageOf
 planned-back s file e h =
     answer-no 13 (s .detail) (eqb (s .number) 13) _ (recordIn (s .message) file) e

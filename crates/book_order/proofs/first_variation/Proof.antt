@@ -26,10 +26,16 @@ amount-in-requires-2 : tie.Need-amount-in-requires-2
 amount-in-requires-2 c κs = search needs
 
 returns : tie.Need-returns
-returns c = rw (c .before .before .enum-told .given .1) (toZ-ofZ w32 (c .amount-in .result) (record { sfits = c .amount-in .ok }) ∙ c .amount-in .ensures ∙ rw (c .before .field .ensures))
+returns c =
+    let at-enum-told = c .before .before in
+    rw (at-enum-told .enum-told .given .1)
+    (toZ-ofZ w32 (c .amount-in .result) (record { sfits = c .amount-in .ok }) ∙ c .amount-in .ensures ∙ rw (c .before .field .ensures))
 
 returns-2 : tie.Need-returns-2
-returns-2 c = rw (c .before .before .enum-told2 .given .1) (toZ-ofZ w32 (c .amount-in2 .result) (record { sfits = c .amount-in2 .ok }) ∙ c .amount-in2 .ensures ∙ rw (c .before .field2 .ensures))
+returns-2 c =
+    let at-enum-told2 = c .before .before in
+    rw (at-enum-told2 .enum-told2 .given .1)
+    (toZ-ofZ w32 (c .amount-in2 .result) (record { sfits = c .amount-in2 .ok }) ∙ c .amount-in2 .ensures ∙ rw (c .before .field2 .ensures))
 
 returns-3 : tie.Need-returns-3
 returns-3 c = first-other (c .before .args .l) (c .before .args .cells) (c .match .keys3)

@@ -8,7 +8,9 @@ is-market-requires : tie.Need-is-market-requires
 is-market-requires c κs = search needs
 
 returns : tie.Need-returns
-returns c = empty-is (c .before .before .before .before .before .before .before .before .before .args .o) (search needs) (search needs) _ (c .before .before .before .before .before .before .before .is-market .ensures)
+returns c =
+    empty-is (c .before .before .before .before .before .before .before .before .before .args .o) (search needs) (search needs) _
+    (c .before .before .before .before .before .before .before .is-market .ensures)
 
 pub is-empty-spec : {M : Type 1} → statement M
 is-empty-spec = tie.close (tie.spec is-market-requires returns)

@@ -12,13 +12,21 @@ instant-in-requires : tie.Need-instant-in-requires
 instant-in-requires c κs = search needs
 
 cast-t8 : tie.Need-cast-t8
-cast-t8 c = let q = start-small (c .before .before .before .args .r) _ (c .before .before .of-record .ensures) _ (c .instant-in .ensures) (c .before .before .before .pre .0) in record { fits = omega (arith, q) }
+cast-t8 c =
+    let read = c .before .before in
+    let s = read .before in
+    let q = start-small (s .args .r) _ (read .of-record .ensures) _ (c .instant-in .ensures) (s .pre .0) in
+    record { fits = omega (arith, q) }
 
 instant-in-requires-2 : tie.Need-instant-in-requires-2
 instant-in-requires-2 c κs = search needs
 
 cast-t10 : tie.Need-cast-t10
-cast-t10 c = let q = end-small (c .before .before .before .before .args .r) _ (c .before .before .before .of-record .ensures) _ (c .instant-in2 .ensures) (c .before .before .before .before .pre .1) in record { fits = omega (arith, q) }
+cast-t10 c =
+    let read = c .before .before .before in
+    let s = read .before in
+    let q = end-small (s .args .r) _ (read .of-record .ensures) _ (c .instant-in2 .ensures) (s .pre .1) in
+    record { fits = omega (arith, q) }
 
 first-variation-requires : tie.Need-first-variation-requires
 first-variation-requires c κs = search needs

@@ -17,7 +17,10 @@ amount-in-requires : tie.Need-amount-in-requires
 amount-in-requires c κs = search needs
 
 returns : tie.Need-returns
-returns c = rw (c .before .before .enum-told .given .1) (toZ-ofZ w32 (c .amount-in .result) (record { sfits = c .amount-in .ok }) ∙ c .amount-in .ensures ∙ rw (c .before .field .ensures))
+returns c =
+    let at-enum-told = c .before .before in
+    rw (at-enum-told .enum-told .given .1)
+    (toZ-ofZ w32 (c .amount-in .result) (record { sfits = c .amount-in .ok }) ∙ c .amount-in .ensures ∙ rw (c .before .field .ensures))
 
 returns-2 : tie.Need-returns-2
 returns-2 c = second-other (c .before .args .l) (c .before .args .cells) (c .match .keys2)

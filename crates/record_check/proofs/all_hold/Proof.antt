@@ -39,7 +39,12 @@ holds-requires : tie.Need-holds-requires Inv-loop μ-loop
 holds-requires c κs = search needs
 
 returns : tie.Need-returns Inv-loop μ-loop
-returns c = one-fails _ _ _ _ _ _ (c .before .before .before .before .before .loop .inv) (c .before .before .before .before .loop-test .taken) _ (c .before .before .of-field .ensures) _ (c .before .holds .ensures) (c .if1 .taken)
+returns c =
+    let at-of-field = c .before .before in
+    let at-loop-test = at-of-field .before .before in
+    let at-loop = at-loop-test .before in
+    one-fails _ _ _ _ _ _ (at-loop .loop .inv) (at-loop-test .loop-test .taken) _ (at-of-field .of-field .ensures) _ (c .before .holds .ensures)
+    (c .if1 .taken)
 
 add-k : tie.Need-add-k Inv-loop μ-loop
 add-k c = omega (arith, small _ _ _ _ _ _ (c .before .before .before .before .before .loop .inv) (c .before .before .before .before .loop-test .taken))
@@ -48,7 +53,12 @@ loop-less : tie.Need-loop-less Inv-loop μ-loop
 loop-less c = search needs
 
 loop-again : tie.Need-loop-again Inv-loop μ-loop
-loop-again c = one-holds _ _ _ _ _ _ (c .before .before .before .before .before .loop .inv) (c .before .before .before .before .loop-test .taken) _ (c .before .before .of-field .ensures) _ (c .before .holds .ensures) (c .if1 .left)
+loop-again c =
+    let at-of-field = c .before .before in
+    let at-loop-test = at-of-field .before .before in
+    let at-loop = at-loop-test .before in
+    one-holds _ _ _ _ _ _ (at-loop .loop .inv) (at-loop-test .loop-test .taken) _ (at-of-field .of-field .ensures) _ (c .before .holds .ensures)
+    (c .if1 .left)
 
 returns-2 : tie.Need-returns-2 Inv-loop μ-loop
 returns-2 c = all-asked _ _ _ _ _ _ (c .before .loop .inv) (c .loop-test .left)

@@ -52,7 +52,9 @@ loop-again c =
     (l .loop .inv .0, l .loop .inv .1 ∙ all-on isBlankCell (cell Blank) (a .t1) (l .loop .k) h (ap not (sym (c .before .is-filled .ensures) ∙ c .if1 .left)))
 
 returns-2 : tie.Need-returns-2 Inv-loop μ-loop
-returns-2 c = sym (c .before .loop .inv .1 ∙ all-end isBlankCell (c .before .before .args .t1) (c .before .loop .k) (omega (arith, c .loop-test .left, c .before .loop .inv .0)))
+returns-2 c =
+    let at-args = c .before .before in
+    sym (c .before .loop .inv .1 ∙ all-end isBlankCell (at-args .args .t1) (c .before .loop .k) (omega (arith, c .loop-test .left, c .before .loop .inv .0)))
 
 pub are-blank-spec : {M : Type 1} → statement M
 are-blank-spec =

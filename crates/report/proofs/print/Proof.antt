@@ -16,7 +16,8 @@ same-length c = search needs
 returns : tie.Need-returns
 returns c =
     let s = c .before .before .before .before .before .before .before .before in
-    print-put (s .args .plan .now) (s .args .input .now) (s .args .out .now) _ _ _ (c .before .before .before .hear .ensures) (c .before .before .put-answer .ensures)
+    print-put (s .args .plan .now) (s .args .input .now) (s .args .out .now) _ _ _ (c .before .before .before .hear .ensures)
+    (c .before .before .put-answer .ensures)
 
 pub print-spec : {M : Type 1} → statement M
 print-spec = tie.close (tie.spec hear-requires put-answer-requires same-length returns)

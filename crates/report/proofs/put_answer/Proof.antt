@@ -16,7 +16,8 @@ same-length c = search needs
 returns : tie.Need-returns
 returns c =
     let s = c .before .before .before .before .before .before .before .before in
-    same-text (sixLines (s .args .a .content)) (reportOf (s .args .a)) (s .args .out .now) _ _ _ (record-is (s .args .a) (c .before .before .before .before .before .if1 .taken)) (c .before .before .put-record .ensures)
+    same-text (sixLines (s .args .a .content)) (reportOf (s .args .a)) (s .args .out .now) _ _ _
+    (record-is (s .args .a) (c .before .before .before .before .before .if1 .taken)) (c .before .before .put-record .ensures)
 
 put-refusal-requires : tie.Need-put-refusal-requires
 put-refusal-requires c κs = search needs
@@ -27,7 +28,8 @@ same-length-2 c = search needs
 returns-2 : tie.Need-returns-2
 returns-2 c =
     let s = c .before .before .before .before .before .before .before in
-    same-text (twoLines (s .args .a .number) (s .args .a .detail)) (reportOf (s .args .a)) (s .args .out .now) _ _ _ (refusal-is (s .args .a) (c .before .before .before .before .if1 .left)) (c .before .before .put-refusal .ensures)
+    same-text (twoLines (s .args .a .number) (s .args .a .detail)) (reportOf (s .args .a)) (s .args .out .now) _ _ _
+    (refusal-is (s .args .a) (c .before .before .before .before .if1 .left)) (c .before .before .put-refusal .ensures)
 
 pub put-answer-spec : {M : Type 1} → statement M
 put-answer-spec =

@@ -18,7 +18,8 @@ same-length c = search needs
 returns : tie.Need-returns
 returns c =
     let s = c .before .before .before .before .before .before in
-    same-text (sixOf (c .before .before .before .of-record .result)) (sixOf (briefOf (s .args .r))) (s .args .out .now) _ _ _ (ap sixOf (c .before .before .before .of-record .ensures)) (c .before .before .put-lines .ensures)
+    same-text (sixOf (c .before .before .before .of-record .result)) (sixOf (briefOf (s .args .r))) (s .args .out .now) _ _ _
+    (ap sixOf (c .before .before .before .of-record .ensures)) (c .before .before .put-lines .ensures)
 
 pub put-record-spec : {M : Type 1} → statement M
 put-record-spec = tie.close (tie.spec of-record-requires put-lines-requires same-length returns)

@@ -26,7 +26,8 @@ same-length c = search needs
 returns : tie.Need-returns
 returns c =
     let s = c .before .before .before .before .before .before .before .before .before .before .before in
-    refusal-put (s .args .number) (s .args .detail) (s .args .out .now) _ _ (c .before .before .before .before .before .before .before .put-number .last .0) _ _ (c .before .before .before .before .before .before .before .put-number .ensures) (c .before .before .put-number2 .ensures)
+    refusal-put (s .args .number) (s .args .detail) (s .args .out .now) _ _ (c .before .before .before .before .before .before .before .put-number .last .0) _
+    _ (c .before .before .before .before .before .before .before .put-number .ensures) (c .before .before .put-number2 .ensures)
 
 pub put-refusal-spec : {M : Type 1} → statement M
 put-refusal-spec =

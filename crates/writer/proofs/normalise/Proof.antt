@@ -2,6 +2,7 @@
 use Prim.Native.Nat.{_+_, _-_, _≤_, _<_}
 use Rattle.layout.proofs.Labels.{few}
 use Rattle.text_lines.specs.Places.{spanAt, Placed, columnIn}
+use Rattle.text_lines.specs.declared.Span.{Span}
 use Rattle.layout.specs.Layouts.{sizeOf}
 use Rattle.reader.proofs.Readings.{placed-of}
 use Rattle.record.proofs.Rooms.{unit-in, reason-in, note-in}
@@ -83,12 +84,14 @@ near c = one-left (c .before .loop .written) (c .before .loop .k) (sized (c .bef
 at-k : (c : tie.In-loop Inv-loop μ-loop) → c .before .loop .k < 26
 at-k c = omega (arith, small (c .before), near c)
 
-ordered : (c : tie.In-loop Inv-loop μ-loop)
-    → spanAt (read (c .before) .judged .result .places) (c .before .loop .k + 1) .from ≤ spanAt (read (c .before) .judged .result .places) (c .before .loop .k + 1) .to
+-- where the value stands that is looked at
+abbrev value-span : tie.In-loop Inv-loop μ-loop → Span
+value-span c = spanAt (read (c .before) .judged .result .places) (c .before .loop .k + 1)
+
+ordered : (c : tie.In-loop Inv-loop μ-loop) → value-span c .from ≤ value-span c .to
 ordered c = placed (c .before) .ordered _ (omega arith) (omega (arith, near c))
 
-inside : (c : tie.In-loop Inv-loop μ-loop)
-    → spanAt (read (c .before) .judged .result .places) (c .before .loop .k + 1) .to ≤ length (begun (read (c .before)) .args .file .now)
+inside : (c : tie.In-loop Inv-loop μ-loop) → value-span c .to ≤ length (begun (read (c .before)) .args .file .now)
 inside c = placed (c .before) .inside _ (omega arith) (omega (arith, near c))
 
 all-written : (c : tie.Then2 Inv-loop μ-loop)

@@ -24,10 +24,14 @@ same-length c = search needs
 
 returns-2 : tie.Need-returns-2
 returns-2 c =
-    let s = c .before .before .before .before .before .before .before .before .before .before .before .before .before .before in
-    let byte = c .before .before .before .before .before .before .put-byte in
-    let filled = told-filled (s .args .v) _ (c .before .before .before .before .before .before .before .before .before .is-filled .ensures) (c .before .before .before .before .before .before .before .before .if1 .left) in
-    put-some (s .args .t) _ (s .args .v) _ (s .args .at) (s .pre .1) filled _ (byte .last .0) _ _ (byte .ensures) (c .before .before .put-value .ensures)
+    let valued = c .before .before in
+    let spaced = valued .before .before .before .before in
+    let left = spaced .before .before in
+    let asked = left .before in
+    let s = asked .before .before .before .before .before in
+    let byte = spaced .put-byte in
+    let filled = told-filled (s .args .v) _ (asked .is-filled .ensures) (left .if1 .left) in
+    put-some (s .args .t) _ (s .args .v) _ (s .args .at) (s .pre .1) filled _ (byte .last .0) _ _ (byte .ensures) (valued .put-value .ensures)
 
 pub put-after-spec : {M : Type 1} → statement M
 put-after-spec =

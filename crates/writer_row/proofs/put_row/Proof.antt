@@ -28,10 +28,12 @@ enum-told c = search needs
 
 put-halves-requires : tie.Need-put-halves-requires
 put-halves-requires c κs =
-    let s = c .before .before .before .before .before .before .before .before .before .before .before .before in
+    let pieces = c .before .before .before .before .before .before in
+    let s = pieces .before .before .before .before .before .before in
     let short = fields-short (s .args .l) _ _ (s .pre .1) (sixteen s) in
     let six = sym (field-at (s .args .t4) 6 (lit≤ tt)) in
-    (omega (arith, s .pre .0, c .before .before .before .before .before .before .put-pieces .ensures .0, short), six-halved (s .args .l) (c .before .enum-told .given .1) _ (s .args .t4) _ six (s .pre .1))
+    let halved = six-halved (s .args .l) (c .before .enum-told .given .1) _ (s .args .t4) _ six (s .pre .1) in
+    (omega (arith, s .pre .0, pieces .put-pieces .ensures .0, short), halved)
 
 same-length : tie.Need-same-length
 same-length c = search needs
@@ -41,13 +43,18 @@ returns c =
     let s = c .before .before .before .before .before .before .before .before .before .before .before .before .before .before .before in
     let fields = c .before .before .before .before .before .before .before .before .before .put-pieces in
     let six = sym (field-at (s .args .t4) 6 (lit≤ tt)) in
-    banded-row (s .args .l) (c .before .before .before .before .enum-told .given .1) (rooms-of s) (s .args .t4) _ six (s .args .out .now) _ _ (fields .last .0) _ _ (fields .ensures) (c .before .before .put-halves .ensures)
+    banded-row (s .args .l) (c .before .before .before .before .enum-told .given .1) (rooms-of s) (s .args .t4) _ six (s .args .out .now) _ _
+    (fields .last .0) _ _ (fields .ensures) (c .before .before .put-halves .ensures)
 
 same-length-2 : tie.Need-same-length-2
 same-length-2 c = search needs
 
 returns-2 : tie.Need-returns-2
-returns-2 c = plain-row (c .before .before .before .before .before .before .before .before .before .before .args .l) _ _ _ _ (c .match .keys2) _ _ (c .before .before .before .before .put-pieces .ensures)
+returns-2 c =
+    let at-put-pieces = c .before .before .before .before in
+    let mid = at-put-pieces .before .before .before .before in
+    let at-args = mid .before .before in
+    plain-row (at-args .args .l) _ _ _ _ (c .match .keys2) _ _ (at-put-pieces .put-pieces .ensures)
 
 pub put-row-spec : {M : Type 1} → statement M
 put-row-spec =

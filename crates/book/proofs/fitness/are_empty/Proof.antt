@@ -38,7 +38,8 @@ in-range c =
 returns : tie.Need-returns Inv-loop μ-loop
 returns c =
     let l = c .before .before .before .before in
-    sym (l .loop .inv ∙ all-here isEmpty emptyOrder (l .before .args .t1 .orders) (l .loop .i) (in-range (c .before)) (sym (c .before .is-empty .ensures) ∙ not-true _ (c .if1 .taken)))
+    let held = sym (c .before .is-empty .ensures) ∙ not-true _ (c .if1 .taken) in
+    sym (l .loop .inv ∙ all-here isEmpty emptyOrder (l .before .args .t1 .orders) (l .loop .i) (in-range (c .before)) held)
 
 add-i : tie.Need-add-i Inv-loop μ-loop
 add-i c = search needs
@@ -49,7 +50,8 @@ loop-less c = search needs
 loop-again : tie.Need-loop-again Inv-loop μ-loop
 loop-again c =
     let l = c .before .before .before .before in
-    l .loop .inv ∙ all-on isEmpty emptyOrder (l .before .args .t1 .orders) (l .loop .i) (in-range (c .before)) (sym (c .before .is-empty .ensures) ∙ not-false _ (c .if1 .left))
+    let empty = sym (c .before .is-empty .ensures) ∙ not-false _ (c .if1 .left) in
+    l .loop .inv ∙ all-on isEmpty emptyOrder (l .before .args .t1 .orders) (l .loop .i) (in-range (c .before)) empty
 
 returns-2 : tie.Need-returns-2 Inv-loop μ-loop
 returns-2 c =

@@ -24,12 +24,14 @@ are-empty-requires c κs = search needs
 returns-2 : tie.Need-returns-2
 returns-2 c =
     let e = c .before .before .before in
-    tally-malformed-rest (e .before .before .before .before .args .b) _ (c .before .before .count-orders .ensures) (sym (e .before .is-formed-unit .ensures) ∙ not-false _ (e .if1 .left)) (sym (c .before .are-empty .ensures) ∙ not-true _ (c .if2 .taken))
+    tally-malformed-rest (e .before .before .before .before .args .b) _ (c .before .before .count-orders .ensures)
+    (sym (e .before .is-formed-unit .ensures) ∙ not-false _ (e .if1 .left)) (sym (c .before .are-empty .ensures) ∙ not-true _ (c .if2 .taken))
 
 returns-3 : tie.Need-returns-3
 returns-3 c =
     let e = c .before .before .before in
-    tally-holds (e .before .before .before .before .args .b) _ (c .before .before .count-orders .ensures) (sym (e .before .is-formed-unit .ensures) ∙ not-false _ (e .if1 .left)) (sym (c .before .are-empty .ensures) ∙ not-false _ (c .if2 .left))
+    tally-holds (e .before .before .before .before .args .b) _ (c .before .before .count-orders .ensures)
+    (sym (e .before .is-formed-unit .ensures) ∙ not-false _ (e .if1 .left)) (sym (c .before .are-empty .ensures) ∙ not-false _ (c .if2 .left))
 
 pub count-held-spec : {M : Type 1} → statement M
 count-held-spec =

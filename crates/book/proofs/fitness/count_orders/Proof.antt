@@ -40,10 +40,14 @@ returns : tie.Need-returns Inv-loop μ-loop
 returns c =
     let l = c .before .before .before .before in
     let b = l .before .args .t1 in
-    counted-here (b .floor) (l .loop .least) (l .loop .i) _ (b .orders) (l .loop .inv) (in-range (c .before)) (sym (c .before .fits-after .ensures) ∙ not-true _ (c .if1 .taken))
+    counted-here (b .floor) (l .loop .least) (l .loop .i) _ (b .orders) (l .loop .inv) (in-range (c .before))
+    (sym (c .before .fits-after .ensures) ∙ not-true _ (c .if1 .taken))
+
+abbrev turned : tie.Else1 Inv-loop μ-loop → tie.At-loop Inv-loop μ-loop
+turned c = c .before .before .before .before
 
 fits : (c : tie.Else1 Inv-loop μ-loop) →
-    fitsAfter (c .before .before .before .before .before .args .t1 .floor) (c .before .before .before .before .loop .least) (orderAt (c .before .before .before .before .loop .i) (c .before .before .before .before .before .args .t1 .orders)) ≡ true
+    fitsAfter (turned c .before .args .t1 .floor) (turned c .loop .least) (orderAt (turned c .loop .i) (turned c .before .args .t1 .orders)) ≡ true
 fits c = sym (c .before .fits-after .ensures) ∙ not-false _ (c .if1 .left)
 
 add-least : tie.Need-add-least Inv-loop μ-loop
@@ -68,7 +72,8 @@ returns-2 : tie.Need-returns-2 Inv-loop μ-loop
 returns-2 c =
     let l = c .before in
     let s = l .before in
-    counted-all (s .args .t1 .floor) (l .loop .least) (l .loop .i) _ (s .args .t1 .orders) (l .loop .inv) (omega (arith, c .loop-test .left, sized (s .args .t1) _ (s .good .0) .long))
+    counted-all (s .args .t1 .floor) (l .loop .least) (l .loop .i) _ (s .args .t1 .orders) (l .loop .inv)
+    (omega (arith, c .loop-test .left, sized (s .args .t1) _ (s .good .0) .long))
 
 pub count-orders-spec : {M : Type 1} → statement M
 count-orders-spec =

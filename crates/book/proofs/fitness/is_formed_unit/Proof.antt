@@ -27,7 +27,8 @@ returns-2 c =
     let u = c .before .before in
     let i = u .before .before in
     let a = i .before .before .args in
-    unit-is (a .size) (a .unit .now) (i .if1 .left) _ _ (u .is-unit .ensures ∙ ap isUnit (u .before .front .ensures)) (c .are-zero .ensures ∙ ap (all (is 0)) (c .before .rest .ensures))
+    unit-is (a .size) (a .unit .now) (i .if1 .left) _ _ (u .is-unit .ensures ∙ ap isUnit (u .before .front .ensures))
+    (c .are-zero .ensures ∙ ap (all (is 0)) (c .before .rest .ensures))
 
 pub is-formed-unit-spec : {M : Type 1} → statement M
 is-formed-unit-spec =

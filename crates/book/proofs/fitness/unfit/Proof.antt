@@ -30,7 +30,8 @@ start c = passed c .before .before .before
 same-unit : (c : tie.After-same) → c .same .result ≡ same (unitOf (start c .args .r)) (ours (start c))
 same-unit c =
     let f = c .before .before .before in
-    c .same .ensures ∙ ap₂ same (f .front .ensures ∙ unit-told (start c .args .r) _ (f .before .before .before .before .of-record .ensures)) (c .before .front2 .ensures)
+    c .same .ensures
+    ∙ ap₂ same (f .front .ensures ∙ unit-told (start c .args .r) _ (f .before .before .before .before .of-record .ensures)) (c .before .front2 .ensures)
 
 is-valid-requires : tie.Need-is-valid-requires
 is-valid-requires c κs = search needs
@@ -67,13 +68,15 @@ returns-3 : tie.Need-returns-3
 returns-3 c =
     let s = start (c .before) in
     let p = passed (c .before) in
-    unfit-unit (s .args .right) (ours s) (s .args .r) (is-good (p .before)) (not-false _ (p .if2 .left)) (sym (same-unit (c .before)) ∙ not-true _ (c .if3 .taken))
+    unfit-unit (s .args .right) (ours s) (s .args .r) (is-good (p .before)) (not-false _ (p .if2 .left))
+    (sym (same-unit (c .before)) ∙ not-true _ (c .if3 .taken))
 
 returns-4 : tie.Need-returns-4
 returns-4 c =
     let s = start (c .before) in
     let p = passed (c .before) in
-    unfit-none (s .args .right) (ours s) (s .args .r) (is-good (p .before)) (not-false _ (p .if2 .left)) (sym (same-unit (c .before)) ∙ not-false _ (c .if3 .left))
+    unfit-none (s .args .right) (ours s) (s .args .r) (is-good (p .before)) (not-false _ (p .if2 .left))
+    (sym (same-unit (c .before)) ∙ not-false _ (c .if3 .left))
 
 pub unfit-spec : {M : Type 1} → statement M
 unfit-spec =

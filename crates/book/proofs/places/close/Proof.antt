@@ -66,7 +66,11 @@ loop-again c =
       rw (w .1) (stored b (at .next) (s .args .t) _ _ (at .inv .1) refl),
       rw (w .1, w .2) (close-keep (s .args .t) (at .i) (at .kept) (b .orders) (at .next .orders) (at .inv .2) h (omega arith) (w .0 .taken)),
     ))
-    (λ w. (omega arith, rw (w .1) (at .inv .1), rw (w .1, w .2) (close-leave (s .args .t) (at .i) (at .kept) (b .orders) (at .next .orders) (at .inv .2) h (w .0 .left))))
+    (λ w. (
+      omega arith,
+      rw (w .1) (at .inv .1),
+      rw (w .1, w .2) (close-leave (s .args .t) (at .i) (at .kept) (b .orders) (at .next .orders) (at .inv .2) h (w .0 .left)),
+    ))
     (c .if1 .came)
 
 returns : tie.Need-returns Inv-loop μ-loop
@@ -74,7 +78,8 @@ returns c =
     let at = c .before .loop in
     let s = c .before .before .before in
     let b = s .args .t1 in
-    stored b (at .next) (s .args .t) _ _ (at .inv .1) (close-packed (s .args .t) (at .i) (at .kept) (b .orders) (at .next .orders) (at .inv .2) (s .args .count) (at .inv .0) (c .loop-test .left))
+    stored b (at .next) (s .args .t) _ _ (at .inv .1)
+    (close-packed (s .args .t) (at .i) (at .kept) (b .orders) (at .next .orders) (at .inv .2) (s .args .count) (at .inv .0) (c .loop-test .left))
 
 pub close-spec : {M : Type 1} → statement M
 close-spec =

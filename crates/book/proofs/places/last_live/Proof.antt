@@ -39,7 +39,8 @@ returns : tie.Need-returns Inv-loop μ-loop
 returns c =
     let at = c .before .before .before .before .loop in
     let s = c .before .before .before .before .before in
-    live-here (s .args .t) (at .i) (s .args .count) (s .args .t1 .orders) (at .inv .1) (long s) (c .before .before .before .loop-test .taken) (at .inv .0) (s .pre .1) (sym (c .before .is-live .ensures) ∙ c .if1 .taken)
+    live-here (s .args .t) (at .i) (s .args .count) (s .args .t1 .orders) (at .inv .1) (long s) (c .before .before .before .loop-test .taken) (at .inv .0)
+    (s .pre .1) (sym (c .before .is-live .ensures) ∙ c .if1 .taken)
 
 loop-less : tie.Need-loop-less Inv-loop μ-loop
 loop-less c = search needs
@@ -48,7 +49,9 @@ loop-again : tie.Need-loop-again Inv-loop μ-loop
 loop-again c =
     let at = c .before .before .before .before .loop in
     let s = c .before .before .before .before .before in
-    (omega arith, live-not (s .args .t) (at .i) (s .args .count) (s .args .t1 .orders) (at .inv .1) (long s) (c .before .before .before .loop-test .taken) (at .inv .0) (sym (c .before .is-live .ensures) ∙ c .if1 .left))
+    let dead = sym (c .before .is-live .ensures) ∙ c .if1 .left in
+    let going = c .before .before .before .loop-test .taken in
+    (omega arith, live-not (s .args .t) (at .i) (s .args .count) (s .args .t1 .orders) (at .inv .1) (long s) going (at .inv .0) dead)
 
 returns-2 : tie.Need-returns-2 Inv-loop μ-loop
 returns-2 c =

@@ -12,7 +12,9 @@ use mathlib.Core.Path.{_≡_, refl}
 use native.Mathlib.Omega.{arith}
 
 abbrev Inv-loop : tie.InvT-loop
-Inv-loop at count o next₀ i₀ next i = (at ≤ i) × (i ≤ count) × (next ≡ withOrders next₀ (next₀ .floor) (next .orders)) × (next .orders ≡ putIn i count (orderAt i (next₀ .orders)) (next₀ .orders))
+Inv-loop at count o next₀ i₀ next i =
+    (at ≤ i) × (i ≤ count) × (next ≡ withOrders next₀ (next₀ .floor) (next .orders))
+    × (next .orders ≡ putIn i count (orderAt i (next₀ .orders)) (next₀ .orders))
 
 abbrev μ-loop : tie.MeasureT-loop
 μ-loop at count o next₀ i₀ next i = i
@@ -67,8 +69,8 @@ returns c =
     let at = c .before .loop in
     let s = c .before .before in
     let b = s .args .b in
-    stored b (at .next) (b .floor) _ _ (at .inv .2)
-    (put-end (s .args .at) (at .i) (s .args .count) (s .args .o) (b .orders) (at .next .orders) (at .inv .0) (c .loop-test .left) (omega (arith, s .pre .0, long s)) (at .inv .3))
+    let put = put-end (s .args .at) (at .i) (s .args .count) (s .args .o) (b .orders) (at .next .orders) (at .inv .0) (c .loop-test .left) in
+    stored b (at .next) (b .floor) _ _ (at .inv .2) (put (omega (arith, s .pre .0, long s)) (at .inv .3))
 
 pub put-in-spec : {M : Type 1} → statement M
 put-in-spec =
