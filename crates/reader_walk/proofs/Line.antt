@@ -3,6 +3,7 @@ use Prim.Native.Nat.{ℕ, _+_, _-_, _≤_}
 use Rattle.layout.proofs.Labels.{few, labels-length}
 use Rattle.layout.specs.Layouts.{layoutOf}
 use Rattle.layout.specs.declared.Layout.the-variants.{Mfrr}
+use Rattle.reader_accent.specs.Accents.{accentsOf}
 use Rattle.reader_line.specs.Items.{firstLabels, secondLabels, fielded, itemIn}
 use Rattle.reader_line.specs.declared.Item.{Item}
 use Rattle.text_lines.proofs.Spots.{forget}
@@ -10,6 +11,7 @@ use Rattle.text_lines.proofs.Standing.{sift-snoc, inside-here, inside-not, plac
 use Rattle.text_lines.specs.Entries.{placeOf}
 use Rattle.text_lines.specs.Lines.{Marked, ifInside, isSep}
 use Rattle.text_lines.specs.Places.{noSpan, trimmedAt, valueSpan}
+use Rattle.text_lines.specs.Spellings.{Spelling, respell}
 use Rattle.text_lines.specs.Spots.{LineAt, lineAt, lineIf, rowSpan, fieldIn, Spot, spotIf, spotIn, spots}
 use Rattle.text_lines.specs.declared.Span.{Span}
 use Rattle.value_name.specs.declared.MessageType.{MessageType}
@@ -58,9 +60,9 @@ second-few Vq = omega arith
 second-few Ri = omega arith
 second-few Qr = omega arith
 
-field-le : (ls : List (List ℕ)) (l : List ℕ) → fieldIn ls l ≤ length ls
+field-le : (sp : List Spelling) (ls : List (List ℕ)) (l : List ℕ) → fieldIn sp ls l ≤ length ls
 unfolding fieldIn
-field-le ls l = by-test (any (is 61) l) (λ e. rw e (place-le ls (trim (upto (is 61) l)))) (λ e. rw e (omega arith))
+field-le sp ls l = by-test (any (is 61) l) (λ e. rw e (place-le ls (respell sp (trim (upto (is 61) l))))) (λ e. rw e (omega arith))
 
 module _ (t : MessageType) (n at : ℕ) (l : List ℕ) (i : Item) (it : i ≡ itemIn t n at l) where
   fields-le : (itemIn t n at l .first ≤ 26) × (itemIn t n at l .second ≤ 26)
@@ -71,7 +73,7 @@ module _ (t : MessageType) (n at : ℕ) (l : List ℕ) (i : Item) (it : i ≡ it
       by-test (eqb n 1) (λ o. rw (e, o) (omega arith, omega arith))
       (λ o.
       rw (e, o)
-      (omega (arith, field-le (firstLabels t) l, first-few t), omega (arith, field-le (secondLabels t) l, second-few t))))
+      (omega (arith, field-le (accentsOf t) (firstLabels t) l, first-few t), omega (arith, field-le (accentsOf t) (secondLabels t) l, second-few t))))
 
   pub first-le : i .first ≤ 26
   first-le = rw it (fields-le .0)
@@ -102,9 +104,9 @@ module _ (done : List LineAt) (x : LineAt) where
       ∙ ap (λ (l : List (List ℕ)). sift ifInside (map forget done) ++ l) (inside-not (forget x) e)
       ∙ append-nil (sift ifInside (map forget done))
 
-  spots-more : (ls : List (List ℕ)) → spots ls (done ++ x ∷ []) ≡ spots ls done ++ onto (spotIn ls x) []
+  spots-more : (sp : List Spelling) (ls : List (List ℕ)) → spots sp ls (done ++ x ∷ []) ≡ spots sp ls done ++ onto (spotIn sp ls x) []
   unfolding spots
-  spots-more ls = sift-snoc (spotIn ls) done x
+  spots-more sp ls = sift-snoc (spotIn sp ls) done x
 
 row-other : (done : List LineAt) (x : LineAt) → eqb (x .above) 1 ≡ false → rowSpan (done ++ x ∷ []) ≡ rowSpan done
 unfolding rowSpan
@@ -128,8 +130,8 @@ row-new (s ∷ done) x n e =
 pub record Walked (t : MessageType) (file : List ℕ) (f : Frame) (m : Marks) (spans : List Span) (o : Marks) (others : List Span) (done : List LineAt) : Type 0 where
   pub inside : f .inside ≡ length (sift ifInside (map forget done))
   pub row : f .row ≡ rowSpan done
-  pub first : Kept file (firstLabels t) m spans (spots (firstLabels t) done)
-  pub second : Kept file (secondLabels t) o others (spots (secondLabels t) done)
+  pub first : Kept file (firstLabels t) m spans (spots (accentsOf t) (firstLabels t) done)
+  pub second : Kept file (secondLabels t) o others (spots (accentsOf t) (secondLabels t) done)
 
 module _ (t : MessageType) (file : List ℕ) (f : Frame) (m : Marks) (spans : List Span) (o : Marks) (others : List Span) (done : List LineAt)
     (w : Walked t file f m spans o others done) (at : ℕ) (l : List ℕ) where
@@ -142,11 +144,11 @@ module _ (t : MessageType) (file : List ℕ) (f : Frame) (m : Marks) (spans : Li
   x = lineAt (f .seps) at l
 
   -- the lists of labels, of a line that has no field
-  first-zero : (p : Span) → Kept file (firstLabels t) (notedOf m 0 .marks) (set spans (notedOf m 0 .into) p) (spots (firstLabels t) done)
-  first-zero p = note-zero file (firstLabels t) m spans (spots (firstLabels t) done) p (w .first) 0 refl
+  first-zero : (p : Span) → Kept file (firstLabels t) (notedOf m 0 .marks) (set spans (notedOf m 0 .into) p) (spots (accentsOf t) (firstLabels t) done)
+  first-zero p = note-zero file (firstLabels t) m spans (spots (accentsOf t) (firstLabels t) done) p (w .first) 0 refl
 
-  second-zero : (p : Span) → Kept file (secondLabels t) (notedOf o 0 .marks) (set others (notedOf o 0 .into) p) (spots (secondLabels t) done)
-  second-zero p = note-zero file (secondLabels t) o others (spots (secondLabels t) done) p (w .second) 0 refl
+  second-zero : (p : Span) → Kept file (secondLabels t) (notedOf o 0 .marks) (set others (notedOf o 0 .into) p) (spots (accentsOf t) (secondLabels t) done)
+  second-zero p = note-zero file (secondLabels t) o others (spots (accentsOf t) (secondLabels t) done) p (w .second) 0 refl
 
   walked-sep : isSep (trim l) ≡ true → After (itemIn t (f .seps) at l) done
   unfolding itemIn frameOf
@@ -159,9 +161,9 @@ module _ (t : MessageType) (file : List ℕ) (f : Frame) (m : Marks) (spans : Li
       (λ z. rw (eq-eqb (f .inside) 0 z) (sym (row-new done x (sym (w .inside) ∙ z) (eq-eqb (f .seps) 1 one))))
       (λ z. rw (ne-eqb (f .inside) 0 z) (w .row ∙ sym (row-old done x (λ y. z (w .inside ∙ y)))))
 
-  row-spots : (ls : List (List ℕ)) → f .seps ≡ 1 → spots ls (done ++ x ∷ []) ≡ spots ls done
+  row-spots : (sp : List Spelling) (ls : List (List ℕ)) → f .seps ≡ 1 → spots sp ls (done ++ x ∷ []) ≡ spots sp ls done
   unfolding spotIn
-  row-spots ls one = spots-more done x ls ∙ rw (eq-eqb (f .seps) 1 one) (append-nil (spots ls done))
+  row-spots sp ls one = spots-more done x sp ls ∙ rw (eq-eqb (f .seps) 1 one) (append-nil (spots sp ls done))
 
   walked-row : isSep (trim l) ≡ false → f .seps ≡ 1 → After (itemIn t (f .seps) at l) (done ++ x ∷ [])
   unfolding itemIn frameOf
@@ -171,8 +173,8 @@ module _ (t : MessageType) (file : List ℕ) (f : Frame) (m : Marks) (spans : Li
       record {
         inside = rw (inside-more done x one) (omega (arith, w .inside, length-append (sift ifInside (map forget done)) (trim l ∷ [])));
         row = row-more one;
-        first = rw (row-spots (firstLabels t) one) (first-zero (trimmedAt at l));
-        second = rw (row-spots (secondLabels t) one) (second-zero (trimmedAt at l));
+        first = rw (row-spots (accentsOf t) (firstLabels t) one) (first-zero (trimmedAt at l));
+        second = rw (row-spots (accentsOf t) (secondLabels t) one) (second-zero (trimmedAt at l));
       }
 
   -- a field's place is its value's: that of a line without a field is nobody's
@@ -180,18 +182,20 @@ module _ (t : MessageType) (file : List ℕ) (f : Frame) (m : Marks) (spans : Li
   unfolding spotIf
   spot-place k a b z = by-test (eqb a 0 && eqb b 0) (λ t. rw (t, eq-eqb k 0 (z t))) (λ t. rw t)
 
-  field-spots : (ls : List (List ℕ)) → (f .seps ≡ 1 → ⊥) → spots ls (done ++ x ∷ []) ≡ spots ls done ++ onto (spotIf (fieldIn ls l) (valueSpan at l)) []
+  field-spots : (sp : List Spelling) (ls : List (List ℕ)) → (f .seps ≡ 1 → ⊥)
+      → spots sp ls (done ++ x ∷ []) ≡ spots sp ls done ++ onto (spotIf (fieldIn sp ls l) (valueSpan at l)) []
   unfolding spotIn
-  field-spots ls one = spots-more done x ls ∙ rw (ne-eqb (f .seps) 1 one)
+  field-spots sp ls one = spots-more done x sp ls ∙ rw (ne-eqb (f .seps) 1 one)
 
   walked-out : isSep (trim l) ≡ false → (f .seps ≡ 1 → ⊥) → After (itemIn t (f .seps) at l) (done ++ x ∷ [])
   unfolding itemIn fielded frameOf
   walked-out e one =
       let b = ne-eqb (f .seps) 1 one in
+      let sp = accentsOf t in
       let ls = firstLabels t in
       let ks = secondLabels t in
-      let i = fieldIn ls l in
-      let j = fieldIn ks l in
+      let i = fieldIn sp ls l in
+      let j = fieldIn sp ks l in
       let p = cond (eqb i 0 && eqb j 0) noSpan (valueSpan at l) in
       let first-spot : spotIf i p ≡ spotIf i (valueSpan at l) = spot-place i i j (λ z. eqb-true i 0 (and-parts (eqb i 0) (eqb j 0) z .0)) in
       let second-spot : spotIf j p ≡ spotIf j (valueSpan at l) = spot-place j i j (λ z. eqb-true j 0 (and-parts (eqb i 0) (eqb j 0) z .1)) in
@@ -199,8 +203,8 @@ module _ (t : MessageType) (file : List ℕ) (f : Frame) (m : Marks) (spans : Li
       record {
         inside = rw (inside-same done x one) (w .inside);
         row = w .row ∙ sym (row-other done x b);
-        first = rw (field-spots ls one, sym first-spot) (note-fields file ls m spans (spots ls done) p (w .first) i (field-le ls l) (first-few t));
-        second = rw (field-spots ks one, sym second-spot) (note-fields file ks o others (spots ks done) p (w .second) j (field-le ks l) (second-few t));
+        first = rw (field-spots sp ls one, sym first-spot) (note-fields file ls m spans (spots sp ls done) p (w .first) i (field-le sp ls l) (first-few t));
+        second = rw (field-spots sp ks one, sym second-spot) (note-fields file ks o others (spots sp ks done) p (w .second) j (field-le sp ks l) (second-few t));
       }
 
   walked-in : After (itemIn t (f .seps) at l) (done ++ onto (lineIf (f .seps) at l) [])

@@ -1,6 +1,7 @@
 -- What the walk's answer tells of the file: the frame, the row, and of each list of labels the first repeat, what is missing, and the column of values.
 -- Assumes nothing.
 use Prim.Native.Nat.{ℕ, suc, _+_, _-_, _≤_, _<_}
+use Rattle.reader_accent.specs.Accents.{accentsOf}
 use Rattle.reader_line.specs.Items.{firstLabels, secondLabels}
 use Rattle.text_lines.proofs.Bits.{seen-missing}
 use Rattle.text_lines.proofs.Spots.{field-holds, row-in}
@@ -8,6 +9,7 @@ use Rattle.text_lines.specs.Entries.{Entry, entryOf, entries, placeOf, stands, 
 use Rattle.text_lines.specs.Lines.{Param, params, inside, outside, framed, seps, texts, allowedUpto}
 use Rattle.text_lines.specs.Mask.{maskOf}
 use Rattle.text_lines.specs.Places.{Placed, noSpan, partOf, spanAt, columnIn, HoldsText}
+use Rattle.text_lines.specs.Spellings.{Spelling}
 use Rattle.text_lines.specs.Spots.{linesIn, spots, placeAt, placesFrom, placesIn}
 use Rattle.text_lines.specs.declared.Span.{Span}
 use Rattle.value_name.specs.declared.MessageType.{MessageType}
@@ -55,37 +57,37 @@ unfolding again
 number-there seen [] a = refl
 number-there seen (e ∷ es) a = by-test (stands (e .at) seen) (λ t. rw t (refl, a .0)) (λ t. rw t (number-there (e ∷ seen) es (a .1)))
 
-pub fields-in : (file : List ℕ) (ls : List (List ℕ)) → length ls ≤ 26
-    → Fields file ls (marksIn ls file) (placesIn ls file) (entries ls (params (outside (texts file))))
+pub fields-in : (sp : List Spelling) (file : List ℕ) (ls : List (List ℕ)) → length ls ≤ 26
+    → Fields file ls (marksIn sp ls file) (placesIn sp ls file) (entries ls (params sp (outside (texts file))))
 unfolding marksOf placesIn
-fields-in file ls few =
-    let es = spots ls (linesIn file) in
+fields-in sp file ls few =
+    let es = spots sp ls (linesIn file) in
     record {
       long = ap suc (from-length 26 1 es);
       seen = refl;
-      repeat = number-there [] (entries ls (params (outside (texts file)))) (positive ls (params (outside (texts file))));
+      repeat = number-there [] (entries ls (params sp (outside (texts file)))) (positive ls (params sp (outside (texts file))));
       value = λ k a b.
           let n : k ≡ suc (k - 1) = omega arith in
           let p : spanAt (noSpan ∷ placesFrom 26 1 es) k ≡ placeAt k es =
           ap (λ (j : ℕ). spanAt (noSpan ∷ placesFrom 26 1 es) j) n ∙ place-next es (k - 1) (omega arith)
           ∙ ap (λ (j : ℕ). placeAt j es) (sym n) in
-          subst (λ (x : Span). HoldsText file x (valueAt k (entries ls (params (outside (texts file)))))) (sym p) (field-holds file ls k);
+          subst (λ (x : Span). HoldsText file x (valueAt k (entries ls (params sp (outside (texts file)))))) (sym p) (field-holds sp file ls k);
     }
 
 -- ---- of the whole file
 
 module _ (t : MessageType) (file : List ℕ) (r : Found) (w : r ≡ foundOf t file) where
-  pub stop-by : r .stop ≡ allowedUpto file
+  pub stop-by : r .stop ≡ allowedUpto (accentsOf t) file
   unfolding foundOf
   stop-by =
       ap (λ (x : Found). x .stop) w
-      ∙ by-eq (allowedUpto file) (length file) (λ e. rw (eq-eqb (allowedUpto file) (length file) e) (sym e))
-      (λ e. rw (ne-eqb (allowedUpto file) (length file) e))
+      ∙ by-eq (allowedUpto (accentsOf t) file) (length file) (λ e. rw (eq-eqb (allowedUpto (accentsOf t) file) (length file) e) (sym e))
+      (λ e. rw (ne-eqb (allowedUpto (accentsOf t) file) (length file) e))
 
-  module _ (all-allowed : allowedUpto file ≡ length file) where
+  module _ (all-allowed : allowedUpto (accentsOf t) file ≡ length file) where
     pub whole-by : r ≡ wholeOf t file
     unfolding foundOf
-    whole-by = w ∙ rw (eq-eqb (allowedUpto file) (length file) all-allowed)
+    whole-by = w ∙ rw (eq-eqb (allowedUpto (accentsOf t) file) (length file) all-allowed)
 
     pub seps-by : r .frame .seps ≡ seps (texts file)
     seps-by = ap (λ (x : Found). x .frame .seps) whole-by
@@ -103,11 +105,11 @@ module _ (t : MessageType) (file : List ℕ) (r : Found) (w : r ≡ foundOf t fi
         subst (λ (p : Span). HoldsText file p (getD (inside (texts file)) 0 [])) (sym (ap (λ (x : Found). x .frame .row) whole-by))
         (row-in file (λ z. omega (arith, one, inside-by, z)))
 
-    pub first-by : Fields file (firstLabels t) (r .first) (r .places) (entries (firstLabels t) (params (outside (texts file))))
-    first-by = rw whole-by (fields-in file (firstLabels t) (first-few t))
+    pub first-by : Fields file (firstLabels t) (r .first) (r .places) (entries (firstLabels t) (params (accentsOf t) (outside (texts file))))
+    first-by = rw whole-by (fields-in (accentsOf t) file (firstLabels t) (first-few t))
 
-    pub second-by : Fields file (secondLabels t) (r .second) (r .others) (entries (secondLabels t) (params (outside (texts file))))
-    second-by = rw whole-by (fields-in file (secondLabels t) (second-few t))
+    pub second-by : Fields file (secondLabels t) (r .second) (r .others) (entries (secondLabels t) (params (accentsOf t) (outside (texts file))))
+    second-by = rw whole-by (fields-in (accentsOf t) file (secondLabels t) (second-few t))
 
 -- ---- of a layout
 

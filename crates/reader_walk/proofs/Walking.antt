@@ -1,20 +1,24 @@
 -- The walk's invariant: what it has passed and what is left make the whole; its begin, its turn, and its two ends. Assumes nothing.
 use Prim.Native.Nat.{ℕ, zero, suc, _+_, _-_, _≤_, _<_}
+use Rattle.reader_accent.proofs.Table.{accents-good}
+use Rattle.reader_accent.specs.Accents.{accentsOf}
 use Rattle.reader_line.specs.Items.{firstLabels, secondLabels, fielded, lineFrom, itemIn, itemOf}
 use Rattle.reader_line.specs.declared.Item.{Item}
 use Rattle.text_lines.proofs.Spots.{forget, entriesAt, lines-turn, marked-in, file-entries}
-use Rattle.text_lines.proofs.Steps.{run-length, line-step, allowed-step, allowed-stop, break-length, break-some, stop-length}
+use Rattle.text_lines.proofs.Allowed.{line-run, allowed-step, allowed-stop}
+use Rattle.text_lines.proofs.Spelt.{allGood}
+use Rattle.text_lines.proofs.Steps.{OneLine, line-step, break-length, break-some, stop-length}
 use Rattle.text_lines.specs.Entries.{Entry, stands, again, entries, standing}
-use Rattle.text_lines.specs.Lines.{Marked, ifInside, inside, outside, isSep, params, seps, lines, texts, allowedUpto}
+use Rattle.text_lines.specs.Lines.{Marked, ifInside, inside, outside, isSep, params, seps, lines, texts, allowedFrom, allowedUpto}
 use Rattle.text_lines.specs.Mask.{maskOf}
-use Rattle.text_lines.specs.Places.{noSpan, spanAt, notPlain, plainRun, breakOf}
+use Rattle.text_lines.specs.Places.{noSpan, spanAt, lineRun, breakOf}
+use Rattle.text_lines.specs.Spellings.{Spelling}
 use Rattle.text_lines.specs.Spots.{LineAt, lineIf, linesFrom, linesIn, rowSpan, rowPlace, Spot, spots, placeAt, placesFrom, placesIn}
 use Rattle.text_lines.specs.declared.Break.the-variants.{After, Bad}
 use Rattle.text_lines.specs.declared.Span.{Span}
 use Rattle.value_name.specs.declared.MessageType.{MessageType}
-use Rattle.text.proofs.Cuts.{upto-take}
 use Rattle.text.proofs.Tests.{by-test, by-le, cond-le}
-use Rattle.text.specs.Bytes.{part, trim, upto}
+use Rattle.text.specs.Bytes.{part, trim}
 use Rattle.text.specs.Lists.{count, onto, sift}
 use Rattle.reader_walk.proofs.Fields.{IsNumber, Kept, seen-small, marks-are}
 use Rattle.reader_walk.proofs.Line.{frame-seps, frame-inside, first-few, second-few, Walked, walked-line}
@@ -25,9 +29,9 @@ use Rattle.reader_walk.specs.declared.Marks.{Marks}
 use Rattle.reader_walk.specs.declared.Noted.{Noted}
 use borrow.Author.Tests.{eq-eqb, ne-eqb, lt-ltb, le-ltb}
 use lib.Dec.{eqb, ltb}
-use lib.ListN.{length, getD, set, replicate, take, drop, length-drop, length-set, drop-of-length-le}
+use lib.ListN.{length, getD, set, replicate, take, drop, length-take, length-drop, length-set, drop-of-length-le}
 use lib.Seq.{drop-drop, getD-set-same, getD-set-other}
-use mathlib.Core.Bool.{Bool, false, cond}
+use mathlib.Core.Bool.{Bool, true, false, cond}
 use mathlib.Core.List.{List, [], _∷_, _++_, map, append-assoc, append-nil}
 use mathlib.Core.Option.{Option, none, some}
 use mathlib.Core.Path.{_≡_, refl, sym, ap, ap₂, _∙_}
@@ -35,13 +39,16 @@ use native.Mathlib.Omega.{arith}
 
 -- ---- one line, from at to its end, and what ends it
 
-module _ (s : List ℕ) (at end : ℕ) (h : at < length s) (e : end ≡ at + plainRun (drop at s)) where
+module _ (sp : List Spelling) (good : allGood sp ≡ true) (s : List ℕ) (at end : ℕ) (h : at < length s) (e : end ≡ at + lineRun sp (drop at s)) where
+  one-line : OneLine (drop at s) (lineRun sp (drop at s))
+  one-line = line-run sp good (drop at s)
+
   pub end-near : end ≤ length s
-  end-near = omega (arith, run-length (drop at s), length-drop at s)
+  end-near = omega (arith, one-line .inside, length-drop at s)
 
   -- the same in what is left
-  left : breakOf (drop (plainRun (drop at s)) (drop at s)) ≡ breakOf (drop end s)
-  left = ap breakOf (drop-drop (plainRun (drop at s)) at s) ∙ ap (λ (j : ℕ). breakOf (drop j s)) (sym e)
+  left : breakOf (drop (lineRun sp (drop at s)) (drop at s)) ≡ breakOf (drop end s)
+  left = ap breakOf (drop-drop (lineRun sp (drop at s)) at s) ∙ ap (λ (j : ℕ). breakOf (drop j s)) (sym e)
 
   module _ (n : ℕ) (g : After n ≡ breakOf (drop end s)) where
     pub past-near : end + n ≤ length s
@@ -57,37 +64,36 @@ module _ (s : List ℕ) (at end : ℕ) (h : at < length s) (e : end ≡ at + pla
     pub shorter : length s - (end + n) < length s - at
     shorter = omega (arith, h, forward)
 
-    rest : drop (plainRun (drop at s) + n) (drop at s) ≡ drop (end + n) s
+    rest : drop (lineRun sp (drop at s) + n) (drop at s) ≡ drop (end + n) s
     rest =
-        let sum : at + (plainRun (drop at s) + n) ≡ end + n = omega arith in
-        drop-drop (plainRun (drop at s) + n) at s ∙ ap (λ (j : ℕ). drop j s) sum
+        let sum : at + (lineRun sp (drop at s) + n) ≡ end + n = omega arith in
+        drop-drop (lineRun sp (drop at s) + n) at s ∙ ap (λ (j : ℕ). drop j s) sum
 
-    texts-step : texts (drop at s) ≡ trim (lineFrom s at) ∷ texts (drop (end + n) s)
+    some-left : 0 < length (drop at s)
+    some-left = omega (arith, length-drop at s)
+
+    texts-step : texts (drop at s) ≡ trim (lineFrom sp s at) ∷ texts (drop (end + n) s)
     texts-step =
-        let some-left : 0 < length (drop at s) = omega (arith, length-drop at s) in
-        line-step (drop at s) n some-left (left ∙ sym g)
-        ∙ ap₂ (λ (l r : List ℕ). trim l ∷ texts r) (sym (upto-take notPlain (drop at s))) rest
+        line-step (drop at s) (lineRun sp (drop at s)) n some-left one-line (left ∙ sym g)
+        ∙ ap (λ (r : List ℕ). trim (lineFrom sp s at) ∷ texts r) rest
 
     lines-next : (m : ℕ) → linesFrom m at (lines (drop at s))
-        ≡ onto (lineIf m at (lineFrom s at))
-        (linesFrom (m + cond (isSep (trim (lineFrom s at))) 1 0) (end + n) (lines (drop (end + n) s)))
+        ≡ onto (lineIf m at (lineFrom sp s at))
+        (linesFrom (m + cond (isSep (trim (lineFrom sp s at))) 1 0) (end + n) (lines (drop (end + n) s)))
     lines-next m =
-        let some-left : 0 < length (drop at s) = omega (arith, length-drop at s) in
-        let k = plainRun (drop at s) in
+        let k = lineRun sp (drop at s) in
         let next : at + (k + n) ≡ end + n = omega arith in
-        lines-turn (drop at s) n m at some-left (left ∙ sym g)
-        ∙ ap₂ (λ (l : List ℕ) (r : List ℕ). onto (lineIf m at l) (linesFrom (m + cond (isSep (trim l)) 1 0) (at + (k + n)) (lines r)))
-        (sym (upto-take notPlain (drop at s))) rest
-        ∙ ap (λ (a : ℕ). onto (lineIf m at (lineFrom s at)) (linesFrom (m + cond (isSep (trim (lineFrom s at))) 1 0) a (lines (drop (end + n) s)))) next
+        lines-turn (drop at s) k n m at some-left one-line (left ∙ sym g)
+        ∙ ap₂ (λ (r : List ℕ) (a : ℕ). onto (lineIf m at (lineFrom sp s at)) (linesFrom (m + cond (isSep (trim (lineFrom sp s at))) 1 0) a (lines r))) rest next
 
-    allowed-more : at + allowedUpto (drop at s) ≡ (end + n) + allowedUpto (drop (end + n) s)
-    allowed-more = omega (arith, allowed-step (drop at s) n (left ∙ sym g), ap allowedUpto rest)
+    allowed-more : at + allowedUpto sp (drop at s) ≡ (end + n) + allowedUpto sp (drop (end + n) s)
+    allowed-more = omega (arith, allowed-step sp good (drop at s) n (left ∙ sym g), ap (allowedUpto sp) rest)
 
 -- ---- the invariant: with `done`, the lines passed, which the code does not keep
 
 pub record Sofar (t : MessageType) (s : List ℕ) (at : ℕ) (f : Frame) (m : Marks) (spans : List Span) (o : Marks) (others : List Span) : Type 0 where
   pub near : at ≤ length s
-  pub allowed : allowedUpto s ≡ at + allowedUpto (drop at s)
+  pub allowed : allowedUpto (accentsOf t) s ≡ at + allowedUpto (accentsOf t) (drop at s)
   pub few-seps : f .seps ≤ at
   pub few-inside : f .inside ≤ at
   pub counted : f .seps + seps (texts (drop at s)) ≡ seps (texts s)
@@ -107,9 +113,9 @@ none-at zero k = refl
 none-at (suc n) zero = refl
 none-at (suc n) (suc k) = none-at n k
 
-nothing-kept : (file : List ℕ) (ls : List (List ℕ)) → Kept file ls noMarks (replicate 27 noSpan) (spots ls [])
+nothing-kept : (sp : List Spelling) (file : List ℕ) (ls : List (List ℕ)) → Kept file ls noMarks (replicate 27 noSpan) (spots sp ls [])
 unfolding again stands spots sift placeAt
-nothing-kept file ls = record { long = refl; seen = none-standing 1 ls; repeat = refl; place = λ k a b. none-at 27 k }
+nothing-kept sp file ls = record { long = refl; seen = none-standing 1 ls; repeat = refl; place = λ k a b. none-at 27 k }
 
 pub begin : (t : MessageType) (s : List ℕ) → Sofar t s 0 (frame 0 0 noSpan) noMarks (replicate 27 noSpan) noMarks (replicate 27 noSpan)
 unfolding sift linesIn rowSpan
@@ -122,7 +128,7 @@ begin t s =
       counted = omega arith;
       done = [];
       all = refl;
-      walked = record { inside = refl; row = refl; first = nothing-kept s (firstLabels t); second = nothing-kept s (secondLabels t) };
+      walked = record { inside = refl; row = refl; first = nothing-kept (accentsOf t) s (firstLabels t); second = nothing-kept (accentsOf t) s (secondLabels t) };
     }
 
 -- ---- the places, with the first set back
@@ -180,39 +186,44 @@ item-end t n at l = by-test (isSep (trim l)) (λ e. rw e) (λ e. by-test (eqb n 
 
 -- what the line reader answered is a line of the file
 module _ (t : MessageType) (s : List ℕ) (at n : ℕ) (i : Item) (it : i ≡ itemOf t s at n) where
-  pub item-is : i ≡ itemIn t n at (lineFrom s at)
+  pub item-is : i ≡ itemIn t n at (lineFrom (accentsOf t) s at)
   unfolding itemOf
   item-is = it
 
-  pub end-is : i .end ≡ at + plainRun (drop at s)
-  end-is = ap (λ (y : Item). y .end) item-is ∙ item-end t n at (lineFrom s at)
+  pub end-is : i .end ≡ at + lineRun (accentsOf t) (drop at s)
+  end-is =
+      let r = drop at s in
+      ap (λ (y : Item). y .end) item-is ∙ item-end t n at (lineFrom (accentsOf t) s at)
+      ∙ omega (arith, length-take (lineRun (accentsOf t) r) r, line-run (accentsOf t) (accents-good t) r .inside)
 
 module _ (t : MessageType) (s : List ℕ) (at : ℕ) (f : Frame) (m : Marks) (spans : List Span) (o : Marks) (others : List Span)
     (w : Sofar t s at f m spans o others) where
   pub first-small : m .seen < 67108864
-  first-small = seen-small s (firstLabels t) m spans (spots (firstLabels t) (w .done)) (w .walked .first) (first-few t)
+  first-small = seen-small s (firstLabels t) m spans (spots (accentsOf t) (firstLabels t) (w .done)) (w .walked .first) (first-few t)
 
   pub second-small : o .seen < 67108864
-  second-small = seen-small s (secondLabels t) o others (spots (secondLabels t) (w .done)) (w .walked .second) (second-few t)
+  second-small = seen-small s (secondLabels t) o others (spots (accentsOf t) (secondLabels t) (w .done)) (w .walked .second) (second-few t)
 
-  turn : (end n : ℕ) (i : Item) → at < length s → end ≡ at + plainRun (drop at s) → After n ≡ breakOf (drop end s)
-      → i ≡ itemIn t (f .seps) at (lineFrom s at)
+  turn : (end n : ℕ) (i : Item) → at < length s → end ≡ at + lineRun (accentsOf t) (drop at s) → After n ≡ breakOf (drop end s)
+      → i ≡ itemIn t (f .seps) at (lineFrom (accentsOf t) s at)
       → Sofar t s (end + n) (frameOf f (i .separator) (i .value)) (notedOf m (i .first) .marks) (set spans (notedOf m (i .first) .into) (i .value))
       (notedOf o (i .second) .marks) (set others (notedOf o (i .second) .into) (i .value))
   unfolding seps count
   turn end n i h e g it =
-      let l = lineFrom s at in
+      let sp = accentsOf t in
+      let good = accents-good t in
+      let l = lineFrom sp s at in
       let r = texts (drop (end + n) s) in
       let counts : frameOf f (i .separator) (i .value) .seps ≡ f .seps + cond (isSep (trim l)) 1 0 =
       frame-seps f (i .separator) (i .value) ∙ ap (λ (b : Bool). f .seps + cond b 1 0) (ap (λ (y : Item). y .separator) it ∙ item-separator t (f .seps) at l) in
-      let c : f .seps + (cond (isSep (trim l)) 1 0 + count isSep r) ≡ count isSep (texts s) = rw (texts-step s at end h e n g) at (w .counted) in
-      let a = ap (λ (ls : List LineAt). w .done ++ ls) (sym (lines-next s at end h e n g (f .seps))) ∙ w .all in
+      let c : f .seps + (cond (isSep (trim l)) 1 0 + count isSep r) ≡ count isSep (texts s) = rw (texts-step sp good s at end h e n g) at (w .counted) in
+      let a = ap (λ (ls : List LineAt). w .done ++ ls) (sym (lines-next sp good s at end h e n g (f .seps))) ∙ w .all in
       let one : cond (isSep (trim l)) 1 0 ≤ 1 = cond-le (isSep (trim l)) (omega arith) (omega arith) in
       record {
-        near = past-near s at end h e n g;
-        allowed = omega (arith, w .allowed, allowed-more s at end h e n g);
-        few-seps = omega (arith, w .few-seps, counts, one, forward s at end h e n g);
-        few-inside = omega (arith, w .few-inside, frame-inside f (i .separator) (i .value), forward s at end h e n g);
+        near = past-near sp good s at end h e n g;
+        allowed = omega (arith, w .allowed, allowed-more sp good s at end h e n g);
+        few-seps = omega (arith, w .few-seps, counts, one, forward sp good s at end h e n g);
+        few-inside = omega (arith, w .few-inside, frame-inside f (i .separator) (i .value), forward sp good s at end h e n g);
         counted = omega (arith, counts, c);
         done = w .done ++ onto (lineIf (f .seps) at l) [];
         all =
@@ -230,17 +241,17 @@ module _ (t : MessageType) (s : List ℕ) (at : ℕ) (f : Frame) (m : Marks) (sp
   -- ---- the two ends
 
   -- a byte that is not allowed: nothing is handed out
-  module _ (end : ℕ) (h : at < length s) (e : end ≡ at + plainRun (drop at s)) (g : Bad ≡ breakOf (drop end s)) where
-    bad : breakOf (drop (plainRun (drop at s)) (drop at s)) ≡ Bad
-    bad = left s at end h e ∙ sym g
+  module _ (end : ℕ) (h : at < length s) (e : end ≡ at + lineRun (accentsOf t) (drop at s)) (g : Bad ≡ breakOf (drop end s)) where
+    bad : breakOf (drop (lineRun (accentsOf t) (drop at s)) (drop at s)) ≡ Bad
+    bad = left (accentsOf t) (accents-good t) s at end h e ∙ sym g
 
     pub stop-less : end < length s
-    stop-less = omega (arith, stop-length (drop at s) bad, length-drop at s)
+    stop-less = omega (arith, stop-length (drop at s) (lineRun (accentsOf t) (drop at s)) bad, length-drop at s)
 
     pub stop : (n : ℕ) {r : Found} → n ≡ end → r ≡ handedOf (ltb n (length s)) n f m spans o others → r ≡ foundOf t s
     unfolding foundOf
     stop n n-is r-is =
-        let here : allowedUpto s ≡ end = omega (arith, w .allowed, allowed-stop (drop at s) bad) in
+        let here : allowedUpto (accentsOf t) s ≡ end = omega (arith, w .allowed, allowed-stop (accentsOf t) (accents-good t) (drop at s) bad) in
         r-is ∙ rw (n-is, lt-ltb end (length s) stop-less, here, ne-eqb end (length s) (λ z. omega (arith, z, stop-less)))
 
   -- the file's end
@@ -249,15 +260,18 @@ module _ (t : MessageType) (s : List ℕ) (at : ℕ) (f : Frame) (m : Marks) (sp
     unfolding lines linesFrom
     done-all = let a : w .done ++ [] ≡ linesIn s = rw (drop-of-length-le s over) at (w .all) in sym (append-nil (w .done)) ∙ a
 
-    places-are : (ls : List (List ℕ)) (n : Marks) (ps : List Span) → Kept s ls n ps (spots ls (w .done)) → set ps 0 noSpan ≡ placesIn ls s
-    unfolding placesIn
-    places-are ls n ps k = set-back s ls n ps (spots ls (w .done)) k ∙ ap (λ (ss : List LineAt). noSpan ∷ placesFrom 26 1 (spots ls ss)) done-all
+    abbrev sp : List Spelling
+    sp = accentsOf t
 
-    marks-of : (ls : List (List ℕ)) (n : Marks) (ps : List Span) → Kept s ls n ps (spots ls (w .done))
-        → n ≡ marksOf ls (entries ls (params (outside (texts s))))
+    places-are : (ls : List (List ℕ)) (n : Marks) (ps : List Span) → Kept s ls n ps (spots sp ls (w .done)) → set ps 0 noSpan ≡ placesIn sp ls s
+    unfolding placesIn
+    places-are ls n ps k = set-back s ls n ps (spots sp ls (w .done)) k ∙ ap (λ (ss : List LineAt). noSpan ∷ placesFrom 26 1 (spots sp ls ss)) done-all
+
+    marks-of : (ls : List (List ℕ)) (n : Marks) (ps : List Span) → Kept s ls n ps (spots sp ls (w .done))
+        → n ≡ marksOf ls (entries ls (params sp (outside (texts s))))
     marks-of ls n ps k =
-        marks-are s ls n ps (spots ls (w .done)) k
-        ∙ ap (marksOf ls) (ap (λ (ss : List LineAt). entriesAt s (spots ls ss)) done-all ∙ file-entries s ls)
+        marks-are s ls n ps (spots sp ls (w .done)) k
+        ∙ ap (marksOf ls) (ap (λ (ss : List LineAt). entriesAt s (spots sp ls ss)) done-all ∙ file-entries sp s ls)
 
     frame-is : f ≡ frameIn s
     unfolding seps count texts lines inside rowPlace
@@ -272,9 +286,9 @@ module _ (t : MessageType) (s : List ℕ) (at : ℕ) (f : Frame) (m : Marks) (sp
         framed : {a b : ℕ} {p : Span} → f .seps ≡ a → f .inside ≡ b → f .row ≡ p → f ≡ frame a b p
         framed a b p = rw (sym a, sym b, sym p)
 
-    clean : allowedUpto s ≡ length s
-    unfolding allowedUpto
-    clean = let b : allowedUpto s ≡ at + 0 = rw (drop-of-length-le s over) at (w .allowed) in omega (arith, w .near)
+    clean : allowedUpto sp s ≡ length s
+    unfolding allowedUpto allowedFrom
+    clean = let b : allowedUpto sp s ≡ at + 0 = rw (drop-of-length-le s over) at (w .allowed) in omega (arith, w .near)
 
     whole : handedOf false at f m spans o others ≡ wholeOf t s
     whole =
@@ -290,4 +304,4 @@ module _ (t : MessageType) (s : List ℕ) (at : ℕ) (f : Frame) (m : Marks) (sp
 
     pub finish : (n : ℕ) {r : Found} → n ≡ at → r ≡ handedOf (ltb n (length s)) n f m spans o others → r ≡ foundOf t s
     unfolding foundOf
-    finish n n-is r-is = r-is ∙ rw (n-is, le-ltb at (length s) over, eq-eqb (allowedUpto s) (length s) clean) whole
+    finish n n-is r-is = r-is ∙ rw (n-is, le-ltb at (length s) over, eq-eqb (allowedUpto sp s) (length s) clean) whole

@@ -1,10 +1,12 @@
 -- What the walk does with one line more, and what it finds in a file. Document 02, A3: one walk, which keeps for each label where its value begins and ends.
 use Prim.Native.Nat.{ℕ, _+_, _-_, _^_, _/_, _%_}
+use Rattle.reader_accent.specs.Accents.{accentsOf}
 use Rattle.reader_line.specs.Items.{firstLabels, secondLabels}
 use Rattle.text_lines.specs.Entries.{Entry, again, entries, standing}
 use Rattle.text_lines.specs.Lines.{inside, outside, params, seps, texts, allowedUpto}
 use Rattle.text_lines.specs.Mask.{maskOf}
 use Rattle.text_lines.specs.Places.{noSpan}
+use Rattle.text_lines.specs.Spellings.{Spelling}
 use Rattle.text_lines.specs.Spots.{rowPlace, placesIn}
 use Rattle.text_lines.specs.declared.Span.{Span}
 use Rattle.value_name.specs.declared.MessageType.{MessageType}
@@ -53,8 +55,8 @@ orZero (some k) = k
 unfoldable pub marksOf : List (List ℕ) → List Entry → Marks
 marksOf ls es = record { seen = maskOf (standing 1 ls es); again = orZero (again [] es) }
 
-abbrev pub marksIn : List (List ℕ) → List ℕ → Marks
-marksIn ls file = marksOf ls (entries ls (params (outside (texts file))))
+abbrev pub marksIn : List Spelling → List (List ℕ) → List ℕ → Marks
+marksIn sp ls file = marksOf ls (entries ls (params sp (outside (texts file))))
 
 -- how many separators, how many lines between the first and the next, and where the row stands
 abbrev pub frameIn : List ℕ → Frame
@@ -66,10 +68,10 @@ wholeOf t file =
     record {
       stop = length file;
       frame = frameIn file;
-      first = marksIn (firstLabels t) file;
-      places = placesIn (firstLabels t) file;
-      second = marksIn (secondLabels t) file;
-      others = placesIn (secondLabels t) file;
+      first = marksIn (accentsOf t) (firstLabels t) file;
+      places = placesIn (accentsOf t) (firstLabels t) file;
+      second = marksIn (accentsOf t) (secondLabels t) file;
+      others = placesIn (accentsOf t) (secondLabels t) file;
     }
 
 -- in any other: where the first byte stands that is not allowed, and nothing of its lines
@@ -94,4 +96,5 @@ handedOf false n f a ps b os = record { stop = n; frame = f; first = a; places =
 
 -- THE DEFINITION
 unfoldable pub foundOf : MessageType → List ℕ → Found
-foundOf t file = cond (eqb (allowedUpto file) (length file)) (wholeOf t file) (stoppedAt (allowedUpto file))
+foundOf t file =
+    cond (eqb (allowedUpto (accentsOf t) file) (length file)) (wholeOf t file) (stoppedAt (allowedUpto (accentsOf t) file))

@@ -78,9 +78,11 @@ line-end-requires : tie.Need-line-end-requires
 line-end-requires c κs =
     let run = other c in
     let head = run .before .before in
-    let z = start head in
-    (z .pre .0, run-there (z .args .t) (z .args .s .now) (z .args .at) (z .args .seps) _ (head .before .before .expect .ensures) _ _ (z .pre .0)
-    (head .expected-head .ensures) (run .plain-run .ensures) (c .if1 .left))
+    let z = start head in (
+      z .pre .0,
+      run-there (z .args .t) (z .args .s .now) (z .args .at) (z .args .seps) _ (head .before .before .expect .ensures) _ _ (z .pre .0)
+          (head .expected-head .ensures) (run .plain-run .ensures) (c .if1 .left),
+    )
 
 end-here : (c : tie.After-line-end) → c .line-end .result ≤ length (start (other (c .before) .before .before) .args .s .now)
 end-here c =
