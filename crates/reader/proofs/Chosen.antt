@@ -2,7 +2,7 @@
 use Prim.Native.Nat.{ℕ, _≤_}
 use Rattle.reader_line.specs.Items.{secondLabels}
 use Rattle.layout.specs.Fields.{mfrr}
-use Rattle.layout.specs.Layouts.{fieldsOf, labelsOf, layoutOf}
+use Rattle.layout.specs.Layouts.{fieldsOf, labelsOf, layoutOf, typeOf}
 use Rattle.layout.specs.declared.Layout.the-variants.{Mfrr}
 use Rattle.text_lines.proofs.Standing.{place-at}
 use Rattle.text_lines.specs.Entries.{entryOf, entries, placeOf, stands}
@@ -65,14 +65,14 @@ false-true : false ≡ true → ⊥
 false-true e = let z : _≡_ {A = ℕ} 0 1 = cc in omega arith
 
 module _ (file : List ℕ) (m : Marks) (spans : List Span) where
-  tipo-bit : Fields file (labelsOf Mfrr) m spans (entries (labelsOf Mfrr) (given file)) → any isKindOfCommand (given file) ≡ isMfrr Cb (m .seen)
+  tipo-bit : Fields file (labelsOf Mfrr) m spans (entries (labelsOf Mfrr) (given Cb file)) → any isKindOfCommand (given Cb file) ≡ isMfrr Cb (m .seen)
   tipo-bit f =
       let h : 8 ≤ length (labelsOf Mfrr) = omega (arith, mfrr-size) in
       let one : 1 ≤ 8 = omega arith in
-      tipo-stands (given file) ∙ sym (has-by (labelsOf Mfrr) (entries (labelsOf Mfrr) (given file)) 8 (m .seen) (f .seen) one h)
+      tipo-stands (given Cb file) ∙ sym (has-by (labelsOf Mfrr) (entries (labelsOf Mfrr) (given Cb file)) 8 (m .seen) (f .seen) one h)
 
-  pub is-mfrr : (t : MessageType) → Fields file (secondLabels t) m spans (entries (secondLabels t) (given file)) → isMfrr t (m .seen) ≡ true
-      → (t ≡ Cb) × (layoutIn t (given file) ≡ Mfrr)
+  pub is-mfrr : (t : MessageType) → Fields file (secondLabels t) m spans (entries (secondLabels t) (given t file)) → isMfrr t (m .seen) ≡ true
+      → (t ≡ Cb) × (layoutIn t (given t file) ≡ Mfrr)
   unfolding layoutIn
   is-mfrr Cb f e = (refl, rw (tipo-bit f ∙ e))
   is-mfrr Rc f e = absurd (false-true e)
@@ -84,8 +84,8 @@ module _ (file : List ℕ) (m : Marks) (spans : List Span) where
   is-mfrr Ri f e = absurd (false-true e)
   is-mfrr Qr f e = absurd (false-true e)
 
-  pub not-mfrr : (t : MessageType) → Fields file (secondLabels t) m spans (entries (secondLabels t) (given file)) → isMfrr t (m .seen) ≡ false
-      → layoutIn t (given file) ≡ layoutOf t
+  pub not-mfrr : (t : MessageType) → Fields file (secondLabels t) m spans (entries (secondLabels t) (given t file)) → isMfrr t (m .seen) ≡ false
+      → layoutIn t (given t file) ≡ layoutOf t
   unfolding layoutIn
   not-mfrr Cb f e = rw (tipo-bit f ∙ e)
   not-mfrr Rc f e = refl
@@ -96,3 +96,17 @@ module _ (file : List ℕ) (m : Marks) (spans : List Span) where
   not-mfrr Vq f e = refl
   not-mfrr Ri f e = refl
   not-mfrr Qr f e = refl
+
+-- ---- the layout of a file is one of its type
+
+pub type-in : (t : MessageType) (ps : List Param) → typeOf (layoutIn t ps) ≡ t
+unfolding layoutIn
+type-in Cb ps = by-test (any isKindOfCommand ps) (λ e. rw e) (λ e. rw e)
+type-in Rc ps = refl
+type-in Mg ps = refl
+type-in Eb ps = refl
+type-in Lb ps = refl
+type-in Sr ps = refl
+type-in Vq ps = refl
+type-in Ri ps = refl
+type-in Qr ps = refl

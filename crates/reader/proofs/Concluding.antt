@@ -1,14 +1,13 @@
 -- What was read leads to the answer: from the places to the reading, and from the reading to a refusal or the record. Assumes nothing.
 use Prim.Native.Nat.{ℕ}
 use Rattle.reader_fill.specs.Filled.{recordWith}
-use Rattle.layout.specs.Layouts.{labelsOf}
 use Rattle.layout.specs.declared.Layout.{Layout}
 use Rattle.text_lines.specs.Places.{partOf}
-use Rattle.text_lines.specs.Spots.{rowPlace, placesIn}
+use Rattle.text_lines.specs.Spots.{rowPlace}
 use Rattle.text_lines.specs.declared.Span.{Span}
 use Rattle.value.specs.declared.Value.the-variants.{Blank}
 use Rattle.value_list.specs.Forms.{noTriple}
-use Rattle.reader.specs.Messages.{columnRecord}
+use Rattle.reader.specs.Messages.{columnRecord, placesOf}
 use Rattle.reader.specs.Reader.{valued, readOf}
 use Rattle.reader.specs.Readings.{unread, readingIn, readingOf}
 use Rattle.reader.specs.Refusals.{refused, accepted, answer}
@@ -57,7 +56,7 @@ unfolding readingIn
 refused-in n d file z = rw (ne-eqb n 0 z)
 
 accepted-in : (r : Record) (file : List ℕ)
-    → record { number = 0; detail = 0; layout = r .layout; row = rowPlace file; cells = r .cells; gradients = r .gradients; places = placesIn (labelsOf (r .layout)) file }
+    → record { number = 0; detail = 0; layout = r .layout; row = rowPlace file; cells = r .cells; gradients = r .gradients; places = placesOf (r .layout) file }
     ≡ readingIn (accepted r) file
 unfolding readingIn
 accepted-in r file = refl
@@ -72,7 +71,7 @@ module _ (c i : ℕ) (plan file : List ℕ) where
   refused-reading n d x-is z e = x-is ∙ refused-in n d file z ∙ ap (λ (a : Answer). readingIn a file) e
 
   pub accepted-reading : (x : Reading) → x .number ≡ 0 → x .detail ≡ 0 → concluded file x ≡ readOf c i plan file → x .row ≡ rowPlace file
-      → x .places ≡ placesIn (labelsOf (x .layout)) file → x ≡ readingOf c i plan file
+      → x .places ≡ placesOf (x .layout) file → x ≡ readingOf c i plan file
   unfolding readingOf recordWith
   accepted-reading x z d e row places =
       made x z d row places
@@ -111,4 +110,4 @@ module _ (c i : ℕ) (plan file : List ℕ) (x : Located) (h : Locates c i plan 
   values-read z unit u y v n d =
       let k = h .exact z in
       accepted-reading c i plan file y n d (values-led z unit u y v) (v .row-is ∙ k .1)
-      (v .places-are ∙ k .2 ∙ ap (λ (l : Layout). placesIn (labelsOf l) file) (sym (v .layout-is)))
+      (v .places-are ∙ k .2 ∙ ap (λ (l : Layout). placesOf l file) (sym (v .layout-is)))

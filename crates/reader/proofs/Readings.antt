@@ -2,7 +2,7 @@
 -- Assumes nothing.
 use Prim.Native.Nat.{ℕ}
 use Rattle.layout.proofs.Labels.{few, labels-length}
-use Rattle.layout.specs.Layouts.{labelsOf, sizeOf, layoutOf}
+use Rattle.layout.specs.Layouts.{labelsOf, sizeOf, typeOf}
 use Rattle.layout.specs.declared.Layout.{Layout}
 use Rattle.plan.specs.Plans.{planOf, soughtOf}
 use Rattle.reader_fill.specs.Filled.{recordWith}
@@ -10,10 +10,13 @@ use Rattle.reader_walk.proofs.Told.{Fields, fields-in, placed-by, column-by}
 use Rattle.reader_walk.specs.State.{marksIn}
 use Rattle.text_lines.specs.Entries.{entries, column}
 use Rattle.text_lines.specs.Places.{Placed, columnIn}
-use Rattle.text_lines.specs.Spots.{rowPlace, placesIn}
+use Rattle.text_lines.specs.Spots.{rowPlace}
+use Rattle.value_name.specs.declared.MessageType.{MessageType}
+use Rattle.reader_accent.specs.Accents.{accentsOf}
+use Rattle.reader.proofs.Chosen.{type-in}
 use Rattle.reader.proofs.Concluding.{concluded-no, concluded-yes}
 use Rattle.reader.proofs.Firsts.{given-first, none-given, accepted-none, numbers}
-use Rattle.reader.specs.Messages.{given, layoutIn, entriesIn, columnRecord}
+use Rattle.reader.specs.Messages.{given, layoutIn, entriesIn, placesOf, columnRecord}
 use Rattle.reader.specs.Reader.{planned, bodyColumn, recordIn, answerAt, readOf}
 use Rattle.reader.specs.Readings.{unread, readingIn, readingOf}
 use Rattle.reader.specs.Refusals.{refused, accepted}
@@ -32,16 +35,17 @@ use native.Mathlib.Omega.{arith}
 -- ---- a layout's places in a file
 
 module _ (l : Layout) (file : List ℕ) where
-  pub layout-fields : Fields file (labelsOf l) (marksIn (labelsOf l) file) (placesIn (labelsOf l) file) (entries (labelsOf l) (given file))
+  pub layout-fields : Fields file (labelsOf l) (marksIn (accentsOf (typeOf l)) (labelsOf l) file) (placesOf l file)
+      (entries (labelsOf l) (given (typeOf l) file))
   unfolding given
-  layout-fields = fields-in file (labelsOf l) (omega (arith, few l, labels-length l))
+  layout-fields = fields-in (accentsOf (typeOf l)) file (labelsOf l) (omega (arith, few l, labels-length l))
 
-  pub places-placed : Placed (sizeOf l) file (placesIn (labelsOf l) file)
-  places-placed = subst (λ (n : ℕ). Placed n file (placesIn (labelsOf l) file)) (labels-length l) (placed-by file (labelsOf l) _ _ _ layout-fields)
+  pub places-placed : Placed (sizeOf l) file (placesOf l file)
+  places-placed = subst (λ (n : ℕ). Placed n file (placesOf l file)) (labels-length l) (placed-by file (labelsOf l) _ _ _ layout-fields)
 
-  pub places-column : columnAt l file (placesIn (labelsOf l) file) ≡ column 1 (labelsOf l) (entries (labelsOf l) (given file))
+  pub places-column : columnAt l file (placesOf l file) ≡ column 1 (labelsOf l) (entries (labelsOf l) (given (typeOf l) file))
   places-column =
-      ap (λ (n : ℕ). columnIn n file (placesIn (labelsOf l) file)) (sym (labels-length l))
+      ap (λ (n : ℕ). columnIn n file (placesOf l file)) (sym (labels-length l))
       ∙ column-by file (labelsOf l) _ _ _ layout-fields (omega (arith, few l, labels-length l))
 
 -- ---- the two sorts of readings
@@ -49,7 +53,7 @@ module _ (l : Layout) (file : List ℕ) where
 -- of a record: its places, its values and its triples
 abbrev pub taken : Record → List ℕ → Reading
 taken r file =
-    record { number = 0; detail = 0; layout = r .layout; row = rowPlace file; cells = r .cells; gradients = r .gradients; places = placesIn (labelsOf (r .layout)) file }
+    record { number = 0; detail = 0; layout = r .layout; row = rowPlace file; cells = r .cells; gradients = r .gradients; places = placesOf (r .layout) file }
 
 in-refused : (a : Answer) (file : List ℕ) → (a .number ≡ 0 → ⊥) → readingIn a file ≡ unread (a .number) (a .detail)
 unfolding readingIn
@@ -90,8 +94,11 @@ module _ (c i : ℕ) (plan file : List ℕ) where
     unfolding readingOf
     reading-yes = in-accepted a file z
 
+    abbrev t : MessageType
+    t = soughtOf c i (planOf plan) .message
+
     abbrev l : Layout
-    l = layoutIn (soughtOf c i (planOf plan) .message) (given file)
+    l = layoutIn t (given t file)
 
     abbrev col : List (List ℕ)
     col = bodyColumn (soughtOf c i (planOf plan) .message) file
@@ -108,12 +115,13 @@ module _ (c i : ℕ) (plan file : List ℕ) where
     pub layout-is : a .content .layout ≡ l
     layout-is = ap (λ (r : Record). r .layout) content-is ∙ record-layout l col
 
-    pub column-is : columnAt (a .content .layout) file (placesIn (labelsOf (a .content .layout)) file) ≡ col
+    pub column-is : columnAt (a .content .layout) file (placesOf (a .content .layout) file) ≡ col
     unfolding entriesIn
-    column-is = ap (λ (k : Layout). columnAt k file (placesIn (labelsOf k) file)) layout-is ∙ places-column l file
+    column-is = ap (λ (k : Layout). columnAt k file (placesOf k file)) layout-is ∙ places-column l file
+        ∙ ap (λ (u : MessageType). column 1 (labelsOf l) (entries (labelsOf l) (given u file))) (type-in t (given t file))
 
     -- and its record is that of its values
-    pub record-is : recordWith (a .content .layout) (columnAt (a .content .layout) file (placesIn (labelsOf (a .content .layout)) file)) (a .content .cells) (a .content .gradients)
+    pub record-is : recordWith (a .content .layout) (columnAt (a .content .layout) file (placesOf (a .content .layout) file)) (a .content .cells) (a .content .gradients)
         ≡ a .content
     record-is = rw (column-is, layout-is, content-is) (record-back l col)
 

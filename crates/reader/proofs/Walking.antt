@@ -1,20 +1,21 @@
 -- Refusals 2 to 4 as the code meets them, and what a layout's fields lead to. Assumes nothing.
 use Prim.Native.Nat.{ℕ, _≤_, _<_}
 use Rattle.reader_line.specs.Items.{firstLabels, secondLabels}
-use Rattle.layout.specs.Layouts.{labelsOf, sizeOf, layoutOf}
+use Rattle.layout.specs.Layouts.{labelsOf, sizeOf, layoutOf, typeOf}
 use Rattle.layout.specs.declared.Layout.{Layout}
 use Rattle.layout.specs.declared.Layout.the-variants.{Mfrr}
-use Rattle.text_lines.proofs.Steps.{allowed-length}
+use Rattle.reader_accent.specs.Accents.{accentsOf}
+use Rattle.text_lines.proofs.Allowed.{allowed-length}
 use Rattle.text_lines.specs.Entries.{entries, column}
 use Rattle.text_lines.specs.Lines.{texts, framed, allowedUpto}
 use Rattle.text_lines.specs.Places.{HoldsText}
 use Rattle.text_lines.specs.Spots.{rowPlace, placesIn}
 use Rattle.text_lines.specs.declared.Span.{Span}
 use Rattle.value_name.specs.declared.MessageType.{MessageType}
-use Rattle.reader.proofs.Chosen.{is-mfrr, not-mfrr}
+use Rattle.reader.proofs.Chosen.{is-mfrr, not-mfrr, type-in}
 use Rattle.reader.proofs.Firsts.{answer-yes, answer-no}
 use Rattle.reader.proofs.Placing.{Onward, seen-few, placed-onward}
-use Rattle.reader.specs.Messages.{given, rowIn, layoutIn, entriesIn, columnRecord}
+use Rattle.reader.specs.Messages.{given, rowIn, layoutIn, entriesIn, placesOf, columnRecord}
 use Rattle.reader.specs.Reader.{labelled, reading, recordIn, messageOf}
 use Rattle.reader.specs.Refusals.{refused, answer}
 use Rattle.reader.specs.State.{nowhere, placedAs, continued, Walks, isMfrr}
@@ -63,16 +64,16 @@ module _ (t : MessageType) (file : List ℕ) where
       pub bad-byte : r .stop < length file → Walks t file (nowhere 3 (r .stop))
       unfolding messageOf reading
       bad-byte h =
-          let g : allowedUpto file < length file = omega (arith, h, stop-by t file r w) in
+          let g : allowedUpto (accentsOf t) file < length file = omega (arith, h, stop-by t file r w) in
           refusal-walks 3 (r .stop) (λ z. omega (arith, z))
-          (λ unit. ap (refused 3) (stop-by t file r w) ∙ sym (answer-no 2 _ _ _ _ sized ∙ answer-yes 3 _ _ _ _ (lt-ltb (allowedUpto file) (length file) g)))
+          (λ unit. ap (refused 3) (stop-by t file r w) ∙ sym (answer-no 2 _ _ _ _ sized ∙ answer-yes 3 _ _ _ _ (lt-ltb (allowedUpto (accentsOf t) file) (length file) g)))
 
       module _ (whole : length file ≤ r .stop) where
-        clean : allowedUpto file ≡ length file
-        clean = omega (arith, whole, stop-by t file r w, allowed-length file)
+        clean : allowedUpto (accentsOf t) file ≡ length file
+        clean = omega (arith, whole, stop-by t file r w, allowed-length (accentsOf t) file)
 
-        no-bad : ltb (allowedUpto file) (length file) ≡ false
-        no-bad = let g : length file ≤ allowedUpto file = omega (arith, clean) in le-ltb (allowedUpto file) (length file) g
+        no-bad : ltb (allowedUpto (accentsOf t) file) (length file) ≡ false
+        no-bad = let g : length file ≤ allowedUpto (accentsOf t) file = omega (arith, clean) in le-ltb (allowedUpto (accentsOf t) file) (length file) g
 
         unframed : not (framed (texts file)) ≡ true → Walks t file (nowhere 4 (r .frame .seps))
         unfolding messageOf reading
@@ -102,28 +103,29 @@ module _ (t : MessageType) (file : List ℕ) where
           row-holds = row-by t file r w clean framed-yes
 
           -- where a layout is the file's, what its fields lead to is what the file leads to
-          laid : (l : Layout) → layoutIn t (given file) ≡ l → (places : List Span) → places ≡ placesIn (labelsOf l) file → (x : Located)
-              → Onward l file (r .frame .row) places (entries (labelsOf l) (given file)) x → Walks t file x
+          laid : (l : Layout) → layoutIn t (given t file) ≡ l → (places : List Span) → places ≡ placesIn (accentsOf t) (labelsOf l) file → (x : Located)
+              → Onward l file (r .frame .row) places (entries (labelsOf l) (given t file)) x → Walks t file x
           unfolding messageOf reading recordIn entriesIn
           laid l e places p x h =
               record {
                 stands = h .stands;
                 exact = λ z.
                     let k = h .kept z in
-                    (k .0, k .2 ∙ row-exact, k .3 ∙ p ∙ ap (λ (j : Layout). placesIn (labelsOf j) file) (sym (k .1)));
+                    let own = ap (λ (u : MessageType). placesIn (accentsOf u) (labelsOf l) file) (sym (ap typeOf (sym e) ∙ type-in t (given t file))) in
+                    (k .0, k .2 ∙ row-exact, k .3 ∙ p ∙ own ∙ ap (λ (j : Layout). placesOf j file) (sym (k .1)));
                 cleared = h .cleared;
                 answers = λ unit.
                     h .answers unit
-                    ∙ ap (λ (x : List ℕ). answer (labelled l unit x (entries (labelsOf l) (given file))) (columnRecord l (column 1 (labelsOf l) (entries (labelsOf l) (given file))))) (row-holds .holds)
-                    ∙ ap (λ (k : Layout). answer (labelled k unit (rowIn file) (entries (labelsOf k) (given file))) (columnRecord k (column 1 (labelsOf k) (entries (labelsOf k) (given file))))) (sym e)
+                    ∙ ap (λ (x : List ℕ). answer (labelled l unit x (entries (labelsOf l) (given t file))) (columnRecord l (column 1 (labelsOf l) (entries (labelsOf l) (given t file))))) (row-holds .holds)
+                    ∙ ap (λ (k : Layout). answer (labelled k unit (rowIn file) (entries (labelsOf k) (given t file))) (columnRecord k (column 1 (labelsOf k) (entries (labelsOf k) (given t file))))) (sym e)
                     ∙ sym (answer-no 2 _ _ _ _ sized ∙ answer-no 3 _ _ _ _ no-bad ∙ answer-no 4 _ _ _ _ (ap not framed-yes));
               }
 
-          firsts : Fields file (firstLabels t) (r .first) (r .places) (entries (firstLabels t) (given file))
+          firsts : Fields file (firstLabels t) (r .first) (r .places) (entries (firstLabels t) (given t file))
           unfolding given
           firsts = first-by t file r w clean
 
-          seconds : Fields file (secondLabels t) (r .second) (r .others) (entries (secondLabels t) (given file))
+          seconds : Fields file (secondLabels t) (r .second) (r .others) (entries (secondLabels t) (given t file))
           unfolding given
           seconds = second-by t file r w clean
 
@@ -132,15 +134,15 @@ module _ (t : MessageType) (file : List ℕ) where
             is : isMfrr t (r .second .seen) ≡ true
             is = sym told ∙ yes
 
-            mfrr-fields : Fields file (labelsOf Mfrr) (r .second) (r .others) (entries (labelsOf Mfrr) (given file))
+            mfrr-fields : Fields file (labelsOf Mfrr) (r .second) (r .others) (entries (labelsOf Mfrr) (given t file))
             mfrr-fields =
-                subst (λ (u : MessageType). Fields file (secondLabels u) (r .second) (r .others) (entries (secondLabels u) (given file)))
+                subst (λ (u : MessageType). Fields file (secondLabels u) (r .second) (r .others) (entries (secondLabels u) (given t file)))
                 (is-mfrr file (r .second) (r .others) t seconds is .0) seconds
 
-            mfrr-places : r .others ≡ placesIn (labelsOf Mfrr) file
+            mfrr-places : r .others ≡ placesIn (accentsOf t) (labelsOf Mfrr) file
             mfrr-places =
                 ap (λ (y : Found). y .others) (whole-by t file r w clean)
-                ∙ ap (λ (u : MessageType). placesIn (secondLabels u) file) (is-mfrr file (r .second) (r .others) t seconds is .0)
+                ∙ ap (λ (u : MessageType). placesIn (accentsOf t) (secondLabels u) file) (is-mfrr file (r .second) (r .others) t seconds is .0)
 
             pub mfrr-few : ones (r .second .seen) ≤ sizeOf Mfrr
             mfrr-few = seen-few Mfrr file (r .second) (r .others) _ mfrr-fields
@@ -152,12 +154,12 @@ module _ (t : MessageType) (file : List ℕ) where
 
           -- the type's layout
           module _ (l : Layout) (is-first : l ≡ layoutOf t) where
-            first-fields : Fields file (labelsOf l) (r .first) (r .places) (entries (labelsOf l) (given file))
-            first-fields = subst (λ (k : Layout). Fields file (labelsOf k) (r .first) (r .places) (entries (labelsOf k) (given file))) (sym is-first) firsts
+            first-fields : Fields file (labelsOf l) (r .first) (r .places) (entries (labelsOf l) (given t file))
+            first-fields = subst (λ (k : Layout). Fields file (labelsOf k) (r .first) (r .places) (entries (labelsOf k) (given t file))) (sym is-first) firsts
 
-            first-places : r .places ≡ placesIn (labelsOf l) file
+            first-places : r .places ≡ placesIn (accentsOf t) (labelsOf l) file
             first-places =
-                ap (λ (y : Found). y .places) (whole-by t file r w clean) ∙ ap (λ (k : Layout). placesIn (labelsOf k) file) (sym is-first)
+                ap (λ (y : Found). y .places) (whole-by t file r w clean) ∙ ap (λ (k : Layout). placesIn (accentsOf t) (labelsOf k) file) (sym is-first)
 
             pub first-few : ones (r .first .seen) ≤ sizeOf l
             first-few = seen-few l file (r .first) (r .places) _ first-fields

@@ -1,10 +1,13 @@
 -- What a file says as a message of a type: its parameter lines, its row, its layout and its column of values. Document 01, "Lines of a message".
 use Prim.Native.Nat.{ℕ}
-use Rattle.layout.specs.Layouts.{labelsOf, kindsOf}
+use Rattle.layout.specs.Layouts.{labelsOf, kindsOf, typeOf}
 use Rattle.layout.specs.declared.Layout.{Layout}
 use Rattle.layout.specs.declared.Layout.the-variants.{Market, Mfrr, Revocation, Generic, Exclusion, Limitation, Secondary, VoltVar, Rejection, Reserve}
+use Rattle.reader_accent.specs.Accents.{accentsOf}
 use Rattle.text_lines.specs.Entries.{Entry, entries}
 use Rattle.text_lines.specs.Lines.{Param, params, outside, inside, texts}
+use Rattle.text_lines.specs.Spots.{placesIn}
+use Rattle.text_lines.specs.declared.Span.{Span}
 use Rattle.value_name.specs.declared.MessageType.{MessageType}
 use Rattle.value_name.specs.declared.MessageType.the-variants.{Cb, Rc, Mg, Eb, Lb, Sr, Vq, Ri, Qr}
 use Rattle.record.specs.Records.{Typed, typed, recordOf}
@@ -18,9 +21,9 @@ use mathlib.Core.List.{List, []}
 
 -- ---- lines
 
--- the parameters of a file, label and value, in the order of its lines
-unfoldable pub given : List ℕ → List Param
-given file = params (outside (texts file))
+-- the parameters of a file of a type, label and value, in the order of its lines; a label with an accent by its plain spelling
+unfoldable pub given : MessageType → List ℕ → List Param
+given t file = params (accentsOf t) (outside (texts file))
 
 -- the line between the separators
 unfoldable pub rowIn : List ℕ → List ℕ
@@ -45,7 +48,11 @@ layoutIn Qr ps = Reserve
 -- ---- entries of the layout
 
 unfoldable pub entriesIn : MessageType → List ℕ → List Entry
-entriesIn t file = entries (labelsOf (layoutIn t (given file))) (given file)
+entriesIn t file = entries (labelsOf (layoutIn t (given t file))) (given t file)
+
+-- where the values of a layout's fields stand
+abbrev pub placesOf : Layout → List ℕ → List Span
+placesOf l file = placesIn (accentsOf (typeOf l)) (labelsOf l) file
 
 -- ---- the column read by its kinds, and the record of it
 

@@ -4,6 +4,7 @@ use Rattle.layout.specs.FieldNumbers.{unitNo}
 use Rattle.layout.specs.Layouts.{labelsOf}
 use Rattle.layout.specs.Rows.{textAt, rowOf}
 use Rattle.layout.specs.declared.Layout.{Layout}
+use Rattle.reader_accent.specs.Accents.{accentsOf}
 use Rattle.text_lines.specs.Entries.{Entry, again, missing, column}
 use Rattle.text_lines.specs.Lines.{texts, seps, framed, allowedUpto}
 use Rattle.value_name.specs.declared.MessageType.{MessageType}
@@ -53,21 +54,21 @@ labelled l unit row es =
 
 -- ---- 2 to 4, on the file
 
--- 2 file size; 3 byte not allowed, its offset; 4 separators, how many separator lines
+-- 2 file size; 3 byte not allowed, its offset, where the type says which labels may have an accent; 4 separators, how many separator lines
 unfoldable pub reading : MessageType → List ℕ → List ℕ → List Refusal
 reading t unit file =
     refusal 2 0 (not (within 1 8192 (length file)))
-    ∷ refusal 3 (allowedUpto file) (ltb (allowedUpto file) (length file))
+    ∷ refusal 3 (allowedUpto (accentsOf t) file) (ltb (allowedUpto (accentsOf t) file) (length file))
     ∷ refusal 4 (seps (texts file)) (not (framed (texts file)))
-    ∷ labelled (layoutIn t (given file)) unit (rowIn file) (entriesIn t file)
+    ∷ labelled (layoutIn t (given t file)) unit (rowIn file) (entriesIn t file)
 
 -- the column of the body's values
 abbrev pub bodyColumn : MessageType → List ℕ → List (List ℕ)
-bodyColumn t file = column 1 (labelsOf (layoutIn t (given file))) (entriesIn t file)
+bodyColumn t file = column 1 (labelsOf (layoutIn t (given t file))) (entriesIn t file)
 
 -- the record of a file
 unfoldable pub recordIn : MessageType → List ℕ → Record
-recordIn t file = columnRecord (layoutIn t (given file)) (bodyColumn t file)
+recordIn t file = columnRecord (layoutIn t (given t file)) (bodyColumn t file)
 
 -- a file read as a message of a type for a unit
 unfoldable pub messageOf : MessageType → List ℕ → List ℕ → Answer
@@ -76,16 +77,16 @@ messageOf t unit file = answer (reading t unit file) (recordIn t file)
 -- ---- files that no refusal of 2 to 4 meets
 
 -- of an allowed size, and of allowed bytes
-pub record Clean (file : List ℕ) : Type 0 where
+pub record Clean (t : MessageType) (file : List ℕ) : Type 0 where
   pub some-bytes : 1 ≤ length file
   pub not-long : length file ≤ 8192
-  pub clean : allowedUpto file ≡ length file
+  pub clean : allowedUpto (accentsOf t) file ≡ length file
 
 -- and with one row between two separators
-pub record Sound (file : List ℕ) : Type 0 where
+pub record Sound (t : MessageType) (file : List ℕ) : Type 0 where
   pub some-bytes : 1 ≤ length file
   pub not-long : length file ≤ 8192
-  pub clean : allowedUpto file ≡ length file
+  pub clean : allowedUpto (accentsOf t) file ≡ length file
   pub frame : framed (texts file) ≡ true
 
 -- ---- 13 and 1, on the plan

@@ -1,14 +1,14 @@
 -- What is read of a message with its texts left in the file: its record's layout, values and triples, and where its row and the value of each field stand.
 -- Document 02, A3: "keep, for each label, only where its value begins and ends; read the value from the file itself when it is needed".
 use Prim.Native.Nat.{ℕ}
-use Rattle.layout.specs.Layouts.{labelsOf}
 use Rattle.layout.specs.declared.Layout.the-variants.{Market}
+use Rattle.reader.specs.Messages.{placesOf}
 use Rattle.reader.specs.Reader.{readOf}
 use Rattle.reader.specs.declared.Answer.{Answer}
 use Rattle.reader.specs.declared.Reading.{Reading}
 use Rattle.record.specs.Records.{cell}
 use Rattle.text_lines.specs.Places.{noSpan}
-use Rattle.text_lines.specs.Spots.{rowPlace, placesIn}
+use Rattle.text_lines.specs.Spots.{rowPlace}
 use Rattle.value.specs.declared.Value.the-variants.{Blank}
 use Rattle.value_list.specs.Forms.{noTriple}
 use lib.Dec.{eqb}
@@ -40,7 +40,7 @@ readingIn a file =
       row = rowPlace file;
       cells = a .content .cells;
       gradients = a .content .gradients;
-      places = placesIn (labelsOf (a .content .layout)) file;
+      places = placesOf (a .content .layout) file;
     })
     (unread (a .number) (a .detail))
 

@@ -2,16 +2,16 @@
 use Prim.Native.Nat.{ℕ, _-_, _≤_}
 use Rattle.reader_fill.specs.Filled.{filledOf, triplesOf, recordWith}
 use Rattle.layout.specs.FieldNumbers.{tipoComandoNo}
-use Rattle.layout.specs.Layouts.{kindsOf, labelsOf, sizeOf}
+use Rattle.layout.specs.Layouts.{kindsOf, sizeOf}
 use Rattle.layout.specs.declared.Layout.{Layout}
 use Rattle.layout.specs.declared.Layout.the-variants.{Market}
 use Rattle.text_lines.specs.Places.{noSpan, partOf, Placed, columnIn}
-use Rattle.text_lines.specs.Spots.{rowPlace, placesIn}
+use Rattle.text_lines.specs.Spots.{rowPlace}
 use Rattle.text_lines.specs.declared.Span.{Span}
 use Rattle.value_list.specs.declared.Triple.{Triple}
 use Rattle.value_name.specs.declared.MessageType.{MessageType}
 use Rattle.value_name.specs.declared.MessageType.the-variants.{Cb, Rc, Mg, Eb, Lb, Sr, Vq, Ri, Qr}
-use Rattle.reader.specs.Messages.{columnRecord}
+use Rattle.reader.specs.Messages.{columnRecord, placesOf}
 use Rattle.reader.specs.Reader.{valued, messageOf, readOf}
 use Rattle.reader.specs.Refusals.{refused, accepted, answer}
 use Rattle.reader.specs.declared.Answer.{Answer}
@@ -52,7 +52,7 @@ pub record Stands (file : List ℕ) (x : Located) : Type 0 where
 
 -- each exactly where it stands, with no detail
 abbrev pub Exact : List ℕ → Located → Type 0
-Exact file x = (x .detail ≡ 0) × (x .row ≡ rowPlace file) × (x .places ≡ placesIn (labelsOf (x .layout)) file)
+Exact file x = (x .detail ≡ 0) × (x .row ≡ rowPlace file) × (x .places ≡ placesOf (x .layout) file)
 
 -- nothing of the file
 abbrev pub Cleared : Located → Type 0
