@@ -3,7 +3,8 @@
 use Prim.Native.Nat.{ℕ, _≤_}
 use Rattle.layout.specs.Layouts.{labelsOf}
 use Rattle.layout.specs.Rows.{textAt, rowOf}
-use Rattle.text_lines.proofs.Steps.{allowed-length}
+use Rattle.reader_accent.specs.Accents.{accentsOf}
+use Rattle.text_lines.proofs.Allowed.{allowed-length}
 use Rattle.text_lines.specs.Entries.{again, missing}
 use Rattle.text_lines.specs.Lines.{allowedUpto, texts, framed}
 use Rattle.value_name.specs.declared.MessageType.{MessageType}
@@ -27,14 +28,14 @@ use native.Mathlib.Omega.{arith}
 pub record Accepted (t : MessageType) (unit file : List ℕ) : Type 0 where
   pub some-bytes : 1 ≤ length file
   pub not-long : length file ≤ 8192
-  pub clean : allowedUpto file ≡ length file
+  pub clean : allowedUpto (accentsOf t) file ≡ length file
   pub frame : framed (texts file) ≡ true
   pub once : again [] (entriesIn t file) ≡ none
-  pub complete : missing 1 (labelsOf (layoutIn t (given file))) (entriesIn t file) ≡ 0
-  pub values : isBad (valuesOf (layoutIn t (given file)) (bodyColumn t file)) ≡ false
+  pub complete : missing 1 (labelsOf (layoutIn t (given t file))) (entriesIn t file) ≡ 0
+  pub values : isBad (valuesOf (layoutIn t (given t file)) (bodyColumn t file)) ≡ false
   pub rules : brokenIn (recordIn t file) ≡ 0
   pub unit-is : unit ≡ textAt (bodyColumn t file) 2
-  pub row-is : rowIn file ≡ rowOf (layoutIn t (given file)) (bodyColumn t file)
+  pub row-is : rowIn file ≡ rowOf (layoutIn t (given t file)) (bodyColumn t file)
   pub answered : messageOf t unit file ≡ taken (recordIn t file)
 
 top : {x : Refusal} {xs : List Refusal} → NoneHolds (x ∷ xs) → x .holds ≡ false
@@ -77,23 +78,23 @@ module _ (t : MessageType) (unit file : List ℕ) (h : messageOf t unit file .nu
       record {
         some-bytes = size .0;
         not-long = size .1;
-        clean = omega (arith, allowed-length file, ltb-false (allowedUpto file) (length file) (top n3));
+        clean = omega (arith, allowed-length (accentsOf t) file, ltb-false (allowedUpto (accentsOf t) file) (length file) (top n3));
         frame = not-false (framed (texts file)) (top n4);
         once = not-there (again [] (entriesIn t file)) (top n5);
-        complete = not-some (missing 1 (labelsOf (layoutIn t (given file))) (entriesIn t file)) (top n6);
+        complete = not-some (missing 1 (labelsOf (layoutIn t (given t file))) (entriesIn t file)) (top n6);
         values = top n7;
         rules = not-some (brokenIn (recordIn t file)) (top n8);
         unit-is = not-other unit (textAt (bodyColumn t file) 2) (top n9);
-        row-is = not-other (rowIn file) (rowOf (layoutIn t (given file)) (bodyColumn t file)) (top (below n9));
+        row-is = not-other (rowIn file) (rowOf (layoutIn t (given t file)) (bodyColumn t file)) (top (below n9));
         answered = record-is;
       }
 
   -- the row is the body's values byte for byte
-  pub row-agrees : rowIn file ≡ rowOf (layoutIn t (given file)) (bodyColumn t file)
+  pub row-agrees : rowIn file ≡ rowOf (layoutIn t (given t file)) (bodyColumn t file)
   row-agrees = accepted .row-is
 
   pub unit-agrees : unit ≡ textAt (bodyColumn t file) 2
   unit-agrees = accepted .unit-is
 
-  pub all-values : isBad (valuesOf (layoutIn t (given file)) (bodyColumn t file)) ≡ false
+  pub all-values : isBad (valuesOf (layoutIn t (given t file)) (bodyColumn t file)) ≡ false
   all-values = accepted .values

@@ -1,16 +1,18 @@
 -- Files that say the same are answered alike, however their lines are ordered, spaced and ended, and whatever lines are passed over. The order alone asks that
 -- no label of the layout stands twice, since refusal 5 tells the first repeat from the top.
 -- Assumes nothing.
-use Prim.Native.Nat.{ℕ, suc, _≤_, _<_}
+use Prim.Native.Nat.{ℕ, suc, _-_, _≤_, _<_}
 use Rattle.layout.specs.Layouts.{labelsOf}
 use Rattle.layout.specs.declared.Layout.{Layout}
 use Rattle.layout.specs.declared.Layout.the-variants.{Market, Mfrr}
+use Rattle.reader_accent.specs.Accents.{accentsOf}
 use Rattle.text_lines.proofs.Order.{agree, missing-same, column-same, sift-perm}
 use Rattle.text_lines.proofs.Params.{no-param}
 use Rattle.text_lines.proofs.Steps.{lines-step}
 use Rattle.text_lines.specs.Entries.{Entry, placeOf, entryOf, entries, again, column}
 use Rattle.text_lines.specs.Order.{Perm, done, keep, swap, both}
-use Rattle.text_lines.specs.Lines.{Param, allowed, allowedUpto, lines, textOf, texts, seps, inside, outside, framed, paramOf, params}
+use Rattle.text_lines.specs.Lines.{Param, allowed, allowedFrom, allowedUpto, lines, textOf, texts, seps, inside, outside, framed, paramOf, respelt, paramIn, params}
+use Rattle.text_lines.specs.Spellings.{Spelling, labelRoom}
 use Rattle.value_name.specs.declared.MessageType.{MessageType}
 use Rattle.value_name.specs.declared.MessageType.the-variants.{Cb, Rc, Mg, Eb, Lb, Sr, Vq, Ri, Qr}
 use Rattle.reader.specs.Messages.{given, rowIn, isKindOfCommand, layoutIn, entriesIn, columnRecord}
@@ -19,7 +21,7 @@ use Rattle.reader.specs.Refusals.{refusal, answer}
 use Rattle.reader.specs.declared.Answer.{Answer}
 use Rattle.text.proofs.Cuts.{upto-seam, past-seam, upto-all, any-append, all-none}
 use Rattle.text.proofs.Tests.{and-parts, or-parts, within-tells}
-use Rattle.text.specs.Bytes.{any, all, is, isPlain, past, trim}
+use Rattle.text.specs.Bytes.{any, all, is, isPlain, past, trim, upto}
 use Rattle.text.specs.Lists.{onto, sift}
 use borrow.Author.Tests.{le-leb, le-ltb, ne-eqb}
 use lib.Dec.{lit<}
@@ -33,19 +35,19 @@ use native.Mathlib.Omega.{arith}
 
 -- ---- files that no refusal of 2 to 4 meets
 
-pub clean-of : {file : List ℕ} → Sound file → Clean file
+pub clean-of : {t : MessageType} {file : List ℕ} → Sound t file → Clean t file
 clean-of s = record { some-bytes = s .some-bytes; not-long = s .not-long; clean = s .clean }
 
 -- what is left to judge of them
-pub clean-reading : (t : MessageType) (unit file : List ℕ) → Clean file
+pub clean-reading : (t : MessageType) (unit file : List ℕ) → Clean t file
     → messageOf t unit file
-    ≡ answer (refusal 4 (seps (texts file)) (not (framed (texts file))) ∷ labelled (layoutIn t (given file)) unit (rowIn file) (entriesIn t file)) (recordIn t file)
+    ≡ answer (refusal 4 (seps (texts file)) (not (framed (texts file))) ∷ labelled (layoutIn t (given t file)) unit (rowIn file) (entriesIn t file)) (recordIn t file)
 unfolding messageOf reading answer
 clean-reading t unit file c =
     rw (le-leb 1 (length file) (c .some-bytes), le-leb (length file) 8192 (c .not-long), c .clean, le-ltb (length file) (length file) (le-refl (length file)))
 
-pub sound-reading : (t : MessageType) (unit file : List ℕ) → Sound file
-    → messageOf t unit file ≡ answer (labelled (layoutIn t (given file)) unit (rowIn file) (entriesIn t file)) (recordIn t file)
+pub sound-reading : (t : MessageType) (unit file : List ℕ) → Sound t file
+    → messageOf t unit file ≡ answer (labelled (layoutIn t (given t file)) unit (rowIn file) (entriesIn t file)) (recordIn t file)
 unfolding answer
 sound-reading t unit file s = clean-reading t unit file (clean-of s) ∙ rw (s .frame)
 
@@ -59,16 +61,16 @@ labelled-same l unit row {es} {gs} p h =
     rw (h, a .none-twice [] h, missing-same 1 (labelsOf l) es gs (a .there), column-same 1 (labelsOf l) es gs (a .values [] h))
 
 -- two sound files of one layout with one row, whose entries are the same in some order, and none twice
-pub same-reading : (t : MessageType) (unit f g : List ℕ) → Sound f → Sound g
+pub same-reading : (t : MessageType) (unit f g : List ℕ) → Sound t f → Sound t g
     → rowIn f ≡ rowIn g
-    → layoutIn t (given f) ≡ layoutIn t (given g)
+    → layoutIn t (given t f) ≡ layoutIn t (given t g)
     → Perm (entriesIn t f) (entriesIn t g)
     → again [] (entriesIn t f) ≡ none
     → messageOf t unit f ≡ messageOf t unit g
 unfolding recordIn
 same-reading t unit f g sf sg r l p h =
     sound-reading t unit f sf
-    ∙ labelled-same (layoutIn t (given f)) unit (rowIn f) p h
+    ∙ labelled-same (layoutIn t (given t f)) unit (rowIn f) p h
     ∙ ap₂ (λ (m : Layout) (row : List ℕ). answer (labelled m unit row (entriesIn t g)) (columnRecord m (column 1 (labelsOf m) (entriesIn t g)))) l r
     ∙ sym (sound-reading t unit g sg)
 
@@ -98,16 +100,16 @@ layout-perm Ri p = refl
 layout-perm Qr p = refl
 
 -- two sound files with one row, whose parameter lines say the same in some order, and none of the layout's twice
-pub reordered : (t : MessageType) (unit f g : List ℕ) → Sound f → Sound g
+pub reordered : (t : MessageType) (unit f g : List ℕ) → Sound t f → Sound t g
     → rowIn f ≡ rowIn g
-    → Perm (given f) (given g)
+    → Perm (given t f) (given t g)
     → again [] (entriesIn t f) ≡ none
     → messageOf t unit f ≡ messageOf t unit g
 unfolding entriesIn entries
 reordered t unit f g sf sg r p h =
     let l = layout-perm t p in
     same-reading t unit f g sf sg r l
-    (subst (λ (m : Layout). Perm (entriesIn t f) (entries (labelsOf m) (given g))) l (sift-perm (entryOf (labelsOf (layoutIn t (given f)))) p)) h
+    (subst (λ (m : Layout). Perm (entriesIn t f) (entries (labelsOf m) (given t g))) l (sift-perm (entryOf (labelsOf (layoutIn t (given t f)))) p)) h
 
 -- ---- what is passed over, wherever it stands
 
@@ -130,23 +132,23 @@ pub foreign-line : (ls : List (List ℕ)) (p : Param) (ps : List Param) → plac
 foreign-line ls p ps e = foreign-within ls [] p ps e
 
 -- a line without '='
-pub plain-within : (xs : List (List ℕ)) (x : List ℕ) (ys : List (List ℕ)) → any (is 61) x ≡ false → params (xs ++ x ∷ ys) ≡ params (xs ++ ys)
-unfolding params
-plain-within xs x ys e = sift-past paramOf xs x ys (no-param x e)
+pub plain-within : (sp : List Spelling) (xs : List (List ℕ)) (x : List ℕ) (ys : List (List ℕ)) → any (is 61) x ≡ false
+    → params sp (xs ++ x ∷ ys) ≡ params sp (xs ++ ys)
+unfolding params paramIn
+plain-within sp xs x ys e = sift-past (paramIn sp) xs x ys (ap (respelt sp) (no-param x e))
 
-pub plain-line : (x : List ℕ) (xs : List (List ℕ)) → any (is 61) x ≡ false → params (x ∷ xs) ≡ params xs
-plain-line x xs e = plain-within [] x xs e
+pub plain-line : (sp : List Spelling) (x : List ℕ) (xs : List (List ℕ)) → any (is 61) x ≡ false → params sp (x ∷ xs) ≡ params sp xs
+plain-line sp x xs e = plain-within sp [] x xs e
 
 -- ---- spaced: lines that say the same parameters, one by one (`spaced` of crate text_lines says of which lines this is so)
 
-sift-map : {A B : Type 0} (f : A → Option B) (xs : List A) → sift f xs ≡ sift (λ (o : Option B). o) (map f xs)
-unfolding sift
-sift-map f [] = refl
-sift-map f (x ∷ xs) = ap (onto (f x)) (sift-map f xs)
+params-by : (sp : List Spelling) (xs : List (List ℕ)) → params sp xs ≡ sift (respelt sp) (map paramOf xs)
+unfolding params paramIn sift
+params-by sp [] = refl
+params-by sp (x ∷ xs) = ap (onto (respelt sp (paramOf x))) (params-by sp xs)
 
-pub params-alike : (xs ys : List (List ℕ)) → map paramOf xs ≡ map paramOf ys → params xs ≡ params ys
-unfolding params
-params-alike xs ys e = sift-map paramOf xs ∙ ap (sift (λ (o : Option Param). o)) e ∙ sym (sift-map paramOf ys)
+pub params-alike : (sp : List Spelling) (xs ys : List (List ℕ)) → map paramOf xs ≡ map paramOf ys → params sp xs ≡ params sp ys
+params-alike sp xs ys e = params-by sp xs ∙ ap (sift (respelt sp)) e ∙ sym (params-by sp ys)
 
 -- ---- ended: lines as they are written, each with its ending
 
@@ -254,56 +256,64 @@ unfolding allowed
 allowed-plain b [] p = rw p
 allowed-plain b (c ∷ s) p = rw p
 
-allowed-run : (a s : List ℕ) → all isPlain a ≡ true → allowedUpto s ≡ length s → allowedUpto (a ++ s) ≡ length (a ++ s)
-unfolding allowedUpto all
-allowed-run [] s h k = k
-allowed-run (x ∷ a) s h k =
+-- whatever is left of a label's part before it
+abbrev AllFrom : List Spelling → List ℕ → Type 0
+AllFrom sp s = (n : ℕ) → allowedFrom sp n s ≡ length s
+
+allowed-run : (sp : List Spelling) (a s : List ℕ) → all isPlain a ≡ true → AllFrom sp s → AllFrom sp (a ++ s)
+unfolding allowedFrom all
+allowed-run sp [] s h k n = k n
+allowed-run sp (x ∷ a) s h k n =
     let p = and-parts (isPlain x) (all isPlain a) h in
-    rw (allowed-plain x (a ++ s) (p .0)) (ap suc (allowed-run a s (p .1) k))
+    rw (allowed-plain x (a ++ s) (p .0), ne-eqb x 10 (λ q. omega (arith, q, within-tells 32 126 x .0 (p .0) .0))) (ap suc (allowed-run sp a s (p .1) k (n - 1)))
 
-allowed-feed : (s : List ℕ) → allowedUpto s ≡ length s → allowedUpto (10 ∷ s) ≡ length (10 ∷ s)
-unfolding allowedUpto allowed
-allowed-feed [] k = refl
-allowed-feed (c ∷ s) k = ap suc k
+allowed-feed : (sp : List Spelling) (s : List ℕ) → AllFrom sp s → AllFrom sp (10 ∷ s)
+unfolding allowedFrom allowed
+allowed-feed sp [] k n = refl
+allowed-feed sp (c ∷ s) k n = ap suc (k (labelRoom sp (upto (is 10) (c ∷ s))))
 
-allowed-end : (e : Ending) (s : List ℕ) → allowedUpto s ≡ length s → allowedUpto (ended e s) ≡ length (ended e s)
-unfolding allowedUpto allowed
-allowed-end Lf s k = allowed-feed s k
-allowed-end CrLf s k = ap suc (allowed-feed s k)
+allowed-end : (sp : List Spelling) (e : Ending) (s : List ℕ) → AllFrom sp s → AllFrom sp (ended e s)
+unfolding allowedFrom allowed
+allowed-end sp Lf s k n = allowed-feed sp s k n
+allowed-end sp CrLf s k n = ap suc (allowed-feed sp s k (n - 1))
 
-pub allowed-of : (ws : List Written) → all isClear ws ≡ true → allowedUpto (fileOf ws) ≡ length (fileOf ws)
-unfolding fileOf all allowedUpto
-allowed-of [] h = refl
-allowed-of (w ∷ ws) h =
+allowed-all : (sp : List Spelling) (ws : List Written) → all isClear ws ≡ true → AllFrom sp (fileOf ws)
+unfolding fileOf all allowedFrom
+allowed-all sp [] h n = refl
+allowed-all sp (w ∷ ws) h n =
     let p = and-parts (isClear w) (all isClear ws) h in
-    allowed-run (w .line) (ended (w .ending) (fileOf ws)) (p .0) (allowed-end (w .ending) (fileOf ws) (allowed-of ws (p .1)))
+    allowed-run sp (w .line) (ended (w .ending) (fileOf ws)) (p .0) (allowed-end sp (w .ending) (fileOf ws) (allowed-all sp ws (p .1))) n
+
+pub allowed-of : (sp : List Spelling) (ws : List Written) → all isClear ws ≡ true → allowedUpto sp (fileOf ws) ≡ length (fileOf ws)
+unfolding allowedUpto
+allowed-of sp ws h = allowed-all sp ws h (labelRoom sp (upto (is 10) (fileOf ws)))
 
 -- ---- the theorem
 
 -- an answer depends on a clean file by its texts alone
-pub texts-decide : (t : MessageType) (unit f g : List ℕ) → texts f ≡ texts g → Clean f → Clean g → messageOf t unit f ≡ messageOf t unit g
+pub texts-decide : (t : MessageType) (unit f g : List ℕ) → texts f ≡ texts g → Clean t f → Clean t g → messageOf t unit f ≡ messageOf t unit g
 unfolding recordIn entriesIn given rowIn
 texts-decide t unit f g e cf cg = clean-reading t unit f cf ∙ ap byTexts e ∙ sym (clean-reading t unit g cg)
   where
     byTexts : List (List ℕ) → Answer
     byTexts ts =
-        let ps = params (outside ts) in
+        let ps = params (accentsOf t) (outside ts) in
         let l = layoutIn t ps in
         answer (refusal 4 (seps ts) (not (framed ts)) ∷ labelled l unit (getD (inside ts) 0 []) (entries (labelsOf l) ps)) (columnRecord l (column 1 (labelsOf l) (entries (labelsOf l) ps)))
 
-pub ends-alike : (t : MessageType) (unit f g : List ℕ) → texts f ≡ texts g → Sound f → Sound g → messageOf t unit f ≡ messageOf t unit g
+pub ends-alike : (t : MessageType) (unit f g : List ℕ) → texts f ≡ texts g → Sound t f → Sound t g → messageOf t unit f ≡ messageOf t unit g
 ends-alike t unit f g e sf sg = texts-decide t unit f g e (clean-of sf) (clean-of sg)
 
 -- a written file is clean where its size is allowed
 abbrev pub Sized : List Written → Type 0
 Sized ws = (1 ≤ length (fileOf ws)) × (length (fileOf ws) ≤ 8192)
 
-clean-written : (ws : List Written) → all isClear ws ≡ true → Sized ws → Clean (fileOf ws)
-clean-written ws h s = record { some-bytes = s .0; not-long = s .1; clean = allowed-of ws h }
+clean-written : (t : MessageType) (ws : List Written) → all isClear ws ≡ true → Sized ws → Clean t (fileOf ws)
+clean-written t ws h s = record { some-bytes = s .0; not-long = s .1; clean = allowed-of (accentsOf t) ws h }
 
 -- lines that trim alike, whatever the blanks at their ends and whatever the endings
 pub written-alike : (t : MessageType) (unit : List ℕ) (ws vs : List Written) → all isClear ws ≡ true → all isClear vs ≡ true → Sized ws → Sized vs
     → map textIn ws ≡ map textIn vs
     → messageOf t unit (fileOf ws) ≡ messageOf t unit (fileOf vs)
 written-alike t unit ws vs hw hv sw sv e =
-    texts-decide t unit (fileOf ws) (fileOf vs) (texts-of ws hw ∙ e ∙ sym (texts-of vs hv)) (clean-written ws hw sw) (clean-written vs hv sv)
+    texts-decide t unit (fileOf ws) (fileOf vs) (texts-of ws hw ∙ e ∙ sym (texts-of vs hv)) (clean-written t ws hw sw) (clean-written t vs hv sv)

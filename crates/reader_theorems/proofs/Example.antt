@@ -8,7 +8,9 @@ use Rattle.layout.specs.Layouts.{fieldsOf, labelsOf, kindsOf}
 use Rattle.layout.specs.Rows.{rowFields, piecesOf, tailText, rowText, rowOf}
 use Rattle.layout.specs.declared.Layout.the-variants.{Revocation}
 use Rattle.text_lines.specs.Entries.{placeOf, entryOf, entries, stands, again, missing, valueAt, column}
-use Rattle.text_lines.specs.Lines.{allowed, allowedUpto, lines, textOf, texts, isSep, seps, mark, marked, ifInside, ifOutside, inside, outside, framed, paramOf, params}
+use Rattle.reader_accent.specs.Accents.{accentsOf}
+use Rattle.text_lines.specs.Spellings.{labelRoom, opens, isAccented, respell}
+use Rattle.text_lines.specs.Lines.{allowed, allowedFrom, allowedUpto, lines, textOf, texts, isSep, seps, mark, marked, ifInside, ifOutside, inside, outside, framed, paramOf, paramIn, params}
 use Rattle.value_name.specs.Names.{exactly, identifierOf, isUnit, sequenceOf}
 use Rattle.text_keyline.specs.Keylines.{lineOf, wholeUpto, numberAt}
 use Rattle.plan_row.specs.Rows.{unitAt, typeFrom, typeAt, planRowOf as rowAt}
@@ -136,7 +138,7 @@ cases =
 -- every input of the table is answered as it says
 pub right : map (λ (c : Case). readOf (c .ca) (c .ioa) (c .plan) (c .file)) cases ≡ map (λ (c : Case). c .answer) cases
 unfolding fitsByte shaped dateFields leap daysIn isReal dateOf daysOf passed clockOf instantOf rc fieldsOf labelsOf kindsOf rowFields piecesOf
-    tailText rowText rowOf placeOf entryOf entries stands again missing valueAt column allowed allowedUpto lines textOf texts isSep seps mark marked
+    tailText rowText rowOf placeOf entryOf entries stands again missing valueAt column allowed allowedFrom allowedUpto labelRoom opens isAccented respell paramIn accentsOf lines textOf texts isSep seps mark marked
     ifInside ifOutside inside outside framed paramOf params exactly identifierOf isUnit sequenceOf lineOf wholeUpto numberAt unitAt typeFrom typeAt
     rowAt planFrom planOf lookUp soughtOf given rowIn layoutIn entriesIn valuesOf columnRecord valued labelled reading recordIn planned answerAt
     readOf answer joined typed cellsOf fieldOf recordOf keptIn inOrder rulesOf lowest brokenIn same starts upto past any all skip skipEnd trim

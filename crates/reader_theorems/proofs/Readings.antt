@@ -1,12 +1,12 @@
 -- What the reading of an accepted file tells besides: each value is one that its kind may hold, its row is the row of its values, and its cells and
 -- triples are those of its record. Assumes nothing.
 use Prim.Native.Nat.{ℕ}
-use Rattle.layout.specs.Layouts.{labelsOf, sizeOf}
+use Rattle.layout.specs.Layouts.{sizeOf}
 use Rattle.layout.specs.Rows.{rowOf}
 use Rattle.layout.specs.declared.Layout.{Layout}
 use Rattle.plan.specs.Plans.{planOf, soughtOf}
 use Rattle.reader.proofs.Readings.{taken, reading-no, reading-yes, content-is, layout-is, column-is, record-is, answers-of, placed-of}
-use Rattle.reader.specs.Messages.{given, rowIn, layoutIn, valuesOf, isBad, columnRecord}
+use Rattle.reader.specs.Messages.{given, rowIn, layoutIn, placesOf, valuesOf, isBad, columnRecord}
 use Rattle.reader.specs.Reader.{bodyColumn, unitIn, readOf}
 use Rattle.reader.specs.Readings.{readingOf}
 use Rattle.reader.specs.State.{columnAt, concluded}
@@ -18,7 +18,7 @@ use Rattle.text.proofs.Tests.{and-parts, by-eq}
 use Rattle.text_lines.proofs.Spots.{row-in}
 use Rattle.text_lines.specs.Lines.{framed, inside, seps, texts}
 use Rattle.text_lines.specs.Places.{HoldsText, Placed}
-use Rattle.text_lines.specs.Spots.{rowPlace, placesIn}
+use Rattle.text_lines.specs.Spots.{rowPlace}
 use borrow.Author.Tests.{eqb-true}
 use lib.Dec.{eqb}
 use lib.ListN.{length}
@@ -28,7 +28,7 @@ use mathlib.Core.Path.{_≡_, refl, sym, ap, _∙_, subst}
 use native.Mathlib.Omega.{arith}
 
 pub record Reads (ca ioa : ℕ) (plan file : List ℕ) (x : Reading) : Type 0 where
-  pub places-are : x .number ≡ 0 → x .places ≡ placesIn (labelsOf (x .layout)) file
+  pub places-are : x .number ≡ 0 → x .places ≡ placesOf (x .layout) file
   pub placed : x .number ≡ 0 → Placed (sizeOf (x .layout)) file (x .places)
   pub readable : x .number ≡ 0 → isBad (valuesOf (x .layout) (columnAt (x .layout) file (x .places))) ≡ false
   pub own-row : x .number ≡ 0 → HoldsText file (x .row) (rowOf (x .layout) (columnAt (x .layout) file (x .places)))
@@ -56,13 +56,13 @@ module _ (c i : ℕ) (plan file : List ℕ) (x : Reading) (is : x ≡ readingOf 
     taken-is : x ≡ taken (readOf c i plan file .content) file
     taken-is = is ∙ reading-yes c i plan file z
 
-    places-here : x .places ≡ placesIn (labelsOf (x .layout)) file
-    places-here = ap (λ (y : Reading). y .places) taken-is ∙ ap (λ (y : Reading). placesIn (labelsOf (y .layout)) file) (sym taken-is)
+    places-here : x .places ≡ placesOf (x .layout) file
+    places-here = ap (λ (y : Reading). y .places) taken-is ∙ ap (λ (y : Reading). placesOf (y .layout) file) (sym taken-is)
 
     told : Accepted (soughtOf c i (planOf plan) .message) (unitIn (soughtOf c i (planOf plan))) file
     told = read-accepted c i plan file z
 
-    layout-here : x .layout ≡ layoutIn (soughtOf c i (planOf plan) .message) (given file)
+    layout-here : x .layout ≡ layoutIn (soughtOf c i (planOf plan) .message) (given (soughtOf c i (planOf plan) .message) file)
     layout-here = ap (λ (y : Reading). y .layout) taken-is ∙ layout-is c i plan file z
 
     column-here : columnAt (x .layout) file (x .places) ≡ bodyColumn (soughtOf c i (planOf plan) .message) file

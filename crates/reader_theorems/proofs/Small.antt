@@ -6,6 +6,7 @@ use Rattle.layout.specs.Layouts.{labelsOf, kindsOf}
 use Rattle.layout.specs.Rows.{textAt, rowOf}
 use Rattle.layout.specs.declared.Layout.{Layout}
 use Rattle.layout.specs.declared.Layout.the-variants.{Market, Mfrr, Revocation, Generic, Exclusion, Limitation, Secondary, VoltVar, Rejection, Reserve}
+use Rattle.reader_accent.specs.Accents.{accentsOf}
 use Rattle.text_lines.proofs.Standing.{place-le, trues-missing}
 use Rattle.text_lines.specs.Entries.{Entry, entry, placeOf, entryOf, entries, stands, again, missing, column}
 use Rattle.text_lines.specs.Lines.{Param, allowedUpto, lineStep, lines, textOf, texts, isSep, seps, framed}
@@ -174,10 +175,10 @@ reading-small t unit file r =
     detail-step 2 0 (not (within 1 8192 (length file))) _ r (λ e. omega arith)
     (λ e.
     let size = within-tells 1 8192 (length file) .0 (not-false (within 1 8192 (length file)) e) in
-    detail-step 3 (allowedUpto file) (ltb (allowedUpto file) (length file)) _ r (λ e. omega (arith, ltb-true (allowedUpto file) (length file) e, size .1))
+    detail-step 3 (allowedUpto (accentsOf t) file) (ltb (allowedUpto (accentsOf t) file) (length file)) _ r (λ e. omega (arith, ltb-true (allowedUpto (accentsOf t) file) (length file) e, size .1))
     (λ e.
     detail-step 4 (seps (texts file)) (not (framed (texts file))) _ r (λ e. omega (arith, seps-le file, size .1))
-    (λ e. labelled-small (layoutIn t (given file)) unit (rowIn file) (given file) r)))
+    (λ e. labelled-small (layoutIn t (given t file)) unit (rowIn file) (given t file) r)))
 
 -- ---- 13 and 1, a line of the plan
 

@@ -2,6 +2,7 @@
 use Prim.Native.Nat.{ℕ, _≤_}
 use Rattle.layout.specs.Layouts.{labelsOf}
 use Rattle.layout.specs.declared.Layout.{Layout}
+use Rattle.reader_accent.specs.Accents.{accentsOf}
 use Rattle.text_lines.proofs.Tidy.{column-tidy}
 use Rattle.text_lines.specs.Lines.{allowedUpto}
 use Rattle.value_name.specs.declared.MessageType.{MessageType}
@@ -39,13 +40,13 @@ body-valid l col e neat z =
       valid = record-valid l col (goodOf (valuesOf l col)) (good-of (valuesOf l col) e) neat z;
     }
 
-pub tidy-body : (t : MessageType) (file : List ℕ) → allowedUpto file ≡ length file → all tidy (bodyColumn t file) ≡ true
+pub tidy-body : (t : MessageType) (file : List ℕ) → allowedUpto (accentsOf t) file ≡ length file → all tidy (bodyColumn t file) ≡ true
 unfolding entriesIn given
-tidy-body t file h = column-tidy 1 (labelsOf (layoutIn t (given file))) file h
+tidy-body t file h = column-tidy (accentsOf t) 1 (labelsOf (layoutIn t (given t file))) file h
 
 body-in : (t : MessageType) (unit file : List ℕ) → Accepted t unit file → Valid (recordIn t file)
 unfolding recordIn
-body-in t unit file a = body-valid (layoutIn t (given file)) (bodyColumn t file) (a .values) (tidy-body t file (a .clean)) (a .rules)
+body-in t unit file a = body-valid (layoutIn t (given t file)) (bodyColumn t file) (a .values) (tidy-body t file (a .clean)) (a .rules)
 
 pub accepted-valid : (t : MessageType) (unit file : List ℕ) → messageOf t unit file .number ≡ 0 → Valid (messageOf t unit file .content)
 accepted-valid t unit file h =
