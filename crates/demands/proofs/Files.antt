@@ -84,12 +84,12 @@ read-accepted ca ioa plan file h = accepted-at (address ca ioa plan) file h (no-
 
 -- ---- in another order
 
-sound-of : {t : MessageType} {unit file : List ℕ} → Accepted t unit file → Sound file
+sound-of : {t : MessageType} {unit file : List ℕ} → Accepted t unit file → Sound t file
 sound-of a = record { some-bytes = a .some-bytes; not-long = a .not-long; clean = a .clean; frame = a .frame }
 
-pub ordered : (ca ioa : ℕ) (plan f g : List ℕ) → Sound f → Sound g
+pub ordered : (ca ioa : ℕ) (plan f g : List ℕ) → Sound (typeAt ca ioa plan) f → Sound (typeAt ca ioa plan) g
     → rowIn f ≡ rowIn g
-    → Perm (given f) (given g)
+    → Perm (given (typeAt ca ioa plan) f) (given (typeAt ca ioa plan) g)
     → again [] (entriesIn (typeAt ca ioa plan) f) ≡ nothing
     → readOf ca ioa plan f ≡ readOf ca ioa plan g
 unfolding readOf
@@ -99,9 +99,9 @@ ordered ca ioa plan f g sf sg row lines once =
 
 pub however : (ca ioa : ℕ) (plan f g : List ℕ)
     → readOf ca ioa plan f .number ≡ 0
-    → Sound g
+    → Sound (typeAt ca ioa plan) g
     → rowIn g ≡ rowIn f
-    → Perm (given f) (given g)
+    → Perm (given (typeAt ca ioa plan) f) (given (typeAt ca ioa plan) g)
     → readOf ca ioa plan g ≡ readOf ca ioa plan f
 however ca ioa plan f g h sg row lines =
     let a = read-accepted ca ioa plan f h in
@@ -110,7 +110,7 @@ however ca ioa plan f g h sg row lines =
 -- with other lines besides, which are passed over
 pub passed-over : (ca ioa : ℕ) (plan f g : List ℕ)
     → readOf ca ioa plan f .number ≡ 0
-    → Sound g
+    → Sound (typeAt ca ioa plan) g
     → rowIn f ≡ rowIn g
     → layoutAt ca ioa plan g ≡ layoutAt ca ioa plan f
     → Perm (entriesIn (typeAt ca ioa plan) f) (entriesIn (typeAt ca ioa plan) g)

@@ -315,14 +315,14 @@ judged-alike l unit row line {es} {gs} p neat tidied own =
         ∷ [])
         r
 
-pub lists-spaced : (t : MessageType) (unit f g : List ℕ) → Sound f → Sound g
-    → layoutIn t (given f) ≡ layoutIn t (given g)
-    → Pairwise (SpacedEntry (layoutIn t (given f))) (entriesIn t f) (entriesIn t g)
-    → isOwn (layoutIn t (given f)) (rowIn f) (entriesIn t f) ≡ isOwn (layoutIn t (given g)) (rowIn g) (entriesIn t g)
+pub lists-spaced : (t : MessageType) (unit f g : List ℕ) → Sound t f → Sound t g
+    → layoutIn t (given t f) ≡ layoutIn t (given t g)
+    → Pairwise (SpacedEntry (layoutIn t (given t f))) (entriesIn t f) (entriesIn t g)
+    → isOwn (layoutIn t (given t f)) (rowIn f) (entriesIn t f) ≡ isOwn (layoutIn t (given t g)) (rowIn g) (entriesIn t g)
     → messageOf t unit f ≡ messageOf t unit g
 unfolding recordIn
 lists-spaced t unit f g sf sg lay p own =
-    let l = layoutIn t (given f) in
+    let l = layoutIn t (given t f) in
     let neat = tidy-body t f (sf .clean) in
     sound-reading t unit f sf
     ∙ subst

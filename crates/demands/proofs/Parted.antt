@@ -6,18 +6,20 @@ use Rattle.reader.specs.Messages.{given, rowIn, layoutIn, entriesIn, columnReco
 use Rattle.reader.specs.Reader.{Clean, labelled, recordIn, messageOf}
 use Rattle.reader.specs.Refusals.{refusal, answer}
 use Rattle.reader.specs.declared.Answer.{Answer}
+use Rattle.reader_accent.specs.Accents.{accentsOf}
 use Rattle.reader_theorems.proofs.Alike.{clean-reading}
 use Rattle.text.proofs.Tests.{by-test}
 use Rattle.text.specs.Bytes.{any, is}
 use Rattle.text.specs.Lists.{count, onto, sift}
 use Rattle.text_lines.proofs.Params.{sep-equals}
 use Rattle.text_lines.specs.Entries.{entries, column}
-use Rattle.text_lines.specs.Lines.{Param, texts, isSep, seps, mark, marked, ifInside, ifOutside, inside, outside, framed, paramOf, params}
+use Rattle.text_lines.specs.Lines.{Param, texts, isSep, seps, mark, marked, ifInside, ifOutside, inside, outside, framed, paramOf, params, paramIn, respelt}
+use Rattle.text_lines.specs.Spellings.{Spelling}
 use Rattle.value_name.specs.declared.MessageType.{MessageType}
 use lib.Dec.{eqb}
 use lib.ListN.{length}
 use mathlib.Core.Bool.{Bool, true, _&&_, not, cond}
-use mathlib.Core.List.{List, _∷_}
+use mathlib.Core.List.{List, [], _∷_}
 use mathlib.Core.Option.{Option, none as nothing, some}
 use mathlib.Core.Path.{_≡_, refl, sym, ap, ap₂, _∙_}
 
@@ -43,40 +45,41 @@ seps-alike none = refl
 seps-alike (next r p) = ap₂ (λ (b : Bool) (n : ℕ). cond b 1 0 + n) (sep-alike r) (seps-alike p)
 
 -- below n separators: the parameters outside, and how many lines stand inside
-abbrev paramsBelow : ℕ → List (List ℕ) → List Param
-paramsBelow n ts = sift paramOf (sift ifOutside (marked n ts))
+abbrev paramsBelow : List Spelling → ℕ → List (List ℕ) → List Param
+paramsBelow sp n ts = sift (paramIn sp) (sift ifOutside (marked n ts))
 
 abbrev insideBelow : ℕ → List (List ℕ) → ℕ
 insideBelow n ts = length (sift ifInside (marked n ts))
 
-lines-alike : (n : ℕ) {ts us : List (List ℕ)} → Pairwise SpacedLine ts us → (paramsBelow n ts ≡ paramsBelow n us) × (insideBelow n ts ≡ insideBelow n us)
-unfolding marked mark sift ifInside ifOutside
-lines-alike n none = (refl, refl)
-lines-alike n (next r p) =
+lines-alike : (sp : List Spelling) (n : ℕ) {ts us : List (List ℕ)} → Pairwise SpacedLine ts us
+    → (paramsBelow sp n ts ≡ paramsBelow sp n us) × (insideBelow n ts ≡ insideBelow n us)
+unfolding marked mark sift ifInside ifOutside paramIn
+lines-alike sp n none = (refl, refl)
+lines-alike sp n (next r p) =
     let s = sep-alike r in
     by-test (isSep _)
-    (λ e. rw (s ∙ e, e) (lines-alike (n + 1) p))
+    (λ e. rw (s ∙ e, e) (lines-alike sp (n + 1) p))
     (λ e.
-    let q = lines-alike (n + 0) p in
+    let q = lines-alike sp (n + 0) p in
     rw (s ∙ e, e)
-    (by-test (eqb n 1) (λ one. rw one (q .0, ap suc (q .1))) (λ one. rw one (ap₂ onto (param-alike r) (q .0), q .1))))
+    (by-test (eqb n 1) (λ one. rw one (q .0, ap suc (q .1))) (λ one. rw one (ap₂ onto (ap (respelt sp) (param-alike r)) (q .0), q .1))))
 
 -- ---- two files
 
 module _ (f g : List ℕ) (p : Pairwise SpacedLine (texts f) (texts g)) where
-  given-alike : given f ≡ given g
+  given-alike : (t : MessageType) → given t f ≡ given t g
   unfolding given params outside
-  given-alike = lines-alike 0 p .0
+  given-alike t = lines-alike (accentsOf t) 0 p .0
 
   framed-alike : framed (texts f) ≡ framed (texts g)
   unfolding framed inside
-  framed-alike = ap₂ (λ (n k : ℕ). eqb n 2 && eqb k 1) (seps-alike p) (lines-alike 0 p .1)
+  framed-alike = ap₂ (λ (n k : ℕ). eqb n 2 && eqb k 1) (seps-alike p) (lines-alike [] 0 p .1)
 
-  pub parted : (t : MessageType) (unit : List ℕ) → Clean f → Clean g → rowIn f ≡ rowIn g → messageOf t unit f ≡ messageOf t unit g
+  pub parted : (t : MessageType) (unit : List ℕ) → Clean t f → Clean t g → rowIn f ≡ rowIn g → messageOf t unit f ≡ messageOf t unit g
   unfolding recordIn entriesIn
   parted t unit cf cg row =
       clean-reading t unit f cf
-      ∙ (λ i. byLines (seps-alike p i) (framed-alike i) (row i) (given-alike i))
+      ∙ (λ i. byLines (seps-alike p i) (framed-alike i) (row i) (given-alike t i))
       ∙ sym (clean-reading t unit g cg)
     where
       byLines : ℕ → Bool → List ℕ → List Param → Answer

@@ -38,7 +38,7 @@ abbrev pub typeAt : ℕ → ℕ → List ℕ → MessageType
 typeAt ca ioa plan = address ca ioa plan .message
 
 abbrev pub layoutAt : ℕ → ℕ → List ℕ → List ℕ → Layout
-layoutAt ca ioa plan file = layoutIn (typeAt ca ioa plan) (given file)
+layoutAt ca ioa plan file = layoutIn (typeAt ca ioa plan) (given (typeAt ca ioa plan) file)
 
 -- whether the row of a file is the row of its own body
 abbrev pub rowIsOwn : ℕ → ℕ → List ℕ → List ℕ → Bool
@@ -54,31 +54,33 @@ pub record Demand2 : Type 0 where
       → readOf ca ioa plan file .content ≡ recordIn (typeAt ca ioa plan) file
   pub its-validity : (ca ioa : ℕ) (plan file : List ℕ) → readOf ca ioa plan file .number ≡ 0 → Valid (readOf ca ioa plan file .content)
   -- "however its lines are ordered and spaced.": any file of allowed size, bytes and separators (`Sound`) with the same row and the same parameters, in another
-  -- order and with other blanks about label and value (`given` has them trimmed), is accepted with the same record
+  -- order, with other blanks about label and value (`given` has them trimmed) and with either spelling of a label (`given` has the plain one), is accepted with
+  -- the same record
   pub however : (ca ioa : ℕ) (plan f g : List ℕ)
       → readOf ca ioa plan f .number ≡ 0
-      → Sound g
+      → Sound (typeAt ca ioa plan) g
       → rowIn g ≡ rowIn f
-      → Perm (given f) (given g)
+      → Perm (given (typeAt ca ioa plan) f) (given (typeAt ca ioa plan) g)
       → readOf ca ioa plan g ≡ readOf ca ioa plan f
   -- and with other lines besides, whose labels are foreign to the layout ("passed over")
   pub passed-over : (ca ioa : ℕ) (plan f g : List ℕ)
       → readOf ca ioa plan f .number ≡ 0
-      → Sound g
+      → Sound (typeAt ca ioa plan) g
       → rowIn f ≡ rowIn g
       → layoutAt ca ioa plan g ≡ layoutAt ca ioa plan f
       → Perm (entriesIn (typeAt ca ioa plan) f) (entriesIn (typeAt ca ioa plan) g)
       → readOf ca ioa plan g ≡ readOf ca ioa plan f
   -- and a refused one is refused alike: in another order, where no label of the layout stands twice (refusal 5 tells the first repeat from the top)
-  pub ordered-alike : (ca ioa : ℕ) (plan f g : List ℕ) → Sound f → Sound g
+  pub ordered-alike : (ca ioa : ℕ) (plan f g : List ℕ) → Sound (typeAt ca ioa plan) f → Sound (typeAt ca ioa plan) g
       → rowIn f ≡ rowIn g
-      → Perm (given f) (given g)
+      → Perm (given (typeAt ca ioa plan) f) (given (typeAt ca ioa plan) g)
       → again [] (entriesIn (typeAt ca ioa plan) f) ≡ none
       → readOf ca ioa plan f ≡ readOf ca ioa plan g
   -- with other blanks at the ends of its lines and other line ends
-  pub spaced-alike : (ca ioa : ℕ) (plan f g : List ℕ) → Clean f → Clean g → texts f ≡ texts g → readOf ca ioa plan f ≡ readOf ca ioa plan g
+  pub spaced-alike : (ca ioa : ℕ) (plan f g : List ℕ) → Clean (typeAt ca ioa plan) f → Clean (typeAt ca ioa plan) g → texts f ≡ texts g
+      → readOf ca ioa plan f ≡ readOf ca ioa plan g
   -- and with other blanks about `=`, a label that stands twice too: "label and value are trimmed"
-  pub parted-alike : (ca ioa : ℕ) (plan f g : List ℕ) → Clean f → Clean g
+  pub parted-alike : (ca ioa : ℕ) (plan f g : List ℕ) → Clean (typeAt ca ioa plan) f → Clean (typeAt ca ioa plan) g
       → Pairwise SpacedLine (texts f) (texts g)
       → rowIn f ≡ rowIn g
       → readOf ca ioa plan f ≡ readOf ca ioa plan g
@@ -86,7 +88,7 @@ pub record Demand2 : Type 0 where
   pub lists-alike : (s t : List ℕ) → parts 59 s ≡ parts 59 t → (profileOf s ≡ profileOf t) × (bandsOf s ≡ bandsOf t)
   pub gradients-alike : (s t : List ℕ) → triples s ≡ triples t → gradientsIn s ≡ gradientsIn t
   -- and two files whose fields differ in blanks inside lists are answered alike, where the row of each, or of neither, is that of its own body
-  pub listed-alike : (ca ioa : ℕ) (plan f g : List ℕ) → Sound f → Sound g
+  pub listed-alike : (ca ioa : ℕ) (plan f g : List ℕ) → Sound (typeAt ca ioa plan) f → Sound (typeAt ca ioa plan) g
       → layoutAt ca ioa plan f ≡ layoutAt ca ioa plan g
       → Pairwise (SpacedEntry (layoutAt ca ioa plan f)) (entriesIn (typeAt ca ioa plan) f) (entriesIn (typeAt ca ioa plan) g)
       → rowIsOwn ca ioa plan f ≡ rowIsOwn ca ioa plan g

@@ -8,6 +8,7 @@ use Rattle.report_brief.proofs as report_brief
 use Rattle.writer_message.proofs as writer_message
 use Rattle.value_date.proofs as value_date
 use Rattle.text.specs.Shapes.{Answers, Lends, OneOutput, OneResult, OneText, Writes}
+use Rattle.reader_accent.proofs as reader_accent
 use Rattle.reader_line.proofs as reader_line
 use Rattle.reader_fill.proofs as reader_fill
 use Rattle.value_fits.proofs as value_fits
@@ -129,8 +130,10 @@ pub record Within : Type 0 where
   pub layout-label-put-label : OneOutput layout_label.put_label.ended (λ κs e. e .0 .now) layout_label.put_label.Reads.Learnt
   pub layout-label-put : OneOutput layout_label.put.ended (λ κs e. e .0 .now) layout_label.put.Reads.Learnt
   pub layout-label-is-printed : Answers layout_label.is_printed.ended layout_label.is_printed.Reads.Asked layout_label.is_printed.Reads.Learnt
+  -- reader_accent
+  pub reader-accent-field-of : Answers reader_accent.field_of.ended reader_accent.field_of.Reads.Asked reader_accent.field_of.Reads.Learnt
+  pub reader-accent-line-end : OneResult reader_accent.line_end.ended reader_accent.line_end.Reads.Learnt
   -- reader_line
-  pub reader-line-is-label : Answers reader_line.is_label.ended reader_line.is_label.Reads.Asked reader_line.is_label.Reads.Learnt
   pub reader-line-line-of : OneResult reader_line.line_of.ended reader_line.line_of.Reads.Learnt
   -- reader_walk
   pub reader-walk-walk : OneResult reader_walk.walk.ended reader_walk.walk.Reads.Learnt

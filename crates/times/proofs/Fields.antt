@@ -7,6 +7,7 @@ use Rattle.reader.proofs.Readings.{layout-fields}
 use Rattle.reader.specs.Messages.{given}
 use Rattle.text_lines.specs.Entries.{entries, valueAt}
 use Rattle.text_lines.specs.Places.{HoldsText}
+use Rattle.value_name.specs.declared.MessageType.the-variants.{Cb}
 use Rattle.times_sheet.specs.declared.Which.the-variants.{StartUp, Ramp}
 use Rattle.times_sheet.specs.declared.Which.{Which}
 use Rattle.times.specs.Times.{fieldNo, timePlace}
@@ -26,5 +27,5 @@ unfolding labelsOf fieldsOf market command technical
 in-labels StartUp = leb-true _ _ refl
 in-labels Ramp = leb-true _ _ refl
 
-pub time-holds : (w : Which) (file : List ℕ) → HoldsText file (timePlace w file) (valueAt (fieldNo w) (entries (labelsOf Market) (given file)))
+pub time-holds : (w : Which) (file : List ℕ) → HoldsText file (timePlace w file) (valueAt (fieldNo w) (entries (labelsOf Market) (given Cb file)))
 time-holds w file = layout-fields Market file .value (fieldNo w) (field-within w (fieldNo w) refl .0) (in-labels w)

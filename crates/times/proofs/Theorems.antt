@@ -6,10 +6,14 @@ use Rattle.value_ask.specs.Values.{isFilled}
 use Rattle.report_brief.specs.Brief.{unitOf}
 use Rattle.layout.proofs.Labels.{labels-length}
 use Rattle.layout.specs.Fields.{command, technical, market}
-use Rattle.layout.specs.Layouts.{isMarket, fieldsOf, labelsOf, kindsOf, kindAt, sizeOf}
+use Rattle.layout.specs.Layouts.{isMarket, fieldsOf, labelsOf, kindsOf, kindAt, sizeOf, typeOf}
 use Rattle.layout.specs.declared.Layout.the-variants.{Market}
 use Rattle.layout.specs.declared.Layout.{Layout}
 use Rattle.text_lines.specs.Entries.{entries, valueAt, column}
+use Rattle.text_lines.specs.Lines.{Param}
+use Rattle.value_name.specs.declared.MessageType.{MessageType}
+use Rattle.value_name.specs.declared.MessageType.the-variants.{Cb}
+use Rattle.reader.proofs.Chosen.{type-in}
 use Rattle.reader.specs.Messages.{given, layoutIn, entriesIn, valuesOf, isBad, columnRecord}
 use Rattle.reader.specs.Reader.{recordIn, readOf}
 use Rattle.reader.specs.declared.Answer.{Answer}
@@ -97,27 +101,38 @@ same-chosen false m g f h p q s t n d = refl
 -- ---- the field of the record
 
 -- the value of a field is what its kind reads of the text of its entry
-entry-read : (l : Layout) (file : List ℕ) → isBad (valuesOf l (column 1 (labelsOf l) (entries (labelsOf l) (given file)))) ≡ false → (j : ℕ) → j < sizeOf l
-    → valueOf (kindAt l (suc j)) (valueAt (suc j) (entries (labelsOf l) (given file))) ≡ Read (fieldOf (columnRecord l (column 1 (labelsOf l) (entries (labelsOf l) (given file))) .cells) (suc j))
-entry-read l file e j h =
-    let es = entries (labelsOf l) (given file) in
+entry-read : (l : Layout) (ps : List Param) → isBad (valuesOf l (column 1 (labelsOf l) (entries (labelsOf l) ps))) ≡ false → (j : ℕ) → j < sizeOf l
+    → valueOf (kindAt l (suc j)) (valueAt (suc j) (entries (labelsOf l) ps))
+    ≡ Read (fieldOf (columnRecord l (column 1 (labelsOf l) (entries (labelsOf l) ps)) .cells) (suc j))
+entry-read l ps e j h =
+    let es = entries (labelsOf l) ps in
     let n : 1 + j ≡ suc j = omega arith in
     let i : j < length (labelsOf l) = omega (arith, labels-length l) in
     ap (valueOf (kindAt l (suc j))) (sym (column-value 1 (labelsOf l) es j i ∙ ap (λ (m : ℕ). valueAt m es) n)) ∙ field-read l (column 1 (labelsOf l) es) e j h
 
 -- of a market file that was taken
-market-read : (a : Answer) (file : List ℕ) → Taken a file → isMarket (a .content .layout) ≡ true → (j : ℕ) → j < sizeOf Market
-    → valueOf (kindAt Market (suc j)) (valueAt (suc j) (entries (labelsOf Market) (given file))) ≡ Read (fieldOf (a .content .cells) (suc j))
-unfolding recordIn columnRecord recordOf entriesIn
-market-read a file t m j h =
-    let l = layoutIn (t .message) (given file) in
-    let e : l ≡ Market = sym (ap (λ (r : Record). r .layout) (t .content-is)) ∙ market-is (a .content .layout) m in
-    let i : j < sizeOf l = subst (λ (x : Layout). j < sizeOf x) (sym e) h in
-    subst (λ (x : Layout). valueOf (kindAt x (suc j)) (valueAt (suc j) (entries (labelsOf x) (given file))) ≡ Read (fieldOf (a .content .cells) (suc j))) e
-    (entry-read l file (t .agreed .values) j i ∙ ap (λ (r : Record). Read (fieldOf (r .cells) (suc j))) (sym (t .content-is)))
+module _ (a : Answer) (file : List ℕ) (t : Taken a file) (m : isMarket (a .content .layout) ≡ true) where
+  abbrev lay : Layout
+  lay = layoutIn (t .message) (given (t .message) file)
+
+  is-market : lay ≡ Market
+  unfolding recordIn columnRecord recordOf
+  is-market = sym (ap (λ (r : Record). r .layout) (t .content-is)) ∙ market-is (a .content .layout) m
+
+  is-cb : t .message ≡ Cb
+  is-cb = sym (type-in (t .message) (given (t .message) file)) ∙ ap typeOf is-market
+
+  market-read : (j : ℕ) → j < sizeOf Market
+      → valueOf (kindAt Market (suc j)) (valueAt (suc j) (entries (labelsOf Market) (given Cb file))) ≡ Read (fieldOf (a .content .cells) (suc j))
+  unfolding recordIn entriesIn
+  market-read j h =
+      let i : j < sizeOf lay = subst (λ (x : Layout). j < sizeOf x) (sym is-market) h in
+      subst (λ (u : MessageType). valueOf (kindAt Market (suc j)) (valueAt (suc j) (entries (labelsOf Market) (given u file))) ≡ Read (fieldOf (a .content .cells) (suc j))) is-cb
+      (subst (λ (x : Layout). valueOf (kindAt x (suc j)) (valueAt (suc j) (entries (labelsOf x) (given (t .message) file))) ≡ Read (fieldOf (a .content .cells) (suc j))) is-market
+      (entry-read lay (given (t .message) file) (t .agreed .values) j i ∙ ap (λ (r : Record). Read (fieldOf (r .cells) (suc j))) (sym (t .content-is))))
 
 time-read : (w : Which) (a : Answer) (file : List ℕ) → Taken a file → isMarket (a .content .layout) ≡ true
-    → valueOf (kindAt Market (fieldNo w)) (valueAt (fieldNo w) (entries (labelsOf Market) (given file))) ≡ Read (fieldOf (a .content .cells) (fieldNo w))
+    → valueOf (kindAt Market (fieldNo w)) (valueAt (fieldNo w) (entries (labelsOf Market) (given Cb file))) ≡ Read (fieldOf (a .content .cells) (fieldNo w))
 unfolding fieldsOf market command technical
 time-read StartUp a file t m = market-read a file t m 12 (ltb-true _ _ refl)
 time-read Ramp a file t m = market-read a file t m 13 (ltb-true _ _ refl)
@@ -154,7 +169,7 @@ module _ (w : Which) (ca ioa : ℕ) (plan file sheet : List ℕ) where
       let n = eqb-true (answer .number) 0 (c .0) in
       let h = time-holds w file in
       let k : to ≤ length file = omega (arith, h .inside, c .4) in
-      let text : part from to file ≡ valueAt (fieldNo w) (entries (labelsOf Market) (given file)) = ap₂ (λ (a b : ℕ). part a b file) (sym (c .3)) (sym (c .4)) ∙ h .holds in
+      let text : part from to file ≡ valueAt (fieldNo w) (entries (labelsOf Market) (given Cb file)) = ap₂ (λ (a b : ℕ). part a b file) (sym (c .3)) (sym (c .4)) ∙ h .holds in
       let read = ap (valueOf (kindAt Market (fieldNo w))) text ∙ time-read w answer file (taken ca ioa plan file n) (c .1) in
       let some = filled-some w (part from to file) value read (c .2) in
       (n, read, omega (arith, some, length-part from to file k), k)

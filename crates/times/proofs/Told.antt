@@ -3,11 +3,11 @@ use Prim.Native.Nat.{ℕ, _≤_}
 use Rattle.value_ask.specs.Values.{isFilled}
 use Rattle.report_brief.specs.Brief.{unitOf}
 use Rattle.reader_fill.specs.Filled.{recordWith}
-use Rattle.layout.specs.Layouts.{isMarket, labelsOf}
+use Rattle.layout.specs.Layouts.{isMarket}
 use Rattle.layout.specs.Rows.{textAt}
 use Rattle.layout.specs.declared.Layout.{Layout}
 use Rattle.reader.proofs.Concluding.{concluded-no, concluded-yes}
-use Rattle.reader.specs.Messages.{given, layoutIn, columnRecord}
+use Rattle.reader.specs.Messages.{given, layoutIn, placesOf, columnRecord}
 use Rattle.reader.specs.Reader.{bodyColumn, recordIn, readOf}
 use Rattle.reader.specs.Refusals.{refused, accepted}
 use Rattle.reader.specs.Readings.{readingOf}
@@ -24,7 +24,6 @@ use Rattle.times_sheet.specs.declared.Which.the-variants.{StartUp, Ramp}
 use Rattle.times_sheet.specs.declared.Which.{Which}
 use Rattle.text.specs.Bytes.{part}
 use Rattle.text_lines.specs.Places.{spanAt}
-use Rattle.text_lines.specs.Spots.{placesIn}
 use Rattle.text_lines.specs.declared.Span.{Span}
 use Rattle.times.proofs.Fields.{time-holds}
 use Rattle.layout.proofs.Markets.{market-is}
@@ -74,7 +73,7 @@ module _ (w : Which) (ca ioa : ℕ) (plan file sheet : List ℕ) (x : Reading) (
     was-taken : Taken (readOf ca ioa plan file) file
     was-taken = taken ca ioa plan file (sym (ap (λ (a : Answer). a .number) answer-is))
 
-    body-as : body ≡ columnRecord (layoutIn (was-taken .message) (given file)) (bodyColumn (was-taken .message) file)
+    body-as : body ≡ columnRecord (layoutIn (was-taken .message) (given (was-taken .message) file)) (bodyColumn (was-taken .message) file)
     unfolding recordIn
     body-as = ap (λ (a : Answer). a .content) answer-is ∙ was-taken .content-is
 
@@ -89,7 +88,7 @@ module _ (w : Which) (ca ioa : ℕ) (plan file sheet : List ℕ) (x : Reading) (
         good-is =
             good
             ∙ ap (λ (t : List ℕ). isFor t sheet)
-            (unit ∙ sym (unit-is (x .layout) (layoutIn (was-taken .message) (given file)) column (bodyColumn (was-taken .message) file) (x .cells) (x .gradients) body-as (market-is (x .layout) (sym market ∙ yes₂)) (reads .readable yes) (was-taken .agreed .values)))
+            (unit ∙ sym (unit-is (x .layout) (layoutIn (was-taken .message) (given (was-taken .message) file)) column (bodyColumn (was-taken .message) file) (x .cells) (x .gradients) body-as (market-is (x .layout) (sym market ∙ yes₂)) (reads .readable yes) (was-taken .agreed .values)))
 
         market-yes : isMarket (x .layout) ≡ true
         market-yes = sym market ∙ yes₂
@@ -110,7 +109,7 @@ module _ (w : Which) (ca ioa : ℕ) (plan file sheet : List ℕ) (x : Reading) (
           place-is =
               ap (spanAt (x .places)) field
               ∙ ap (λ (ps : List Span). spanAt ps (fieldNo w))
-              (reads .places-are yes ∙ ap (λ (l : Layout). placesIn (labelsOf l) file) (market-is (x .layout) market-yes))
+              (reads .places-are yes ∙ ap (λ (l : Layout). placesOf l file) (market-is (x .layout) market-yes))
 
           pub in-file-told : f ≡ true → File (spanAt (x .places) k .from) (spanAt (x .places) k .to) ≡ time
           unfolding timeIn recordWith

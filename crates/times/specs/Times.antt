@@ -5,8 +5,9 @@ use Prim.Native.Nat.{ℕ, _≤_}
 use Rattle.value_ask.specs.Values.{isFilled}
 use Rattle.report_brief.specs.Brief.{unitOf}
 use Rattle.layout.specs.FieldNumbers.{startUpNo, rampNo}
-use Rattle.layout.specs.Layouts.{isMarket, labelsOf}
+use Rattle.layout.specs.Layouts.{isMarket}
 use Rattle.layout.specs.declared.Layout.the-variants.{Market}
+use Rattle.reader.specs.Messages.{placesOf}
 use Rattle.reader.specs.Reader.{readOf}
 use Rattle.reader.specs.declared.Answer.{Answer}
 use Rattle.record.specs.Records.{fieldOf}
@@ -17,7 +18,6 @@ use Rattle.times_sheet.specs.declared.Which.{Which}
 use Rattle.text.specs.Bytes.{part}
 use Rattle.text.specs.Said.{Said, said}
 use Rattle.text_lines.specs.Places.{spanAt}
-use Rattle.text_lines.specs.Spots.{placesIn}
 use Rattle.text_lines.specs.declared.Span.{Span}
 use Rattle.times.specs.declared.Refusal.{Refusal}
 use Rattle.times.specs.declared.Time.the-variants.{File, Sheet, Refused}
@@ -34,7 +34,7 @@ fieldNo Ramp = rampNo
 
 -- where its value stands in a file: the reader's place of that field
 abbrev pub timePlace : Which → List ℕ → Span
-timePlace w file = spanAt (placesIn (labelsOf Market) file) (fieldNo w)
+timePlace w file = spanAt (placesOf Market file) (fieldNo w)
 
 abbrev pub inFile : Span → Time
 inFile p = File (p .from) (p .to)

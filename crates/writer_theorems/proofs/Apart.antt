@@ -2,7 +2,7 @@
 -- Assumes nothing.
 use Prim.Native.Nat.{ℕ}
 use Rattle.layout.specs.Banners.{bannerOf}
-use Rattle.layout.specs.Layouts.{labelsOf, kindsOf}
+use Rattle.layout.specs.Layouts.{labelsOf, kindsOf, typeOf}
 use Rattle.layout.specs.declared.Layout.{Layout}
 use Rattle.layout.specs.declared.Layout.the-variants.{Market, Mfrr, Revocation, Generic, Exclusion, Limitation, Secondary, VoltVar, Rejection, Reserve}
 use Rattle.text_lines.specs.Entries.{entries, column}
@@ -53,7 +53,7 @@ written-tells l col = banner-tells l _
 -- ---- from the text to the record
 
 columnFrom : Layout → List ℕ → List (List ℕ)
-columnFrom l file = column 1 (labelsOf l) (entries (labelsOf l) (given file))
+columnFrom l file = column 1 (labelsOf l) (entries (labelsOf l) (given (typeOf l) file))
 
 recordFrom : Layout → List (List ℕ) → Record
 recordFrom l col = recordOf l col (goodOf (typed 1 (kindsOf l) col))

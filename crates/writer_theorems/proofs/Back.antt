@@ -1,5 +1,7 @@
 -- THEOREM A: a written file is read as the column that it was written from. It says nothing of kinds or records. Assumes nothing.
 use Prim.Native.Nat.{ℕ, suc}
+use Rattle.reader_accent.proofs.Table.{accents-good}
+use Rattle.reader_accent.specs.Accents.{accentsOf}
 use Rattle.reader_line.proofs.Labels.{own-place}
 use Rattle.layout.proofs.Labels.{labels-length, good-label}
 use Rattle.layout.specs.Banners.{bannerOf}
@@ -29,13 +31,13 @@ use native.Mathlib.Omega.{arith}
 
 -- what the reader makes of a file, up to the column of its values
 pub record ReadBack (l : Layout) (col : List (List ℕ)) (file : List ℕ) : Type 0 where
-  pub clean : allowedUpto file ≡ length file
+  pub clean : allowedUpto (accentsOf (typeOf l)) file ≡ length file
   pub is-framed : framed (texts file) ≡ true
   pub row-is : rowIn file ≡ rowOf l col
-  pub layout-is : layoutIn (typeOf l) (given file) ≡ l
-  pub none-twice : again [] (entries (labelsOf l) (given file)) ≡ none
-  pub none-missing : missing 1 (labelsOf l) (entries (labelsOf l) (given file)) ≡ 0
-  pub column-is : column 1 (labelsOf l) (entries (labelsOf l) (given file)) ≡ col
+  pub layout-is : layoutIn (typeOf l) (given (typeOf l) file) ≡ l
+  pub none-twice : again [] (entries (labelsOf l) (given (typeOf l) file)) ≡ none
+  pub none-missing : missing 1 (labelsOf l) (entries (labelsOf l) (given (typeOf l) file)) ≡ 0
+  pub column-is : column 1 (labelsOf l) (entries (labelsOf l) (given (typeOf l) file)) ≡ col
 
 -- ---- the labels of a layout
 
@@ -111,8 +113,8 @@ module _ (l : Layout) (col : List (List ℕ)) where
     texts-are : texts file ≡ map trim whole
     texts-are = ap texts as-lines ∙ lines-texts whole whole-plain
 
-    all-clean : allowedUpto file ≡ length file
-    all-clean = rw as-lines (lines-allowed whole whole-plain)
+    all-clean : allowedUpto (accentsOf (typeOf l)) file ≡ length file
+    all-clean = rw as-lines (lines-allowed whole whole-plain (accentsOf (typeOf l)))
 
     frame-is : framed (texts file) ≡ true
     frame-is = ap framed texts-are ∙ framed-is above row above-upper (row-tidy l col h) (row-no-sep l col)
@@ -121,15 +123,15 @@ module _ (l : Layout) (col : List (List ℕ)) where
     unfolding rowIn
     row-in = rw (texts-are, inside-is above row above-upper (row-tidy l col h) (row-no-sep l col))
 
-    given-is : given file ≡ paired (labelsOf l) col
+    given-is : given (typeOf l) file ≡ paired (labelsOf l) col
     unfolding given
     given-is =
-        ap (λ (ts : List (List ℕ)). params (outside ts)) texts-are
-        ∙ ap params (outside-is above row above-upper (row-tidy l col h) (row-no-sep l col))
-        ∙ heading-params l (paramLines (labelsOf l) col)
-        ∙ column-params (labelsOf l) col (all-good l) h
+        ap (λ (ts : List (List ℕ)). params (accentsOf (typeOf l)) (outside ts)) texts-are
+        ∙ ap (params (accentsOf (typeOf l))) (outside-is above row above-upper (row-tidy l col h) (row-no-sep l col))
+        ∙ heading-params (accentsOf (typeOf l)) l (paramLines (labelsOf l) col)
+        ∙ column-params (accentsOf (typeOf l)) (accents-good (typeOf l)) (labelsOf l) col (all-good l) h
 
-    entries-in : length col ≡ length (labelsOf l) → entries (labelsOf l) (given file) ≡ numbered 1 col
+    entries-in : length col ≡ length (labelsOf l) → entries (labelsOf l) (given (typeOf l) file) ≡ numbered 1 col
     entries-in m = ap (entries (labelsOf l)) given-is ∙ entries-are 1 (labelsOf l) (labelsOf l) col (omega arith) (all-placed l) m
 
 -- ---- the theorem

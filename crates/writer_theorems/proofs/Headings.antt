@@ -6,6 +6,7 @@ use Rattle.layout.specs.declared.Layout.the-variants.{Market, Mfrr, Revocation,
 use Rattle.text_lines.proofs.Params.{equals-trim}
 use Rattle.text_lines.specs.Lines.{lines, isSep, params}
 use Rattle.reader_theorems.proofs.Alike.{plain-line}
+use Rattle.text_lines.specs.Spellings.{Spelling}
 use Rattle.writer_theorems.proofs.Frame.{upper}
 use Rattle.text.proofs.Cuts.{same-true, all-weaker}
 use Rattle.text.proofs.Tests.{and-parts}
@@ -59,12 +60,12 @@ module _ (l : Layout) where
 
 -- ---- they say nothing
 
-silent-params : (ss us : List (List ℕ)) → all silent ss ≡ true → params (map trim (ss ++ us)) ≡ params (map trim us)
+silent-params : (sp : List Spelling) (ss us : List (List ℕ)) → all silent ss ≡ true → params sp (map trim (ss ++ us)) ≡ params sp (map trim us)
 unfolding all
-silent-params [] us h = refl
-silent-params (s ∷ ss) us h =
+silent-params sp [] us h = refl
+silent-params sp (s ∷ ss) us h =
     let p = and-parts (silent s) (all silent ss) h in
-    plain-line (trim s) (map trim (ss ++ us)) (equals-trim s ∙ not-true (any (is 61) s) (silent-parts s (p .0) .1)) ∙ silent-params ss us (p .1)
+    plain-line sp (trim s) (map trim (ss ++ us)) (equals-trim s ∙ not-true (any (is 61) s) (silent-parts s (p .0) .1)) ∙ silent-params sp ss us (p .1)
 
-pub heading-params : (l : Layout) (us : List (List ℕ)) → params (map trim (heading l ++ us)) ≡ params (map trim us)
-heading-params l us = silent-params (heading l) us (parts l .1)
+pub heading-params : (sp : List Spelling) (l : Layout) (us : List (List ℕ)) → params sp (map trim (heading l ++ us)) ≡ params sp (map trim us)
+heading-params sp l us = silent-params sp (heading l) us (parts l .1)

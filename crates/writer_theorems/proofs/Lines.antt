@@ -4,6 +4,7 @@ use Rattle.text_lines.specs.Lines.{texts, allowedUpto}
 use Rattle.reader_theorems.proofs.Alike.{Written, Lf, fileOf, isClear, textIn, texts-of, allowed-of}
 use Rattle.text.proofs.Tests.{and-parts}
 use Rattle.text.specs.Bytes.{all, isPlain, trim}
+use Rattle.text_lines.specs.Spellings.{Spelling}
 use Rattle.writer_form.specs.Written.{linesText}
 use lib.ListN.{length}
 use mathlib.Core.Bool.{true}
@@ -34,5 +35,5 @@ module _ (ss : List (List ℕ)) (h : all (all isPlain) ss ≡ true) where
   pub lines-texts : texts (linesText ss) ≡ map trim ss
   lines-texts = ap texts (as-file ss) ∙ texts-of (map fed ss) (all-clear ss h) ∙ map-map textIn fed ss
 
-  pub lines-allowed : allowedUpto (linesText ss) ≡ length (linesText ss)
-  lines-allowed = rw (as-file ss) (allowed-of (map fed ss) (all-clear ss h))
+  pub lines-allowed : (sp : List Spelling) → allowedUpto sp (linesText ss) ≡ length (linesText ss)
+  lines-allowed sp = rw (as-file ss) (allowed-of sp (map fed ss) (all-clear ss h))

@@ -11,6 +11,7 @@ use Rattle.value_name.specs.declared.MessageType.the-variants.{Cb, Rc, Mg, Eb, 
 use Rattle.plan.specs.Plans.{planOf, soughtOf}
 use Rattle.plan.specs.declared.Sought.{Sought}
 use Rattle.reader.proofs.Firsts.{NoneHolds, next, accepted-none, numbers}
+use Rattle.reader.proofs.Chosen.{type-in}
 use Rattle.reader.specs.Messages.{given, isKindOfCommand, layoutIn, valuesOf, columnRecord, goodOf}
 use Rattle.reader.specs.Reader.{bodyColumn, recordIn, messageOf, unitIn, planned, answerAt, readOf}
 use Rattle.reader.specs.Refusals.{accepted as taken}
@@ -31,25 +32,9 @@ use mathlib.Core.Path.{_≡_, refl, sym, ap, _∙_, subst}
 
 -- ---- a message
 
-two-layouts : (b : Bool) → typeOf (cond b Mfrr Market) ≡ Cb
-two-layouts true = refl
-two-layouts false = refl
-
-layout-type : (t : MessageType) (ps : List Param) → typeOf (layoutIn t ps) ≡ t
-unfolding layoutIn
-layout-type Cb ps = two-layouts (any isKindOfCommand ps)
-layout-type Rc ps = refl
-layout-type Mg ps = refl
-layout-type Eb ps = refl
-layout-type Lb ps = refl
-layout-type Sr ps = refl
-layout-type Vq ps = refl
-layout-type Ri ps = refl
-layout-type Qr ps = refl
-
 module _ {t : MessageType} {unit file : List ℕ} (a : Accepted t unit file) where
   abbrev lay : Layout
-  lay = layoutIn t (given file)
+  lay = layoutIn t (given t file)
 
   abbrev col : List (List ℕ)
   col = bodyColumn t file
@@ -71,7 +56,7 @@ module _ {t : MessageType} {unit file : List ℕ} (a : Accepted t unit file) whe
   written-message : messageOf t unit (fileOf body) ≡ taken body
   unfolding recordOf
   written-message =
-      subst (λ (x : MessageType). messageOf x unit (fileOf body) ≡ taken body) (layout-type t (given file)) (message-back body-as unit unit-is)
+      subst (λ (x : MessageType). messageOf x unit (fileOf body) ≡ taken body) (type-in t (given t file)) (message-back body-as unit unit-is)
 
   body-read : recordIn t file ≡ body
   unfolding recordIn columnRecord

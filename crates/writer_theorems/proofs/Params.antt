@@ -3,7 +3,9 @@ use Prim.Native.Nat.{ℕ, zero, suc, _-_, _<_}
 use Rattle.layout_label.specs.Labels.{padded}
 use Rattle.layout.proofs.Labels.{GoodLabel}
 use Rattle.text_lines.proofs.Params.{trim-front-blanks, head-param, equals-trim, sep-equals}
-use Rattle.text_lines.specs.Lines.{Param, param, paramOf, params}
+use Rattle.text_lines.proofs.Spelt.{allGood, respell-plain}
+use Rattle.text_lines.specs.Lines.{Param, param, paramOf, params, paramIn, respelt}
+use Rattle.text_lines.specs.Spellings.{Spelling}
 use Rattle.writer_theorems.proofs.Entries.{paired}
 use Rattle.writer_theorems.proofs.Frame.{noSep, upper}
 use Rattle.text.proofs.Cuts.{any-seam, all-append}
@@ -63,6 +65,12 @@ module _ (label s : List ℕ) (g : GoodLabel label) (h : tidy s ≡ true) where
       ∙ head-param label pad (afterEquals s) (tidy-parts label (g .is-tidy) .1) (g .no-equals) (all-replicate isBlank 32 refl (36 - length label))
       ∙ ap (λ (v : List ℕ). some (param label v)) (after-trim s ∙ tidy-parts s h .1)
 
+  -- its label has no accent
+  line-param-in : (sp : List Spelling) → allGood sp ≡ true → paramIn sp (trim (paramLine label s)) ≡ some (param label s)
+  unfolding paramIn
+  line-param-in sp good =
+      ap (respelt sp) line-param ∙ ap (λ (x : List ℕ). some (param x s)) (respell-plain sp label good (tidy-parts label (g .is-tidy) .0))
+
 -- ---- the lines of a column
 
 abbrev pub Good : List (List ℕ) → Type 0
@@ -76,10 +84,12 @@ column-upper (l ∷ ls) (s ∷ col) g h =
     let p = and-parts (tidy s) (all tidy col) h in
     rw (line-upper l s (g 0 (omega arith)) (p .0)) (column-upper ls col (λ j b. g (suc j) (omega arith)) (p .1))
 
-pub column-params : (ls col : List (List ℕ)) → Good ls → all tidy col ≡ true → params (map trim (paramLines ls col)) ≡ paired ls col
+pub column-params : (sp : List Spelling) → allGood sp ≡ true → (ls col : List (List ℕ)) → Good ls → all tidy col ≡ true
+    → params sp (map trim (paramLines ls col)) ≡ paired ls col
 unfolding paramLines paired params sift all
-column-params [] col g h = refl
-column-params (l ∷ ls) [] g h = refl
-column-params (l ∷ ls) (s ∷ col) g h =
+column-params sp good [] col g h = refl
+column-params sp good (l ∷ ls) [] g h = refl
+column-params sp good (l ∷ ls) (s ∷ col) g h =
     let p = and-parts (tidy s) (all tidy col) h in
-    rw (line-param l s (g 0 (omega arith)) (p .0)) (ap (λ (ps : List Param). param l s ∷ ps) (column-params ls col (λ j b. g (suc j) (omega arith)) (p .1)))
+    rw (line-param-in l s (g 0 (omega arith)) (p .0) sp good)
+    (ap (λ (ps : List Param). param l s ∷ ps) (column-params sp good ls col (λ j b. g (suc j) (omega arith)) (p .1)))

@@ -3,6 +3,7 @@ use Prim.Native.Nat.{ℕ, _≤_}
 use Rattle.layout.specs.Layouts.{labelsOf, sizeOf, typeOf}
 use Rattle.layout.specs.Rows.{textAt, rowOf}
 use Rattle.layout.specs.declared.Layout.{Layout}
+use Rattle.reader_accent.specs.Accents.{accentsOf}
 use Rattle.text_lines.specs.Entries.{again, missing}
 use Rattle.text_lines.specs.Lines.{texts, framed, allowedUpto}
 use Rattle.value_name.specs.declared.MessageType.{MessageType}
@@ -77,15 +78,15 @@ module _ {r : Record} {vs : List Value} (v : ValidAs r vs) where
       let b = file-back in
       let f = fileOf r in
       let size : not (within 1 8192 (length f)) ≡ false = rw (le-leb 1 (length f) file-some, le-leb (length f) 8192 file-small) in
-      let bytes : ltb (allowedUpto f) (length f) ≡ false = rw (b .clean) (le-ltb (length f) (length f) (omega arith)) in
+      let bytes : ltb (allowedUpto (accentsOf type) f) (length f) ≡ false = rw (b .clean) (le-ltb (length f) (length f) (omega arith)) in
       let frame : not (framed (texts f)) ≡ false = rw (b .is-framed) in
       let once : isThere (again [] (entriesIn type f)) ≡ false = rw (b .layout-is, b .none-twice) in
-      let complete : ltb 0 (missing 1 (labelsOf (layoutIn type (given f))) (entriesIn type f)) ≡ false = rw (b .layout-is, b .none-missing) in
-      let read : isBad (valuesOf (layoutIn type (given f)) (bodyColumn type f)) ≡ false = rw (b .layout-is, b .column-is, typed-back 1 (v .hold)) in
-      let unbroken : ltb 0 (brokenIn (columnRecord (layoutIn type (given f)) (bodyColumn type f))) ≡ false =
+      let complete : ltb 0 (missing 1 (labelsOf (layoutIn type (given type f))) (entriesIn type f)) ≡ false = rw (b .layout-is, b .none-missing) in
+      let read : isBad (valuesOf (layoutIn type (given type f)) (bodyColumn type f)) ≡ false = rw (b .layout-is, b .column-is, typed-back 1 (v .hold)) in
+      let unbroken : ltb 0 (brokenIn (columnRecord (layoutIn type (given type f)) (bodyColumn type f))) ≡ false =
       rw (b .layout-is, b .column-is, body-of, v .unbroken) in
       let named : not (same unit (textAt (bodyColumn type f) 2)) ≡ false = rw (b .layout-is, b .column-is, u, same-refl (textAt col 2)) in
-      let summed : not (same (rowIn f) (rowOf (layoutIn type (given f)) (bodyColumn type f))) ≡ false =
+      let summed : not (same (rowIn f) (rowOf (layoutIn type (given type f)) (bodyColumn type f))) ≡ false =
       rw (b .layout-is, b .row-is, b .column-is, same-refl (rowOf lay col)) in
       next size (next bytes (next frame (next once (next complete (next read (next unbroken (next named (next summed none))))))))
 
