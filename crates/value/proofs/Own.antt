@@ -1,5 +1,5 @@
--- THE LAW: a value is read from its own text, where what is a number stands in its shortest form and a word with its space. One line for each shape, then once for all
--- kinds. Assumes nothing.
+-- THE LAW: a value is read from its own text, where what is a number stands in its shortest form and a word with its space. One line for each
+-- shape, then once for all kinds. Assumes nothing.
 use Prim.Native.Nat.{ℕ, _≤_}
 use Rattle.value_date.proofs.Own.{date-own}
 use Rattle.value_date.specs.Date.{dateOf}

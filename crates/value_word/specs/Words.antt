@@ -1,5 +1,6 @@
 -- The constants of the layouts. Document 01, "Values": constants as printed in the layout; `Tipo Comando` is `SA` or `DA`; `V MAX` and `V MIN`
--- with the space, which their two settings may leave out (document 02, A1). They are numbered from 1, once for all layouts, so that what one field may hold is a run of them. 0 is no word.
+-- with the space, which may be left out where they are read (document 02, A1). They are numbered from 1, once for all layouts, so that what one
+-- field may hold is a run of them. 0 is no word.
 use Prim.Native.Nat.{ℕ, zero, suc, _-_}
 use Rattle.text.specs.Bytes.{bytes, part, same}
 use Rattle.text.specs.Words.{wordOf}

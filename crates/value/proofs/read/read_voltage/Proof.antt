@@ -33,7 +33,9 @@ returns-2 : tie.Need-returns-2
 returns-2 c =
     let at-volt = c .before in
     let at-word = at-volt .before in
-    (c .worded .ensures ∙ ap gotWord (at-volt .read-volt .ensures)) ∙ is-word voltage _ _ _ (at-word .enum-told .given .1) (at-word .before .before .read .ensures)
+    c .worded .ensures
+    ∙ ap gotWord (at-volt .read-volt .ensures)
+    ∙ is-word voltage _ _ _ (at-word .enum-told .given .1) (at-word .before .before .read .ensures)
 
 pub read-voltage-spec : {M : Type 1} → statement M
 read-voltage-spec =
