@@ -61,6 +61,7 @@ pub record Calls : Type 0 where
   pub value-name-unit-is-unit : Answers value_name.unit.is_unit.ended value_name.unit.is_unit.Reads.Asked value_name.unit.is_unit.Reads.Learnt
   pub value-name-code : Answers value_name.code.ended value_name.code.Reads.Asked value_name.code.Reads.Learnt
   pub value-word-read : Answers value_word.read.ended value_word.read.Reads.Asked value_word.read.Reads.Learnt
+  pub value-word-read-volt : Answers value_word.read_volt.ended value_word.read_volt.Reads.Asked value_word.read_volt.Reads.Learnt
   pub value-list-few-read-profile : Answers value_list.few.read_profile.ended value_list.few.read_profile.Reads.Asked value_list.few.read_profile.Reads.Learnt
   pub value-list-few-read-bands : Answers value_list.few.read_bands.ended value_list.few.read_bands.Reads.Asked value_list.few.read_bands.Reads.Learnt
   pub value-list-triples-read : Answers value_list.triples.read.ended value_list.triples.read.Reads.Asked value_list.triples.read.Reads.Learnt
@@ -99,6 +100,7 @@ pub record Meets : Type 2 where
   pub value-name-unit-is-unit : (M : Type 1) → value_name.unit.is_unit.Statement.statement M
   pub value-name-code : (M : Type 1) → value_name.code.Statement.statement M
   pub value-word-read : (M : Type 1) → value_word.read.Statement.statement M
+  pub value-word-read-volt : (M : Type 1) → value_word.read_volt.Statement.statement M
   pub value-list-few-read-profile : (M : Type 1) → value_list.few.read_profile.Statement.statement M
   pub value-list-few-read-bands : (M : Type 1) → value_list.few.read_bands.Statement.statement M
   pub value-list-triples-read : (M : Type 1) → value_list.triples.read.Statement.statement M

@@ -63,6 +63,7 @@ pub record Within : Type 0 where
   pub text-words-put-word : OneOutput text.words.put_word.ended (λ κs e. e .0 .now) text.words.put_word.Reads.Learnt
   pub text-words-put-half : OneOutput text.words.put_half.ended (λ κs e. e .0 .now) text.words.put_half.Reads.Learnt
   -- value_word
+  pub value-word-is-joined : Answers value_word.is_joined.ended value_word.is_joined.Reads.Asked value_word.is_joined.Reads.Learnt
   pub value-word-put : OneOutput value_word.put.ended (λ κs e. e .0 .now) value_word.put.Reads.Learnt
   -- value_date
   pub value-date-put : OneOutput value_date.put.ended (λ κs e. e .0 .now) value_date.put.Reads.Learnt

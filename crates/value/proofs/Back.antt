@@ -25,7 +25,10 @@ use Rattle.value.specs.declared.Shape.{Shape}
 use Rattle.value.specs.declared.Value.{Value}
 use Rattle.value.specs.declared.Value.the-variants.{Unit}
 use Rattle.value_word.proofs.RoundTrip.{word-back, word-some}
-use Rattle.value_word.specs.Words.{commandWords, modeWords, settingWords, words, word, wordIn}
+use Rattle.value_word.proofs.Volts.{volt-back}
+use Rattle.value_word.specs.Words.{commandWords, modeWords, settingWords, words, word, wordIn, voltIn}
+use Rattle.value_word.specs.declared.Word.{Word as WordRead}
+use Rattle.value_word.specs.declared.Word.the-variants.{Is as IsText}
 use borrow.Author.Tests.{le-leb, ne-eqb}
 use lib.IntN.{ℤ}
 use lib.ListN.{length, take}
@@ -60,11 +63,8 @@ module _ (t : MessageType) (r : Rooms) where
   kept-length most n room k = length-take-le n room (k .inside)
 
   -- a word beside a number of its own quantity
-  word-setting : (make : ℤ → Value) (first last w : ℕ) → 1 ≤ first → first ≤ w → w ≤ last → last ≤ 31
-      → settingFrom make (numberOf (word w)) (gotWord (wordIn first last (word w))) ≡ Read (Value.Word w)
-  word-setting make first last w a b c d =
-      ap (λ (n : Number). settingFrom make n (gotWord (wordIn first last (word w)))) (word-no-number w)
-      ∙ ap gotWord (word-back first last w a b c d)
+  word-setting : (make : ℤ → Value) (w : ℕ) (d : WordRead) → d ≡ IsText w → settingFrom make (numberOf (word w)) (gotWord d) ≡ Read (Value.Word w)
+  word-setting make w d e = ap (λ (n : Number). settingFrom make n (gotWord d)) (word-no-number w) ∙ ap gotWord e
 
   pub back : (s : Shape) (v : Value) → Fits t r s v → shapeOf s (valueText t r v) ≡ Read v
   unfolding shapeOf valueText
@@ -79,13 +79,13 @@ module _ (t : MessageType) (r : Rooms) where
   back s v (profile {x} f) = ap listFrom (numbers-back 4 4 x (omega arith) (omega arith) f)
   back s v (bands {x} f) = ap listFrom (numbers-back 2 2 x (omega arith) (omega arith) f)
   back s v (triples {n} f) = ap triplesFrom (gradients-back (r .gradients) n f)
-  back s v (in-kv {v = x} h) = ap (λ (n : Number). settingFrom voltage n (gotWord (wordIn 23 24 (numberText x)))) (number-back x h)
-  back s v (kv-word {w} a b) = word-setting voltage 23 24 w (omega arith) a b (omega arith)
-  back s v (in-rat {v = x} h) = ap (λ (n : Number). settingFrom regulator n (gotWord (wordIn 23 24 (numberText x)))) (number-back x h)
-  back s v (rat-word {w} a b) = word-setting regulator 23 24 w (omega arith) a b (omega arith)
+  back s v (in-kv {v = x} h) = ap (λ (n : Number). settingFrom voltage n (gotWord (voltIn (numberText x)))) (number-back x h)
+  back s v (kv-word {w} a b) = word-setting voltage w _ (volt-back w a b)
+  back s v (in-rat {v = x} h) = ap (λ (n : Number). settingFrom regulator n (gotWord (voltIn (numberText x)))) (number-back x h)
+  back s v (rat-word {w} a b) = word-setting regulator w _ (volt-back w a b)
   back s v (in-change {v = x} h) = ap (λ (n : Number). settingFrom change n Bad) (number-back x h)
   back s v (in-mvar {v = x} h) = ap (λ (n : Number). settingFrom reactive n (gotWord (wordIn 25 27 (numberText x)))) (number-back x h)
-  back s v (mvar-word {w} a b) = word-setting reactive 25 27 w (omega arith) a b (omega arith)
+  back s v (mvar-word {w} a b) = word-setting reactive w _ (word-back 25 27 w (omega arith) a b (omega arith))
 
   -- it is never empty, so it is not taken for a blank
   pub not-empty : (s : Shape) (v : Value) → Fits t r s v → 1 ≤ length (valueText t r v)

@@ -36,7 +36,8 @@ use Rattle.value.specs.declared.Shape.the-variants.{IsId, IsUnit, IsWhen
 use Rattle.value.specs.declared.Value.{Value}
 use Rattle.value.specs.declared.Value.the-variants.{Id, When, Amount, Count, Reason, Note, Word, List as Numbers, Triples, Unit as UnitOf}
 use Rattle.value_word.proofs.RoundTrip.{word-range}
-use Rattle.value_word.specs.Words.{wordIn}
+use Rattle.value_word.proofs.Volts.{volt-range}
+use Rattle.value_word.specs.Words.{wordIn, voltIn}
 use Rattle.value_word.specs.declared.Word.{Word as WordRead}
 use Rattle.value_word.specs.declared.Word.the-variants.{Is as IsText, Not as NoText}
 use borrow.Author.Tests.{leb-true, le-leb, lt-leb, eq-eqb}
@@ -163,11 +164,11 @@ module _ (t : MessageType) (r : Rooms) (b : Bool) (s : List ℕ) (v : Value) (d 
       from-test (Fits t r IsTriples) v (gradientsIn s .good) (Triples (gradientsIn s .list .count)) e
       (λ q. triples (subst (λ (l : List Triple). ValidGradients l (gradientsIn s .list .count)) (sym h) (gradients-valid s q)))
   shape-fits IsVoltage e h =
-      from-setting (Fits t r IsVoltage) v voltage (numberOf s) (gotWord (wordIn 23 24 s)) e (λ n q. in-kv (number-range s n q))
-      (λ o. from-word (Fits t r IsVoltage) v (wordIn 23 24 s) o (λ w q. let z = word-range 23 24 s w q in kv-word (z .0) (z .1)))
+      from-setting (Fits t r IsVoltage) v voltage (numberOf s) (gotWord (voltIn s)) e (λ n q. in-kv (number-range s n q))
+      (λ o. from-word (Fits t r IsVoltage) v (voltIn s) o (λ w q. let z = volt-range s w q in kv-word (z .0) (z .1)))
   shape-fits IsRegulator e h =
-      from-setting (Fits t r IsRegulator) v regulator (numberOf s) (gotWord (wordIn 23 24 s)) e (λ n q. in-rat (number-range s n q))
-      (λ o. from-word (Fits t r IsRegulator) v (wordIn 23 24 s) o (λ w q. let z = word-range 23 24 s w q in rat-word (z .0) (z .1)))
+      from-setting (Fits t r IsRegulator) v regulator (numberOf s) (gotWord (voltIn s)) e (λ n q. in-rat (number-range s n q))
+      (λ o. from-word (Fits t r IsRegulator) v (voltIn s) o (λ w q. let z = volt-range s w q in rat-word (z .0) (z .1)))
   shape-fits IsChange e h =
       from-setting (Fits t r IsChange) v change (numberOf s) Bad e (λ n q. in-change (number-range s n q)) (λ o. absurd (not-read o))
   shape-fits IsReactive e h =

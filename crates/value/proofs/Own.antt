@@ -1,5 +1,5 @@
--- THE LAW: a value is read from its own text, where what is a number stands in its shortest form. One line for each shape, then once for all
--- kinds. Assumes nothing.
+-- THE LAW: a value is read from its own text, where what is a number stands in its shortest form and a word with its space. One line for each
+-- shape, then once for all kinds. Assumes nothing.
 use Prim.Native.Nat.{ℕ, _≤_}
 use Rattle.value_date.proofs.Own.{date-own}
 use Rattle.value_date.specs.Date.{dateOf}
@@ -22,7 +22,7 @@ use Rattle.text.specs.declared.digits.Digits.{Digits}
 use Rattle.text.specs.declared.digits.Digits.the-variants.{Are, Not}
 use Rattle.value.specs.Kinds.{idFrom, countFrom, dateFrom, amountFrom, gotWord, listFrom, settingFrom, shapeOf, valueOf}
 use Rattle.value.specs.Kinds.{voltage, regulator, change, reactive}
-use Rattle.value.specs.Texts.{Rooms, valueText, isNumeric, isWritten}
+use Rattle.value.specs.Texts.{Rooms, valueText, isWritten}
 use Rattle.value.specs.declared.Got.{Got}
 use Rattle.value.specs.declared.Got.the-variants.{Read, Bad}
 use Rattle.value.specs.declared.Kind.{Kind}
@@ -32,10 +32,11 @@ use Rattle.value.specs.declared.Shape.the-variants.{IsProfile, IsBands, 
 use Rattle.value.specs.declared.Value.{Value}
 use Rattle.value.specs.declared.Value.the-variants.{Blank, Id, When, Amount, Count, Reason, Note, List as Numbers, Triples}
 use Rattle.value_word.proofs.RoundTrip.{word-is}
-use Rattle.value_word.specs.Words.{wordIn}
+use Rattle.value_word.proofs.Volts.{volt-is}
+use Rattle.value_word.specs.Words.{wordIn, voltIn, isJoined}
 use Rattle.value_word.specs.declared.Word.{Word as WordRead}
 use Rattle.value_word.specs.declared.Word.the-variants.{Is as IsText, Not as NoText}
-use borrow.Author.Tests.{eqb-true}
+use borrow.Author.Tests.{eqb-true, not-true}
 use lib.Dec.{eqb, leb, lit≤}
 use lib.IntN.{ℤ}
 use lib.ListN.{length, take}
@@ -97,11 +98,16 @@ module _ (t : MessageType) (r : Rooms) (s : List ℕ) (v : Value) where
   word-own first last (IsText w) f e = let i : v ≡ Value.Word w = cc in rw i (word-is first last s w f)
   word-own first last NoText f e = let z : _≡_ {A = ℕ} 0 1 = cc in absurd (omega arith)
 
-  -- ---- numbers, in their shortest form
+  -- ---- numbers, in their shortest form, and settings with the space
 
   module _ (short : isWritten v s ≡ true) where
+    volt-own : (w : WordRead) → voltIn s ≡ w → gotWord w ≡ Read v → valueText t r v ≡ s
+    unfolding valueText isWritten
+    volt-own (IsText w) f e = let i : v ≡ Value.Word w = cc in rw i (volt-is s w (not-true (isJoined s) (rw i at short)) f)
+    volt-own NoText f e = let z : _≡_ {A = ℕ} 0 1 = cc in absurd (omega arith)
+
     amount-own : (n : Number) → numberOf s ≡ n → amountFrom n ≡ Read v → valueText t r v ≡ s
-    unfolding valueText isWritten isNumeric
+    unfolding valueText isWritten
     amount-own (IsNumber n) f e = let i : v ≡ Amount n = cc in rw i (number-own s n f (rw i at short))
     amount-own NoNumber f e = let z : _≡_ {A = ℕ} 0 1 = cc in absurd (omega arith)
 
@@ -115,13 +121,13 @@ module _ (t : MessageType) (r : Rooms) (s : List ℕ) (v : Value) where
     setting-own make other NoNumber shown written else f e = else e
 
     list-own : (least most : ℕ) (l : Listed) → most ≤ 4 → numbersIn 59 least most s ≡ l → listFrom l ≡ Read v → valueText t r v ≡ s
-    unfolding valueText isWritten isNumeric
+    unfolding valueText isWritten
     list-own least most (AreNumbers x) k f e = let i : v ≡ Numbers x = cc in rw i (numbers-own least most s x k f (rw i at short))
     list-own least most NoNumbers k f e = let z : _≡_ {A = ℕ} 0 1 = cc in absurd (omega arith)
 
     triples-own : (test : Bool) → gradientsIn s .good ≡ test → r .gradients ≡ gradientsIn s .list .values
         → cond test (Read (Triples (gradientsIn s .list .count))) Bad ≡ Read v → valueText t r v ≡ s
-    unfolding valueText isWritten isNumeric
+    unfolding valueText isWritten
     triples-own true f b e =
         let n = gradientsIn s .list .count in
         let i : v ≡ Triples n = cc in
@@ -132,7 +138,7 @@ module _ (t : MessageType) (r : Rooms) (s : List ℕ) (v : Value) where
 
 module _ (t : MessageType) (r : Rooms) where
   shape-own : (k : Shape) (s : List ℕ) (v : Value) → Beside t r k s → shapeOf k s ≡ Read v → isWritten v s ≡ true → valueText t r v ≡ s
-  unfolding shapeOf valueText isWritten isNumeric
+  unfolding shapeOf valueText isWritten
   shape-own (IsId u) s v b e w = id-own t r s v u (identifierOf u s) b refl e
   shape-own IsUnit s v b e w = text-own t r s v Value.Unit (r .unit) (isUnit s) (λ n. refl) b e
   shape-own IsWhen s v b e w = when-own t r s v (dateOf s) refl e
@@ -145,9 +151,9 @@ module _ (t : MessageType) (r : Rooms) where
   shape-own IsBands s v b e w = list-own t r s v w 2 2 (numbersIn 59 2 2 s) (lit≤ tt) refl e
   shape-own IsTriples s v b e w = triples-own t r s v w (gradientsIn s .good) refl b e
   shape-own IsVoltage s v b e w =
-      setting-own t r s v w voltage _ (numberOf s) (λ n. refl) (λ n. refl) (word-own t r s v 23 24 (wordIn 23 24 s) refl) refl e
+      setting-own t r s v w voltage _ (numberOf s) (λ n. refl) (λ n. refl) (volt-own t r s v w (voltIn s) refl) refl e
   shape-own IsRegulator s v b e w =
-      setting-own t r s v w regulator _ (numberOf s) (λ n. refl) (λ n. refl) (word-own t r s v 23 24 (wordIn 23 24 s) refl) refl e
+      setting-own t r s v w regulator _ (numberOf s) (λ n. refl) (λ n. refl) (volt-own t r s v w (voltIn s) refl) refl e
   shape-own IsChange s v b e w =
       setting-own t r s v w change Bad (numberOf s) (λ n. refl) (λ n. refl) (λ x. let z : _≡_ {A = ℕ} 0 1 = cc in absurd (omega arith)) refl e
   shape-own IsReactive s v b e w =

@@ -20,8 +20,8 @@ use Rattle.value.specs.declared.Shape.{Shape}
 use Rattle.value.specs.declared.Shape.the-variants.{IsId, IsUnit, IsWhen, IsAmount, IsCount, IsReason, IsNote, IsWord, IsProfile, IsBands, IsTriples, IsVoltage, IsRegulator, IsChange, IsReactive}
 use Rattle.value.specs.declared.Value.{Value}
 use Rattle.value.specs.declared.Value.the-variants.{Blank, Id, Unit, When, Amount, Count, Reason, Note, Word, List as Numbers, Triples, Voltage, Regulator, Change, Reactive}
-use Rattle.value_word.specs.Names.{wVMax, wVMin, wQZero, wMaxSottoeccitazione}
-use Rattle.value_word.specs.Words.{wordIn}
+use Rattle.value_word.specs.Names.{wQZero, wMaxSottoeccitazione}
+use Rattle.value_word.specs.Words.{wordIn, voltIn}
 use Rattle.value_word.specs.declared.Word.{Word as WordRead}
 use Rattle.value_word.specs.declared.Word.the-variants.{Is as IsText, Not as NoText}
 use lib.Dec.{eqb, leb}
@@ -96,8 +96,8 @@ shapeOf (IsWord first last) s = gotWord (wordIn first last s)
 shapeOf IsProfile s = listFrom (profileOf s)
 shapeOf IsBands s = listFrom (bandsOf s)
 shapeOf IsTriples s = triplesFrom (gradientsIn s)
-shapeOf IsVoltage s = settingFrom voltage (numberOf s) (gotWord (wordIn wVMax wVMin s))
-shapeOf IsRegulator s = settingFrom regulator (numberOf s) (gotWord (wordIn wVMax wVMin s))
+shapeOf IsVoltage s = settingFrom voltage (numberOf s) (gotWord (voltIn s))
+shapeOf IsRegulator s = settingFrom regulator (numberOf s) (gotWord (voltIn s))
 shapeOf IsChange s = settingFrom change (numberOf s) Bad
 shapeOf IsReactive s = settingFrom reactive (numberOf s) (gotWord (wordIn wQZero wMaxSottoeccitazione s))
 

@@ -1,4 +1,4 @@
--- The text of a value. Document 01, "Written form": numbers in shortest form, lists without blanks.
+-- The text of a value. Document 01, "Written form": numbers in shortest form, lists without blanks. Document 02, A1: the writer keeps its spelling.
 use Prim.Native.Nat.{ℕ}
 use Rattle.value_date.specs.Date.{dateText}
 use Rattle.value_list.specs.Forms.{numbersText, gradientsText}
@@ -8,11 +8,11 @@ use Rattle.value_name.specs.declared.MessageType.{MessageType}
 use Rattle.value_number.specs.Number.{areShort, numberText}
 use Rattle.value.specs.declared.Value.{Value}
 use Rattle.value.specs.declared.Value.the-variants.{Blank, Id, Unit, When, Amount, Count, Reason, Note, Word, List as Numbers, Triples, Voltage, Regulator, Change, Reactive}
-use Rattle.value_word.specs.Words.{word}
+use Rattle.value_word.specs.Words.{word, isJoined}
 use denote.Ref.{RefT}
 use denote.Triple.Both.{Both}
 use lib.ListN.{take}
-use mathlib.Core.Bool.{Bool, true, false, not, _||_}
+use mathlib.Core.Bool.{Bool, true, not}
 use mathlib.Core.List.{List, []}
 
 -- the rooms of a record in which texts and triples stand; a value says how much of its room is used
@@ -49,24 +49,21 @@ valueText t r (Reactive v) = numberText (v .0)
 
 -- ---- a text that is written already
 
--- the values that are numbers: their text may have a shorter form
-unfoldable pub isNumeric : Value → Bool
-isNumeric Blank = false
-isNumeric (Id n) = false
-isNumeric (Unit n) = false
-isNumeric (When d) = false
-isNumeric (Amount v) = true
-isNumeric (Count n) = false
-isNumeric (Reason n) = false
-isNumeric (Note n) = false
-isNumeric (Word w) = false
-isNumeric (Numbers x) = true
-isNumeric (Triples n) = true
-isNumeric (Voltage v) = true
-isNumeric (Regulator v) = true
-isNumeric (Change v) = true
-isNumeric (Reactive v) = true
-
--- whether the text that a value was read from is the value's own text: what is no number stands as it is written, and a number in its shortest form
+-- whether the text that a value was read from is the value's own text: a number stands in its shortest form, a word with its space, and what is
+-- neither stands as it is written
 unfoldable pub isWritten : Value → List ℕ → Bool
-isWritten v s = not (isNumeric v) || areShort s
+isWritten Blank s = true
+isWritten (Id n) s = true
+isWritten (Unit n) s = true
+isWritten (When d) s = true
+isWritten (Amount v) s = areShort s
+isWritten (Count n) s = true
+isWritten (Reason n) s = true
+isWritten (Note n) s = true
+isWritten (Word w) s = not (isJoined s)
+isWritten (Numbers x) s = areShort s
+isWritten (Triples n) s = areShort s
+isWritten (Voltage v) s = areShort s
+isWritten (Regulator v) s = areShort s
+isWritten (Change v) s = areShort s
+isWritten (Reactive v) s = areShort s

@@ -24,8 +24,8 @@ ghost use Rattle.value_list.specs.Forms.{gradientsIn};
 ghost use Rattle.value_name.specs.Names.{identifierOf, sequenceOf};
 ghost use Rattle.value_number.specs.Number.{numberOf};
 ghost use Rattle.value.specs.Kinds.{idFrom, countFrom, dateFrom, amountFrom, gotWord, listFrom, triplesFrom, settingFrom, voltage, regulator, change, reactive, shapeOf, valueOf};
-ghost use Rattle.value_word.specs.Names.{wVMax, wVMin, wQZero, wMaxSottoeccitazione};
-ghost use Rattle.value_word.specs.Words.{wordIn};
+ghost use Rattle.value_word.specs.Names.{wQZero, wMaxSottoeccitazione};
+ghost use Rattle.value_word.specs.Words.{wordIn, voltIn};
 ghost use mathlib.Core.Path.{_≡_};
 
 fn read_id(t: MessageType, s: &[u8]) -> Got
@@ -64,13 +64,19 @@ fn read_amount(s: &[u8]) -> Got
     }
 }
 
+fn worded(w: Word) -> Got
+    ensures { λ r. ⌜ r ≡ gotWord w ⌝ }
+{
+    match w {
+        Word::Is(n) => Got::Read(Value::Word(n)),
+        Word::Not => Got::Bad,
+    }
+}
+
 fn read_word(first: u8, last: u8, s: &[u8]) -> Got
     ensures { λ r. ⌜ r ≡ gotWord (wordIn first last (now (s .entry))) ⌝ }
 {
-    match value_word::read(first, last, s) {
-        Word::Is(w) => Got::Read(Value::Word(w)),
-        Word::Not => Got::Bad,
-    }
+    worded(value_word::read(first, last, s))
 }
 
 fn listed(l: Listed) -> Got
@@ -95,23 +101,23 @@ fn read_triples(s: &[u8]) -> Got
     }
 }
 
-// `Impostazione Sart/Report`: kV, `V MAX` or `V MIN`.
+// `Impostazione Sart/Report`: kV, `V MAX` or `V MIN`, the space left out or not.
 fn read_voltage(s: &[u8]) -> Got
-    ensures { λ r. ⌜ r ≡ settingFrom voltage (numberOf (now (s .entry))) (gotWord (wordIn wVMax wVMin (now (s .entry)))) ⌝ }
+    ensures { λ r. ⌜ r ≡ settingFrom voltage (numberOf (now (s .entry))) (gotWord (voltIn (now (s .entry)))) ⌝ }
 {
     match value_number::read(s) {
         Number::Is(n) => Got::Read(Value::Voltage(Kv(n))),
-        Number::Bad => read_word(names::V_MAX, names::V_MIN, s),
+        Number::Bad => worded(value_word::read_volt(s)),
     }
 }
 
-// `Impostazione RAT`: per cent of the RAT, `V MAX` or `V MIN`.
+// `Impostazione RAT`: per cent of the RAT, `V MAX` or `V MIN`, the space left out or not.
 fn read_regulator(s: &[u8]) -> Got
-    ensures { λ r. ⌜ r ≡ settingFrom regulator (numberOf (now (s .entry))) (gotWord (wordIn wVMax wVMin (now (s .entry)))) ⌝ }
+    ensures { λ r. ⌜ r ≡ settingFrom regulator (numberOf (now (s .entry))) (gotWord (voltIn (now (s .entry)))) ⌝ }
 {
     match value_number::read(s) {
         Number::Is(n) => Got::Read(Value::Regulator(RatPercent(n))),
-        Number::Bad => read_word(names::V_MAX, names::V_MIN, s),
+        Number::Bad => worded(value_word::read_volt(s)),
     }
 }
 

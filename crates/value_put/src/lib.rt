@@ -75,12 +75,14 @@ pub fn write_value(
     Wrote::To(at + size)
 }
 
-// Whether the text that a value was read from is the value's own text, so that it may be copied: what is no number stands as it is written.
+// Whether the text that a value was read from is the value's own text, so that it may be copied: what is no number stands as it is written, but for
+// V MAX and V MIN without their space.
 pub fn is_written(v: Value, text: &[u8]) -> bool
     ensures { λ r. ⌜ r ≡ isWritten v (now (text .entry)) ⌝ }
 {
     match v {
         Value::Amount(_) => value_number::are_short(text),
+        Value::Word(_) => !value_word::is_joined(text),
         Value::List(_) => value_number::are_short(text),
         Value::Triples(_) => value_number::are_short(text),
         Value::Voltage(_) => value_number::are_short(text),

@@ -4,3 +4,4 @@ pub mod RoundTrip
 pub mod Arms
 pub mod Numbers
 pub mod Search
+pub mod Volts

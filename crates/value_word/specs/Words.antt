@@ -1,13 +1,15 @@
 -- The constants of the layouts. Document 01, "Values": constants as printed in the layout; `Tipo Comando` is `SA` or `DA`; `V MAX` and `V MIN`
--- with the space. They are numbered from 1, once for all layouts, so that what one field may hold is a run of them. 0 is no word.
+-- with the space, which may be left out where they are read (document 02, A1). They are numbered from 1, once for all layouts, so that what one
+-- field may hold is a run of them. 0 is no word.
 use Prim.Native.Nat.{ℕ, zero, suc, _-_}
 use Rattle.text.specs.Bytes.{bytes, part, same}
 use Rattle.text.specs.Words.{wordOf}
+use Rattle.value_word.specs.Names.{wVMax, wVMin}
 use Rattle.value_word.specs.declared.Spelling.{Spelling}
 use Rattle.value_word.specs.declared.Word.{Word}
 use Rattle.value_word.specs.declared.Word.the-variants.{Is, Not}
 use lib.ListN.{length, getD}
-use mathlib.Core.Bool.{cond}
+use mathlib.Core.Bool.{Bool, _||_, cond}
 use mathlib.Core.List.{List, [], _∷_, _++_}
 
 -- 1 to 12, of CB, EB, LB and SR: gradient, continuation, SI and NO, origin of data, kind of auction, operation
@@ -72,6 +74,15 @@ wordFrom (suc n) w s = cond (same (word w) s) (Is w) (wordFrom n (suc w) s)
 -- one of the words from first to last
 abbrev pub wordIn : ℕ → ℕ → List ℕ → Word
 wordIn first last s = wordFrom (suc last - first) first s
+
+-- ---- the settings V MAX and V MIN, with the space or, as Annex A.34's own table prints them, without it (document 02, A1)
+
+unfoldable pub voltIn : List ℕ → Word
+voltIn s = cond (same (bytes "VMAX") s) (Is wVMax) (cond (same (bytes "VMIN") s) (Is wVMin) (wordIn wVMax wVMin s))
+
+-- whether a text is one of the two without the space: it is read, and it is not what is written
+unfoldable pub isJoined : List ℕ → Bool
+isJoined s = same (bytes "VMAX") s || same (bytes "VMIN") s
 
 -- ---- a word as numbers of eight bytes, past its end zero
 

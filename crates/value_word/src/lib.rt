@@ -6,7 +6,7 @@ use text::scan;
 use text::words;
 ghost use Prim.Native.Nat.{_+_, _-_, _<_};
 ghost use Rattle.text.specs.Puts.{limit, Puts};
-ghost use Rattle.value_word.specs.Words.{commandWords, modeWords, settingWords, word, wordIn, roomSpelling, spellingOf};
+ghost use Rattle.value_word.specs.Words.{commandWords, modeWords, settingWords, word, wordIn, voltIn, isJoined, roomSpelling, spellingOf};
 ghost use lib.ListN.{getD};
 ghost use mathlib.Core.List.{[]};
 ghost use mathlib.Core.Path.{_≡_};
@@ -133,6 +133,29 @@ pub fn read(first: u8, last: u8, s: &[u8]) -> Word
         w += 1;
     }
     Word::Not
+}
+
+// Which of V MAX and V MIN s is, with the space or without it.
+pub fn read_volt(s: &[u8]) -> Word
+    ensures { λ r. ⌜ r ≡ voltIn (now (s .entry)) ⌝ }
+{
+    if scan::same(b"VMAX", s) {
+        return Word::Is(names::V_MAX);
+    }
+    if scan::same(b"VMIN", s) {
+        return Word::Is(names::V_MIN);
+    }
+    read(names::V_MAX, names::V_MIN, s)
+}
+
+// Whether s is V MAX or V MIN without the space: it is read, and it is not what is written.
+pub fn is_joined(s: &[u8]) -> bool
+    ensures { λ r. ⌜ r ≡ isJoined (now (s .entry)) ⌝ }
+{
+    if scan::same(b"VMAX", s) {
+        return true;
+    }
+    scan::same(b"VMIN", s)
 }
 
 // The word w, put at a place.
