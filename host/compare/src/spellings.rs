@@ -13,15 +13,19 @@ pub const LABELS: [&[u8]; 3] = [b"Modalit\xe0 funzionamento", b"Quantit\xe0 Rise
 /// Where the accent stands in each of them.
 const PLACE: usize = 7;
 
-/// Labels that are none, each by one step.
+/// Labels that are none, each by one step: of VQ's, and of QR's.
 #[rustfmt::skip]
-const NEIGHBOURS: [&[u8]; 26] = [
+const BESIDE_VQ: [&[u8]; 18] = [
     b"Modalit\xe0 di funzionamento", b"modalit\xe0 funzionamento", b"MODALIT\xe0 FUNZIONAMENTO", b"Modalit\xe0  funzionamento",
     b"Modalit\xe0funzionamento", b"Modalit\xe0\xe0 funzionamento", b"Modalita\xe0 funzionamento", b"Modalit\xe0 funzion\xe0mento",
     b"Mod\xe0lita funzionamento", b"Modalit\xe0 funzionament", b"Modalit\xe0 funzionamentoo", b"Modalit\xe0", b"\xe0", b"Regol\xe0zione",
     b"Modalit\xc0 funzionamento", b"Modalit\xe1 funzionamento", b"Modalit\xc3\xa0 funzionamento", b"Modalit\xe0 funzionamento\r",
-    b"Quantit\xe0", b"Quantit\xe0 Riservata(MW)", b"Quantit\xe0 Riservata (MW", b"Quantit\xe0 Riservata (MW) (MW)",
-    b"Quantit\xe0  Riservata", b"Quantit\xe0 riservata", b"Quantit\xe0 Riservat\xe0", b"Quantit\xc3\xa0 Riservata",
+];
+#[rustfmt::skip]
+const BESIDE_QR: [&[u8]; 12] = [
+    b"Quantit\xe0", b"Quantit\xe0 Riservata(MW)", b"Quantit\xe0 Riservata (MW", b"Quantit\xe0 Riservata (MW) (MW)", b"Quantit\xe0 Riservata (mw)",
+    b"Quantit\xe0  Riservata", b"Quantit\xe0 riservata", b"Quantit\xe0 Riservat\xe0", b"Qu\xe0ntita Riservata", b"Quantit\xc0 Riservata (MW)",
+    b"Quantit\xc3\xa0 Riservata", b"Quantit\xe0 Riservata\r",
 ];
 
 /// The labels of a type that have an accent.
@@ -33,11 +37,11 @@ pub fn own(code: &str) -> &'static [&'static [u8]] {
     }
 }
 
-/// Whether a file is to have second spellings: one in three of VQ, which has settings too, one in five of QR, one in forty of the others.
+/// Whether a file is to have second spellings: one in three of VQ, which has settings too, one in four of QR, one in forty of the others.
 pub fn wanted(sample: &Sample, dice: &mut Dice) -> bool {
     dice.once_in(match sample.code {
         "VQ" => 3,
-        "QR" => 5,
+        "QR" => 4,
         _ => 40,
     })
 }
@@ -56,16 +60,16 @@ fn accents(lines: &mut Lines, code: &str, dice: &mut Dice) {
     if !dice.once_in(6) {
         own_labels(lines, dice);
     }
-    match dice.below(20) {
+    match dice.below(24) {
         0..=5 => {}
         6..=8 => moved(lines, dice),
-        9 | 10 => blanks(lines, dice),
-        11 | 12 => row(lines, code, dice),
-        13 => value(lines, dice),
-        14 => anywhere(lines, dice),
-        15 => other_label(lines, dice),
-        16..=18 => put_in(spelled(code, dice), lines, dice),
-        _ => put_in(placed(dice.pick(&NEIGHBOURS), dice), lines, dice),
+        9..=11 => blanks(lines, dice),
+        12 | 13 => row(lines, code, dice),
+        14 => value(lines, dice),
+        15 => anywhere(lines, dice),
+        16 | 17 => other_label(lines, code, dice),
+        18..=20 => put_in(spelled(code, dice), lines, dice),
+        _ => put_in(placed(neighbour(code, dice), dice), lines, dice),
     }
 }
 
@@ -138,13 +142,27 @@ fn at_an_end(mut line: Vec<u8>, lines: &mut Lines, dice: &mut Dice) {
     }
 }
 
-/// A line of a label in either spelling, so that labels come twice or in both spellings; now and then where they are foreign.
+/// A line of a label in either spelling, so that labels come twice or in both spellings.
 fn spelled(code: &str, dice: &mut Dice) -> Vec<u8> {
-    let own = own(code);
-    let labels = if own.is_empty() || dice.once_in(4) { &LABELS } else { own };
-    let label = dice.pick(labels);
+    let label = label(code, dice);
     let label = if dice.once_in(4) { plain(label) } else { label.to_vec() };
     placed(&label, dice)
+}
+
+/// One of the type's own labels, now and then of any.
+fn label(code: &str, dice: &mut Dice) -> &'static [u8] {
+    let own = own(code);
+    let labels = if own.is_empty() || dice.once_in(4) { &LABELS } else { own };
+    dice.pick(labels)
+}
+
+/// Of the type's own labels, now and then of the other's.
+fn neighbour(code: &str, dice: &mut Dice) -> &'static [u8] {
+    if (code == "QR") != dice.once_in(6) {
+        dice.pick(&BESIDE_QR)
+    } else {
+        dice.pick(&BESIDE_VQ)
+    }
 }
 
 /// Mostly as a label; also without a `=`, and after it.
@@ -175,7 +193,7 @@ fn blanks(lines: &mut Lines, dice: &mut Dice) {
         3 => equals,
         _ => (equals + 1).min(line.len()),
     };
-    let byte = if dice.once_in(6) { b'\r' } else { b' ' };
+    let byte = if dice.once_in(4) { b'\r' } else { b' ' };
     line.splice(place..place, vec![byte; dice.from_to(1, 3)]);
 }
 
@@ -187,7 +205,7 @@ fn row(lines: &mut Lines, code: &str, dice: &mut Dice) {
     }
     lines[at] = match dice.below(4) {
         0 => with_accent(std::mem::take(&mut lines[at]), dice),
-        1 => [dice.pick(&LABELS), b" =", &lines[at][..]].concat(),
+        1 => [label(code, dice), b" =", &lines[at][..]].concat(),
         _ => spelled(code, dice),
     };
 }
@@ -224,15 +242,15 @@ fn anywhere(lines: &mut Lines, dice: &mut Dice) {
     }
 }
 
-/// A parameter line's label becomes one of the neighbours, or one of another type.
-fn other_label(lines: &mut Lines, dice: &mut Dice) {
+/// A parameter line's label becomes one of the neighbours, or one of any type.
+fn other_label(lines: &mut Lines, code: &str, dice: &mut Dice) {
     let places = parameters(lines);
     if places.is_empty() {
         return;
     }
     let line = &mut lines[places[dice.below(places.len())]];
     let equals = line.iter().position(|&byte| byte == b'=').expect("a parameter line");
-    let label = if dice.once_in(2) { dice.pick(&LABELS) } else { dice.pick(&NEIGHBOURS) };
+    let label = if dice.once_in(3) { dice.pick(&LABELS) } else { neighbour(code, dice) };
     line.splice(..equals, label.iter().copied());
 }
 

@@ -132,7 +132,7 @@ const LEAST: [(&str, u32); 31] = [
     ("line: own label", 3), ("line: own label, blanks", 250), ("line: blanks, own label", 5), ("line: blanks, own label, blanks", 20),
     ("line: own label, and after the =", 4), ("line: after the =", 40), ("line: no =", 25), ("line: accents alone", 6), ("line: no label", 30),
     ("line: label of QR in VQ, or of VQ in QR", 7), ("line: label of VQ or QR in another type", 15), ("line: CR before the =", 2),
-    ("row: own label, blanks", 5), ("row: blanks, own label, blanks", 3), ("row: no =", 10), ("row: after the =", 2),
+    ("row: own label, blanks", 5), ("row: blanks, own label, blanks", 1), ("row: no =", 10), ("row: after the =", 2),
     ("short Impostazione Sart/Report", 30), ("short Impostazione RAT", 70), ("short Variazione", 15), ("short Potenza reattiva", 6),
     ("short, row not", 30), ("long, row short", 20),
 ];

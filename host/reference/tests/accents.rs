@@ -319,8 +319,22 @@ fn reading_14_short_settings() {
             assert_eq!(read(["E", "MAN", "POTENZA REATTIVA"], ["", "", "", word]), refused(7, 11), "{word}");
         }
     }
-    for bad in ["Vmax", "vmax", "V  MAX", "VMA", "VMAXX", "V MAX.", "VMAX VMIN", "VMED", "V", "V-MAX", "V_MIN", "VMI N"]
-    {
+    for bad in [
+        "Vmax",
+        "Vmin",
+        "vmax",
+        "V  MAX",
+        "V  MIN",
+        "VMA",
+        "VMAXX",
+        "V MAX.",
+        "VMAX VMIN",
+        "VMED",
+        "V",
+        "V-MAX",
+        "V_MIN",
+        "VMI N",
+    ] {
         assert_eq!(read(RTS, [bad, "", "", ""]), refused(7, 8), "{bad}");
         assert_eq!(read(RAT, ["", bad, "", ""]), refused(7, 9), "{bad}");
     }
