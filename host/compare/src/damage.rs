@@ -19,7 +19,7 @@ pub fn change(lines: &mut Lines, dice: &mut Dice) {
 
 /// One byte changed, put in or taken out.
 pub fn bytes(mut text: Vec<u8>, dice: &mut Dice) -> Vec<u8> {
-    const BYTES: &[u8] = b" =;,+-.0123456789LS\n\r\t\x00\x1f\x7f\x80\xff~!_AIa";
+    const BYTES: &[u8] = b" =;,+-.0123456789LS\n\r\t\x00\x1f\x7f\x80\xe0\xff~!_AIa";
     let at = dice.below(text.len() + 1);
     let byte = BYTES[dice.below(BYTES.len())];
     match dice.below(3) {

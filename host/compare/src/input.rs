@@ -4,7 +4,7 @@ use crate::dice::Dice;
 use crate::lines::{join, split, Lines};
 use crate::plans::{self, Plan};
 use crate::samples::{Sample, SAMPLES};
-use crate::{body, damage, layout_noise, random, together, values};
+use crate::{body, damage, layout_noise, random, spellings, together, values};
 
 pub struct Input {
     pub sample: &'static Sample,
@@ -29,7 +29,7 @@ pub const MOST_ROOM: usize = 8_192;
 pub fn input(seed: u64, number: u64) -> Input {
     let mut dice = Dice::new(seed, number);
     let sample = &SAMPLES[dice.below(SAMPLES.len())];
-    let file = file(sample, &mut dice);
+    let file = if spellings::wanted(sample, &mut dice) { spelled(sample, &mut dice) } else { file(sample, &mut dice) };
     let Plan { ca, ioa, text: plan } =
         if dice.once_in(6) { plans::changed(sample, &mut dice) } else { plans::good(sample, &mut dice) };
     Input { sample, ca, ioa, plan, file, room: room(&mut dice) }
@@ -58,6 +58,20 @@ fn file(sample: &Sample, dice: &mut Dice) -> Vec<u8> {
         8..=12 => times(dice.from_to(1, 4), || damage::change(&mut lines, dice)),
         _ => return changed(lines, sample, dice),
     }
+    join(&lines)
+}
+
+/// A file with second spellings: often else a good one, so that they alone decide.
+fn spelled(sample: &Sample, dice: &mut Dice) -> Vec<u8> {
+    let mut lines = split(sample.file.as_bytes());
+    if dice.once_in(3) {
+        lines = split(&file(sample, dice));
+    } else if dice.once_in(2) {
+        together::change(&mut lines, sample, dice);
+        body::mend_row(&mut lines, sample);
+    }
+    times(dice.below(3), || layout_noise::change(&mut lines, dice));
+    spellings::change(&mut lines, sample, dice);
     join(&lines)
 }
 

@@ -4,7 +4,8 @@ use crate::dice::Dice;
 use crate::samples::{CODES, UNIT};
 
 pub fn setting(dice: &mut Dice) -> String {
-    let words = ["V MAX", "V MIN", "Q=0", "MAX SOVRAECCITAZIONE", "MAX SOTTOECCITAZIONE", "VMAX", "V  MIN"];
+    let words =
+        ["V MAX", "V MIN", "Q=0", "MAX SOVRAECCITAZIONE", "MAX SOTTOECCITAZIONE", "VMAX", "VMIN", "V  MIN", "Vmax"];
     if dice.once_in(2) {
         number(dice)
     } else {

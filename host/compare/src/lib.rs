@@ -4,7 +4,8 @@
 //! them to both sides and compares answers and output buffers; [`tally`] counts what was
 //! answered. The files come from [`samples`], by way of [`layout_noise`] (which leaves the
 //! record as it is), [`values`] and [`together`] (other values, the summary row mended),
-//! [`damage`] and [`random`]; the plans from [`plans`]. Each choice is a throw of [`dice`].
+//! [`damage`] and [`random`], and at last [`spellings`] (the accents and short settings of
+//! request A1); the plans from [`plans`]. Each choice is a throw of [`dice`].
 //! The library is called by [`ours`], which links it on x86-64 and is [`far`] elsewhere.
 //! With the feature `pace`, for times, it is linked everywhere (elsewhere it is code without its proofs), and `pace` is the
 //! reference's side of the book's calls.
@@ -26,6 +27,9 @@ pub mod pace;
 pub mod plans;
 pub mod random;
 pub mod samples;
+pub mod spellings;
+#[cfg(test)]
+mod spellings_met;
 pub mod tally;
 pub mod together;
 pub mod values;

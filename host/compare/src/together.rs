@@ -8,7 +8,8 @@ use crate::lines::Lines;
 use crate::samples::Sample;
 use crate::values::of_kind;
 
-/// Labels, and texts for them: `*` stands for one of the label's kind, `#` for a number, `%` for `V MAX` or `V MIN`.
+/// Labels, and texts for them: `*` stands for one of the label's kind, `#` for a number, `%` for `V MAX` or `V MIN` in
+/// either spelling.
 struct Table {
     layout: &'static str,
     labels: &'static [&'static str],
@@ -91,6 +92,9 @@ static TABLES: [Table; 9] = [
             &["", "MAN", "POTENZA REATTIVA", "", "", "", "#"],
             &["E", "RAT", "TENSIONE (MT)", "", "#", "#", ""],
             &["", "RTS", "VSRIF", "%", "", "", ""],
+            &["I", "RTS", "VSRIF", "%", "", "%", ""],
+            &["E", "RAT", "TENSIONE (MT)", "", "%", "%", ""],
+            &["", "MAN", "POTENZA REATTIVA", "", "", "", "%"],
         ],
     },
     Table {
@@ -120,7 +124,7 @@ fn filled(text: &str, label: &str, code: &str, dice: &mut Dice) -> String {
     match text {
         "*" => of_kind(label, code, dice),
         "#" => number(dice),
-        "%" => dice.pick(&["V MAX", "V MIN"]).into(),
+        "%" => dice.pick(&["V MAX", "V MIN", "VMAX", "VMIN"]).into(),
         _ => text.into(),
     }
 }

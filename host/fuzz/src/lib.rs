@@ -2,8 +2,11 @@
 //! not, and is judged by its answers and by every byte of its output.
 
 use halimpung_compare::check::check;
+use halimpung_compare::dice::Dice;
 use halimpung_compare::input::{Input, Room, MOST_ROOM};
+use halimpung_compare::lines::{join, split};
 use halimpung_compare::samples::{Sample, SAMPLES};
+use halimpung_compare::spellings::{self, ACCENT, LABELS};
 use halimpung_compare::{ours, Entry};
 use halimpung_reference::{normalise_entry, read_entry};
 
@@ -68,25 +71,71 @@ pub unsafe extern "C" fn LLVMFuzzerTestOneInput(data: *const u8, size: usize) ->
     0
 }
 
-/// The inputs to begin with: every sample at its own address, for both entries, and with its plan written out.
+/// The inputs to begin with: every sample at its own address, for both entries, and with its plan written out; those that have second
+/// spellings also with these.
 pub fn seeds() -> Vec<Vec<u8>> {
-    SAMPLES.iter().enumerate().flat_map(|(place, sample)| seeds_of(place, sample)).collect()
+    let plain = SAMPLES.iter().map(|sample| sample.file.as_bytes().to_vec());
+    let second = SAMPLES.iter().map(|sample| second_spellings(sample.file.as_bytes()));
+    let all = SAMPLES.iter().enumerate().zip(plain.zip(second));
+    all.flat_map(|((place, sample), (plain, second))| {
+        let mut seeds = seeds_of(place, sample, &plain);
+        if second != plain {
+            seeds.extend(seeds_of(place, sample, &second));
+        }
+        seeds
+    })
+    .collect()
 }
 
-fn seeds_of(place: usize, sample: &Sample) -> Vec<Vec<u8>> {
+fn seeds_of(place: usize, sample: &Sample, file: &[u8]) -> Vec<Vec<u8>> {
     let which = (place as u8) << 1;
-    let file = sample.file.as_bytes();
     let mut seeds: Vec<Vec<u8>> = [which, which + 1].iter().map(|&first| [&[first, 255], file].concat()).collect();
     seeds.push([&[OWN_PLAN, 255], sample.plan(2).as_bytes(), &[BETWEEN], file].concat());
     seeds
 }
 
-/// Words to put in: each line's label and value of the samples, and the plan's keys.
-pub fn words() -> Vec<String> {
-    let mut words: Vec<String> = ["ca=", "ioa=", "unit=", "type=", "+++++", "\r\n"].map(String::from).to_vec();
-    for sample in &SAMPLES {
-        words.extend(sample.file.lines().flat_map(|line| line.splitn(2, '=')).map(|part| part.trim().to_string()));
+/// The file with all its accents, and its settings short, in body and row alike.
+fn second_spellings(file: &[u8]) -> Vec<u8> {
+    let accents = LABELS.map(|label| (spellings::plain(label), label.to_vec()));
+    let settings = [("V MAX", "VMAX"), ("V MIN", "VMIN")].map(|(long, short)| (long.into(), short.into()));
+    accents.into_iter().chain(settings).fold(file.to_vec(), |file, (from, to)| replaced(&file, &from, &to))
+}
+
+fn replaced(text: &[u8], from: &[u8], to: &[u8]) -> Vec<u8> {
+    let mut done = Vec::new();
+    let mut rest = text;
+    while let Some(at) = rest.windows(from.len()).position(|part| part == from) {
+        done.extend_from_slice(&rest[..at]);
+        done.extend_from_slice(to);
+        rest = &rest[at + from.len()..];
     }
+    [&done, rest].concat()
+}
+
+/// More of them, good and bad: samples that the comparison's generator gave second spellings, or their neighbours. Every sample comes
+/// four times, VQ and QR forty.
+pub fn spelled_seeds() -> Vec<Vec<u8>> {
+    let mut seeds = Vec::new();
+    for (place, sample) in SAMPLES.iter().enumerate() {
+        let count = if spellings::own(sample.code).is_empty() { 4 } else { 40 };
+        for number in 0..count {
+            let mut lines = split(sample.file.as_bytes());
+            spellings::change(&mut lines, sample, &mut Dice::new(place as u64, number));
+            seeds.push([&[(place as u8) << 1 | (number % 2) as u8, 255], &join(&lines)[..]].concat());
+        }
+    }
+    seeds
+}
+
+/// Words to put in: each line's label and value of the samples, in both spellings, and the plan's keys.
+pub fn words() -> Vec<Vec<u8>> {
+    let mut words: Vec<Vec<u8>> = ["ca=", "ioa=", "unit=", "type=", "+++++", "\r\n"].map(Vec::from).to_vec();
+    for sample in &SAMPLES {
+        words.extend(sample.file.lines().flat_map(|line| line.splitn(2, '=')).map(|part| part.trim().into()));
+    }
+    words.extend(["VMAX", "VMIN", "V MIN"].map(Vec::from));
+    words.extend(LABELS.map(<[u8]>::to_vec));
+    words.push(vec![ACCENT]);
     words.retain(|word| !word.is_empty() && word.len() <= 60);
     words.sort();
     words.dedup();
@@ -96,6 +145,23 @@ pub fn words() -> Vec<String> {
 #[cfg(test)]
 mod tests {
     use super::*;
+
+    /// By the reference alone: ten samples, two of them in second spellings too, three inputs each.
+    #[test]
+    fn seeds_are_good_and_spelled_ones_both() {
+        let answer = |seed: &Vec<u8>| {
+            let (input, _, theirs) = input(seed).expect("an input");
+            check(theirs, theirs, &input).unwrap_or_else(|_| panic!("one entry differs"))
+        };
+        let accented = |seed: &&Vec<u8>| seed.contains(&ACCENT);
+        assert_eq!(seeds().len(), 36);
+        assert_eq!(seeds().iter().filter(accented).count(), 6);
+        assert!(seeds().iter().all(|seed| answer(seed) < 65_536));
+        let spelled = spelled_seeds();
+        for number in [0, 3, 5, 10] {
+            assert!(spelled.iter().filter(accented).any(|seed| answer(seed) >> 16 == number), "none answers {number}");
+        }
+    }
 
     #[test]
     fn every_seed_is_accepted_by_both() {

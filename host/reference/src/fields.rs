@@ -112,10 +112,21 @@ fn market(fields: &mut Fields) -> Result<Market, Refusal> {
     })
 }
 
+/// The two voltage settings; the other two take no extreme.
 fn setting<Q>(text: &[u8], quantity: fn(i32) -> Q) -> Option<Setting<Q>> {
-    match Extreme::read(text) {
+    match extreme(text) {
         Some(extreme) => Some(Setting::To(extreme)),
         None => values::number(text).map(|number| Setting::At(quantity(number))),
+    }
+}
+
+/// With its blank, as the layout prints it, or without, as the table of 2.9 does
+/// (A1). Both mean the same, and the record doesn't keep which came.
+fn extreme(text: &[u8]) -> Option<Extreme> {
+    match text {
+        b"VMAX" => Some(Extreme::VMax),
+        b"VMIN" => Some(Extreme::VMin),
+        _ => Extreme::read(text),
     }
 }
 

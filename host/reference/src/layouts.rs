@@ -8,11 +8,17 @@ use crate::words::Type;
 pub const MOST_FIELDS: usize = 26;
 pub const SLOTS: usize = 36;
 
+/// The accented letter of `Modalità` and `Quantità` as two plants send it (A1).
+pub const ACCENT: u8 = 0xe0;
+
 pub struct Layout {
     /// Banner lines, each with its LF, and the empty line after them.
     pub banner: &'static [u8],
     /// Labels; the field numbers of document 01 are places here, from 1.
     pub labels: &'static [&'static [u8]],
+    /// The second spellings of labels, with [`ACCENT`], each with its field
+    /// number; the writer never uses them.
+    pub accented: &'static [(&'static [u8], usize)],
     /// Field numbers in the order of the summary row.
     pub row: &'static [u8],
     /// Slots that the third field on lies behind its place; see [`labels`].
@@ -48,10 +54,38 @@ impl Layout {
 /// layouts' labels are looked for in the one walk, since only the whole file
 /// tells which of the two it is: slots 0 and 1 are common, the market layout has
 /// 2 to 25, mFRR the ten from 26.
-pub fn labels(kind: Type) -> &'static [&'static [u8]] {
-    match kind {
-        Type::Cb => &COMMAND_LABELS,
-        _ => layout(kind, false).labels,
+///
+/// The second spellings stand beside them, with their slots; neither layout of
+/// CB has any.
+pub fn labels(kind: Type) -> Labels {
+    let layout = layout(kind, false);
+    let plain = if kind == Type::Cb { &COMMAND_LABELS } else { layout.labels };
+    Labels { plain, layout }
+}
+
+/// The labels of a type, in both spellings.
+#[derive(Clone, Copy)]
+pub struct Labels {
+    plain: &'static [&'static [u8]],
+    /// Of the second spellings.
+    layout: &'static Layout,
+}
+
+impl Labels {
+    /// The plain spelling of a slot, if there is such a slot.
+    pub fn at(self, slot: usize) -> Option<&'static [u8]> {
+        self.plain.get(slot).copied()
+    }
+
+    /// The slot of a label in either spelling, letter for letter.
+    pub fn slot(self, label: &[u8]) -> Option<usize> {
+        let plain = self.plain.iter().position(|&known| known == label);
+        plain.or_else(|| self.accented().find(|&(known, _)| known == label).map(|(_, slot)| slot))
+    }
+
+    /// The second spellings and their slots.
+    pub fn accented(self) -> impl Iterator<Item = (&'static [u8], usize)> {
+        self.layout.accented.iter().map(move |&(label, field)| (label, self.layout.slot(field)))
     }
 }
 

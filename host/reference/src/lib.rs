@@ -1,4 +1,5 @@
-//! Messages of Annex A.34 Rev. 10, read, written and booked as document 01 says.
+//! Messages of Annex A.34 Rev. 10, read, written and booked as document 01 says,
+//! with request A1 of document 02 (accented labels and the short VMAX).
 //!
 //! The path of a file: [`plan`] gives the type and unit of the address, [`lines`]
 //! walks the file once and finds where each value lies, [`fields`] turns the

@@ -1,7 +1,7 @@
 //! One walk over a message file ("Lines of a message"): where each value lies,
 //! the separators and the summary row.
 
-use crate::layouts::{MOST_FIELDS, SLOTS};
+use crate::layouts::{Labels, ACCENT, MOST_FIELDS, SLOTS};
 use crate::runs::{plain_run, skip_blanks};
 use crate::values::{trim, trim_end};
 use crate::Refusal;
@@ -60,7 +60,7 @@ impl<'a> Lines<'a> {
 }
 
 /// Walks the file, of at most 8,192 bytes; refuses 3 at the first byte not allowed.
-pub fn walk<'a>(file: &'a [u8], labels: &[&[u8]]) -> Result<Lines<'a>, Refusal> {
+pub fn walk<'a>(file: &'a [u8], labels: Labels) -> Result<Lines<'a>, Refusal> {
     let mut lines =
         Lines { file, places: [(0, 0); SLOTS], seen: 0, repeats: [None; 2], separators: 0, between: 0, row: &[] };
     // Lines mostly come in printed order: the label after the last one found is
@@ -69,7 +69,7 @@ pub fn walk<'a>(file: &'a [u8], labels: &[&[u8]]) -> Result<Lines<'a>, Refusal> 
     let mut rest = file;
     while !rest.is_empty() {
         let inside = lines.separators == 1;
-        let known = if inside { None } else { labels.get(expected) };
+        let known = if inside { None } else { labels.at(expected) };
         if let Some(text) = known.and_then(|label| after_label(rest, label)) {
             let (part, after) = text.split_at(plain_run(text));
             lines.keep(expected, part, after);
@@ -77,7 +77,7 @@ pub fn walk<'a>(file: &'a [u8], labels: &[&[u8]]) -> Result<Lines<'a>, Refusal> 
             rest = next_line(file, after)?;
             continue;
         }
-        let (line, after) = rest.split_at(plain_run(rest));
+        let (line, after) = rest.split_at(line_run(rest, labels));
         rest = next_line(file, after)?;
         let trimmed = trim(line);
         if is_separator(trimmed) {
@@ -89,13 +89,35 @@ pub fn walk<'a>(file: &'a [u8], labels: &[&[u8]]) -> Result<Lines<'a>, Refusal> 
             lines.between += 1;
         } else if let Some(equals) = line.iter().position(|&byte| byte == b'=') {
             let label = trim(&line[..equals]);
-            if let Some(slot) = labels.iter().position(|&known| known == label) {
+            if let Some(slot) = labels.slot(label) {
                 lines.keep(slot, &line[equals + 1..], after);
                 expected = slot + 1;
             }
         }
     }
     Ok(lines)
+}
+
+/// How many bytes of its first line the text starts with before one that is not
+/// allowed there or ends the line.
+#[inline]
+fn line_run(text: &[u8], labels: Labels) -> usize {
+    let run = plain_run(text);
+    if text.get(run) == Some(&ACCENT) {
+        accented_run(text, labels).unwrap_or(run)
+    } else {
+        run
+    }
+}
+
+/// The same for a line with an accent, which is allowed where the line has a
+/// label of the second spelling, as its whole trimmed part before the first `=`
+/// (no label holds a `=`), and there alone. Whatever line it is: separators and
+/// the row between them are not known before the whole file's bytes are.
+#[cold]
+fn accented_run(text: &[u8], labels: Labels) -> Option<usize> {
+    let value = labels.accented().find_map(|(label, _)| after_label(text, label))?;
+    Some(text.len() - value.len() + plain_run(value))
 }
 
 /// If the text starts with a line of this label, what follows its `=`. A label

@@ -2,7 +2,8 @@
 //! order, and the order of the values in the summary row. Banners stand byte for
 //! byte as there, without trailing blanks (mFRR has no blank before its last
 //! asterisks, RI three asterisks about its middle line); labels letter for
-//! letter, with a plain `a` for an accented one.
+//! letter, with a plain `a` for an accented one; those that have one also with
+//! byte E0 for it, as a second spelling (A1).
 
 use crate::layouts::{Layout, MFRR_SHIFT};
 
@@ -36,6 +37,7 @@ pub static MARKET: Layout = Layout {
         b"Profilo normalizzato di rampa h6",
         b"Gradienti (Pmin,Pmax,Grad)",
     ],
+    accented: &[],
     row: &[1, 2, 3, 4, 5, 6, 7, 8, 9, 10, 11, 12, 13, 14, 15, 16, 17, 18, 19, 20, 21, 22, 23, 24, 25, 26],
     shift: 0,
 };
@@ -56,6 +58,7 @@ pub static MFRR: Layout = Layout {
         b"Prifbil (TINI2)",
         b"Prifbil (TFIN2)",
     ],
+    accented: &[],
     row: &[1, 2, 3, 4, 5, 6, 7, 8, 9, 10, 11, 12],
     shift: MFRR_SHIFT,
 };
@@ -69,6 +72,7 @@ pub static REVOCATION: Layout = Layout {
         b"Data Ora Fine Revoca Comando",
         b"Sequenza Comando",
     ],
+    accented: &[],
     row: &[1, 2, 3, 4, 5],
     shift: 0,
 };
@@ -84,6 +88,7 @@ pub static GENERIC: Layout = Layout {
         b"Note",
         b"Data Creazione Msg",
     ],
+    accented: &[],
     row: &[1, 2, 3, 4, 5],
     shift: 0,
 };
@@ -100,6 +105,7 @@ pub static EXCLUSION: Layout = Layout {
         b"Riammissione",
         b"Data Creazione Msg",
     ],
+    accented: &[],
     row: &[1, 2, 3, 4, 7],
     shift: 0,
 };
@@ -118,6 +124,7 @@ pub static LIMITATION: Layout = Layout {
         b"Reintegro",
         b"Data Creazione Msg",
     ],
+    accented: &[],
     // The row lists the minimum first, the body the maximum.
     row: &[1, 2, 3, 4, 6, 5, 9],
     shift: 0,
@@ -136,6 +143,7 @@ pub static SECONDARY: Layout = Layout {
         b"Note",
         b"Data Creazione Msg",
     ],
+    accented: &[],
     row: &[1, 2, 3, 4, 5, 6],
     shift: 0,
 };
@@ -157,6 +165,7 @@ pub static VOLTAGE: Layout = Layout {
         b"Note",
         b"Data Creazione Msg",
     ],
+    accented: &[(b"Modalit\xe0 funzionamento", 6)],
     row: &[1, 2, 3, 4, 5, 6, 7, 8, 9, 10, 11, 12, 13],
     shift: 0,
 };
@@ -171,6 +180,7 @@ pub static REFUSED: Layout = Layout {
         b"Motivazione",
         b"Note",
     ],
+    accented: &[],
     row: &[1, 2, 3, 4],
     shift: 0,
 };
@@ -188,6 +198,7 @@ pub static RESERVED: Layout = Layout {
         b"Note",
         b"Data Creazione Msg",
     ],
+    accented: &[(b"Quantit\xe0 Riservata (MW)", 6), (b"Quantit\xe0 Riservata", 7)],
     row: &[1, 2, 3, 4, 5, 6, 7],
     shift: 0,
 };

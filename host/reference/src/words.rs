@@ -50,7 +50,8 @@ words! {
     }
 }
 words! {
-    /// The two words that may stand for a number in the voltage settings of VQ.
+    /// The two words that may stand for a number in the voltage settings of VQ, as
+    /// they are written.
     Extreme { VMax = b"V MAX", VMin = b"V MIN" }
 }
 words! {

@@ -29,6 +29,7 @@ static ALLOCATOR: Counting = Counting;
 #[test]
 fn none() {
     let plans: Vec<String> = SAMPLES.iter().map(|(code, _)| plan(code)).collect();
+    let accented: Vec<u8> = bytes(&SAMPLES[QR].1.replace("Quantita", "Quantità"));
     let mut out = [0; 8192];
     let (mut book, _) = Book::fresh(b"UP_PROVA_1");
     let before = COUNT.load(Ordering::Relaxed);
@@ -41,5 +42,7 @@ fn none() {
         assert!(write(&record, &mut out).is_ok());
         book = book.command(&record).0.revoke(&record).0.close(1).0.in_force(1).0;
     }
+    assert!(normalise_entry(7, 300, plans[QR].as_bytes(), &accented, &mut out) < 65_536);
+    assert!(normalise_entry(7, 300, plans[VQ].as_bytes(), &accented, &mut out) >> 16 == 3);
     assert_eq!(COUNT.load(Ordering::Relaxed), before);
 }

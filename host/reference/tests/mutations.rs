@@ -18,11 +18,11 @@ impl Dice {
     }
 }
 
-const BYTES: &[u8] = b" =;,+-.0123456789LS\n\r\x7f_AI";
+const BYTES: &[u8] = b" =;,+-.0123456789LS\n\r\x7f\xe0_AI";
 
 fn change(text: &mut Vec<u8>, dice: &mut Dice) {
     let at = dice.below(text.len() + 1);
-    match dice.below(5) {
+    match dice.below(6) {
         0 if at < text.len() => drop(text.remove(at)),
         1 if at < text.len() => text[at] = BYTES[dice.below(BYTES.len())],
         2 => text.insert(at, BYTES[dice.below(BYTES.len())]),
@@ -31,6 +31,18 @@ fn change(text: &mut Vec<u8>, dice: &mut Dice) {
             let places: Vec<usize> = (0..text.len()).filter(|&at| b"=\n+".contains(&text[at])).collect();
             if !places.is_empty() {
                 text.insert(places[dice.below(places.len())] + dice.below(2), b' ');
+            }
+        }
+        4 => {
+            // The second spelling of VQ's and QR's labels: of the topmost, or of all.
+            let all = dice.below(2) == 0;
+            for at in 0..text.len().saturating_sub(8) {
+                if [b"Modalita", b"Quantita"].contains(&text[at..at + 8].first_chunk().expect("eight")) {
+                    text[at + 7] = 0xe0;
+                    if !all {
+                        break;
+                    }
+                }
             }
         }
         _ => {

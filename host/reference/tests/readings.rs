@@ -154,6 +154,6 @@ fn rows_of_the_voltage_table() {
         assert_eq!(row(state, mode, regulation, settings), Err((8, 8)), "{state} {mode} {regulation} {settings:?}");
     }
     assert_eq!(row("7", "RAT", "TENSIONE (MT)", ["", "100", "", ""]), Err((7, 5)));
-    assert_eq!(row("E", "RAT", "TENSIONE (MT)", ["", "VMAX", "", ""]), Err((7, 9)));
+    assert_eq!(row("E", "RAT", "TENSIONE (MT)", ["", "V MED", "", ""]), Err((7, 9)));
     assert_eq!(row("E", "RAT", "TENSIONE (MT)", ["", "V MAX", "+2", ""]), Err((7, 10)));
 }

@@ -41,7 +41,7 @@ fn argument((usual, place): (u64, usize)) -> u64 {
 fn compare(input: &Input, tally: &mut Tally) -> Result<(), String> {
     for (name, ours, theirs) in ENTRIES {
         let answer = check(ours, theirs, input).map_err(|difference| report(name, input, &difference))?;
-        tally.add(input.sample, answer);
+        tally.add(input, answer);
     }
     Ok(())
 }

@@ -10,14 +10,15 @@ fn main() -> std::io::Result<()> {
         std::process::exit(2);
     };
     fs::create_dir_all(folder)?;
-    for (number, seed) in halimpung_fuzz::seeds().iter().enumerate() {
-        fs::write(Path::new(folder).join(format!("seed-{number:02}")), seed)?;
+    let seeds = [halimpung_fuzz::seeds(), halimpung_fuzz::spelled_seeds()].concat();
+    for (number, seed) in seeds.iter().enumerate() {
+        fs::write(Path::new(folder).join(format!("seed-{number:03}")), seed)?;
     }
     fs::write(words, halimpung_fuzz::words().iter().map(|word| entry(word)).collect::<String>())
 }
 
 /// A dictionary's line: the bytes in hex, so that none needs another escape.
-fn entry(word: &str) -> String {
-    let bytes: String = word.bytes().map(|byte| format!("\\x{byte:02X}")).collect();
+fn entry(word: &[u8]) -> String {
+    let bytes: String = word.iter().map(|byte| format!("\\x{byte:02X}")).collect();
     format!("\"{bytes}\"\n")
 }

@@ -28,9 +28,14 @@ pub fn plan(code: &str) -> String {
     format!("ca=7\nioa=300\nunit=UP_PROVA_1\ntype={code}\n")
 }
 
+/// The bytes of a file, one for each character: `à` is E0.
+pub fn bytes(file: &str) -> Vec<u8> {
+    file.chars().map(|byte| u8::try_from(byte).expect("a byte")).collect()
+}
+
 /// Reads a file as the type of a sample.
 pub fn read_as(sample: usize, file: &str) -> Result<Record, (u32, u32)> {
-    let result = read(7, 300, plan(SAMPLES[sample].0).as_bytes(), file.as_bytes());
+    let result = read(7, 300, plan(SAMPLES[sample].0).as_bytes(), &bytes(file));
     result.map_err(|Refusal { number, detail }| (number, detail))
 }
 
