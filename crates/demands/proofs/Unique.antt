@@ -147,7 +147,6 @@ within =
       layout-label-put-label = λ κs a. buffer-equation _ _;
       layout-label-put = λ κs a. equations _ _ _;
       layout-label-is-printed = (λ κs a. tt, λ κs a. equation _);
-      reader-line-is-label = (λ κs a. tt, λ κs a. equation _);
       value-fits-holds = (λ κs a. tt, λ κs a. equation _);
       value-fits-triples-are-none = (λ κs a. tt, λ κs a. equation _);
       value-fits-triples-are-listed = (λ κs a. tt, λ κs a. equation _);

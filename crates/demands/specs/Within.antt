@@ -130,7 +130,6 @@ pub record Within : Type 0 where
   pub layout-label-put : OneOutput layout_label.put.ended (λ κs e. e .0 .now) layout_label.put.Reads.Learnt
   pub layout-label-is-printed : Answers layout_label.is_printed.ended layout_label.is_printed.Reads.Asked layout_label.is_printed.Reads.Learnt
   -- reader_line
-  pub reader-line-is-label : Answers reader_line.is_label.ended reader_line.is_label.Reads.Asked reader_line.is_label.Reads.Learnt
   pub reader-line-line-of : OneResult reader_line.line_of.ended reader_line.line_of.Reads.Learnt
   -- reader_walk
   pub reader-walk-walk : OneResult reader_walk.walk.ended reader_walk.walk.Reads.Learnt

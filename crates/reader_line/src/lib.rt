@@ -36,7 +36,7 @@ pub struct Expected {
 }
 
 // Whether the text is the label of the field k.
-pub fn is_label(l: Layout, k: usize, s: &[u8]) -> bool
+fn is_label(l: Layout, k: usize, s: &[u8]) -> bool
     ensures { λ r. ⌜ r ≡ same (labelAt l k) (now (s .entry)) ⌝ }
 {
     let m = layout_label::of_field(l, k);
