@@ -1,10 +1,9 @@
 -- Where E0 is allowed, byte by byte. Assumes nothing.
 use Prim.Native.Nat.{ℕ, zero, suc, _+_, _-_, _≤_, _<_}
-use Rattle.demands.specs.Request1.{beginsLine}
 use Rattle.text.proofs.Tests.{by-test, or-parts}
 use Rattle.text.specs.Bytes.{any, firstOf, is, upto}
 use Rattle.text_lines.specs.Lines.{allowed, allowedFrom, allowedUpto}
-use Rattle.text_lines.specs.Spellings.{Spelling, opens, labelRoom}
+use Rattle.text_lines.specs.Spellings.{Spelling, beginsLine, opens, labelRoom}
 use borrow.Author.Tests.{eqb-true, ltb-true, lt-ltb}
 use lib.Dec.{ltb}
 use lib.ListN.{length, getD, take}

@@ -2,5 +2,9 @@ pub mod Answers
 pub mod Files
 pub mod Parted
 pub mod Listed
+pub mod Exactly
+pub mod Respelt
+pub mod Spelled
 pub mod Unique
 pub mod Demands
+pub mod Request1

@@ -5,3 +5,4 @@ pub mod Spaced
 pub mod Demand1
 pub mod Demand2
 pub mod Demand3
+pub mod Request1

@@ -8,7 +8,7 @@ use Rattle.reader.specs.Reader.{Sound, bodyColumn, readOf}
 use Rattle.reader_accent.specs.Accents.{accentsOf}
 use Rattle.text.specs.Bytes.{all, any, bytes, firstOf, is, isBlank, upto}
 use Rattle.text_lines.specs.Lines.{allowedUpto}
-use Rattle.text_lines.specs.Spellings.{isAccented, respell, opens}
+use Rattle.text_lines.specs.Spellings.{beginsLine, isAccented, respell, opens}
 use Rattle.value.specs.Kinds.{shapeOf}
 use Rattle.value.specs.declared.Got.the-variants.{Bad}
 use Rattle.value.specs.declared.Shape.the-variants.{IsVoltage, IsRegulator, IsChange, IsReactive}
@@ -20,15 +20,10 @@ use mathlib.Core.List.{List, [], _∷_, _++_}
 use mathlib.Core.Logic.{_↔_}
 use mathlib.Core.Path.{_≡_}
 
--- what stands before the first byte of a line: nothing, or bytes of which the last is LF
-abbrev pub beginsLine : List ℕ → Bool
-beginsLine [] = true
-beginsLine (b ∷ []) = is 10 b
-beginsLine (b ∷ c ∷ s) = beginsLine (c ∷ s)
 
 -- what is left of a file from a line on, with a label between blanks before its first '='
-abbrev pub labelled : List ℕ → List ℕ → List ℕ → List ℕ → List ℕ
-labelled a label b rest = a ++ (label ++ (b ++ 61 ∷ rest))
+abbrev pub withLabel : List ℕ → List ℕ → List ℕ → List ℕ → List ℕ
+withLabel a label b rest = a ++ (label ++ (b ++ 61 ∷ rest))
 
 pub record Request1 : Type 0 where
   -- "Byte E0 is to be allowed as the accented letter of those labels only", and "E0 stays 3 except inside the trimmed part before its line's first `=`, where
@@ -46,8 +41,8 @@ pub record Request1 : Type 0 where
   -- and a file in which the letter of such a label is the other is answered alike, whatever the answer, a refusal's place too: the two are one byte each
   pub both-spellings : (ca ioa : ℕ) (plan before a x b rest : List ℕ) → beginsLine before ≡ true → all isBlank a ≡ true → all isBlank b ≡ true
       → isAccented (accentsOf (typeAt ca ioa plan)) x ≡ true
-      → rowIn (before ++ labelled a x b rest) ≡ rowIn (before ++ labelled a (respell (accentsOf (typeAt ca ioa plan)) x) b rest)
-      → readOf ca ioa plan (before ++ labelled a x b rest) ≡ readOf ca ioa plan (before ++ labelled a (respell (accentsOf (typeAt ca ioa plan)) x) b rest)
+      → rowIn (before ++ withLabel a x b rest) ≡ rowIn (before ++ withLabel a (respell (accentsOf (typeAt ca ioa plan)) x) b rest)
+      → readOf ca ioa plan (before ++ withLabel a x b rest) ≡ readOf ca ioa plan (before ++ withLabel a (respell (accentsOf (typeAt ca ioa plan)) x) b rest)
   -- "both spellings of the settings mean the same", in the two settings and nowhere else
   pub settings-alike : (shapeOf IsVoltage (bytes "VMAX") ≡ shapeOf IsVoltage (bytes "V MAX")) × (shapeOf IsVoltage (bytes "VMIN") ≡ shapeOf IsVoltage (bytes "V MIN"))
       × (shapeOf IsRegulator (bytes "VMAX") ≡ shapeOf IsRegulator (bytes "V MAX")) × (shapeOf IsRegulator (bytes "VMIN") ≡ shapeOf IsRegulator (bytes "V MIN"))
