@@ -4,16 +4,16 @@ use Rattle.text_lines.proofs.Spelt.{Accented, allGood, accented-cut, op
 use Rattle.text_lines.proofs.Steps.{OneLine, after, not-bad, ofLine, plain-not, run-length}
 use Rattle.text_lines.specs.Lines.{allowed, allowedFrom, allowedUpto}
 use Rattle.text_lines.specs.Places.{notPlain, plainRun, lineRun, breakOf}
-use Rattle.text_lines.specs.Spellings.{Spelling, isAccented, opens, labelRoom}
+use Rattle.text_lines.specs.Spellings.{Spelling, isAccented, beginsLine, opens, labelRoom}
 use Rattle.text_lines.specs.declared.Break.the-variants.{After, Bad}
-use Rattle.text.proofs.Cuts.{upto-take, all-append}
+use Rattle.text.proofs.Cuts.{upto-take, upto-seam, past-seam, past-drop, any-seam, all-append}
 use Rattle.text.proofs.Tests.{by-test, and-parts, cond-le}
-use Rattle.text.specs.Bytes.{all, any, firstOf, is, isPlain, trim, upto}
+use Rattle.text.specs.Bytes.{all, any, firstOf, is, isPlain, past, trim, upto}
 use borrow.Author.Tests.{eqb-true, lt-ltb, not-true, not-false}
 use lib.Dec.{ltb, lit<}
 use lib.ListN.{length, length-append, getD, take, drop, take-append-drop}
 use lib.Seq.{drop-drop, drop-append-seam}
-use mathlib.Core.Bool.{true, false, _&&_, _||_, and-false, cond}
+use mathlib.Core.Bool.{Bool, true, false, _&&_, _||_, and-false, or-true, cond, false≢true}
 use mathlib.Core.List.{List, [], _∷_, _++_}
 use mathlib.Core.Path.{_≡_, refl, sym, ap, ap₂, _∙_, subst}
 use native.Mathlib.Omega.{arith}
@@ -267,3 +267,86 @@ from-length sp n (b ∷ bs) =
 pub allowed-length : (sp : List Spelling) (r : List ℕ) → allowedUpto sp r ≤ length r
 unfolding allowedUpto
 allowed-length sp r = from-length sp (labelRoom sp (upto (is 10) r)) r
+
+-- ---- lines that differ in the accent of their label alone
+
+module _ (sp : List Spelling) (good : allGood sp ≡ true) where
+  -- a text p before the first '=' that is, trimmed, such a label
+  module _ (p rest : List ℕ) (no-equals : any (is 61) p ≡ false) where
+    abbrev line : List ℕ
+    line = p ++ 61 ∷ rest
+
+    before-is : upto (is 61) line ≡ p
+    before-is = upto-seam (is 61) p 61 rest no-equals refl
+
+    value-is : past (is 61) line ≡ rest
+    value-is = past-seam (is 61) p 61 rest no-equals refl
+
+    opens-is : opens sp (upto (is 10) line) ≡ isAccented sp (trim p)
+    opens-is = opens-rest sp line good ∙ rw (any-seam (is 61) p 61 rest refl, before-is)
+
+    -- behind the '=' no byte of the label's part is left
+    accented-allowed : isAccented sp (trim p) ≡ true → allowedUpto sp line ≡ length p + allowedFrom sp 0 (61 ∷ rest)
+    accented-allowed a =
+        let o = opens-is ∙ a in
+        let c = accented sp good line o in
+        let k = length (c .back) in
+        let n : length (c .front) + 1 + (k + 1) ≡ firstOf 61 line + 1 = omega (arith, c .room) in
+        let left : c .rest ≡ rest =
+        sym (ap (drop 1) (drop-append-seam (c .back) (61 ∷ c .rest)))
+        ∙ drop-drop 1 k (c .back ++ 61 ∷ c .rest)
+        ∙ sym (drop-past (c .front) 224 (c .back ++ 61 ∷ c .rest) (k + 1))
+        ∙ ap (drop (length (c .front) + 1 + (k + 1))) (sym (c .cut))
+        ∙ ap (λ (m : ℕ). drop m line) n
+        ∙ sym (past-drop (is 61) line) ∙ value-is in
+        let none-left : k - k ≡ 0 = omega arith in
+        let run = run-on sp (c .back) (61 ∷ c .rest) k (c .back-plain) ∙ ap₂ (λ (n : ℕ) (l : List ℕ). k + allowedFrom sp n (61 ∷ l)) none-left left in
+        omega (arith, far-allowed sp good line o, run, c .room, ap length before-is)
+
+    plain-allowed-line : all isPlain p ≡ true → isAccented sp (trim p) ≡ false → allowedUpto sp line ≡ length p + allowedFrom sp 0 (61 ∷ rest)
+    unfolding allowedUpto
+    plain-allowed-line h a =
+        let none-left : 0 - length p ≡ 0 = omega arith in
+        ap (λ (n : ℕ). allowedFrom sp n line) (room-none sp line (opens-is ∙ a)) ∙ run-on sp p (61 ∷ rest) 0 h
+        ∙ ap (λ (n : ℕ). length p + allowedFrom sp n (61 ∷ rest)) none-left
+
+  -- the one with the accent, and the other without
+  pub spelt-allowed : (p q rest : List ℕ) → any (is 61) p ≡ false → any (is 61) q ≡ false → length p ≡ length q → isAccented sp (trim p) ≡ true
+      → all isPlain q ≡ true → isAccented sp (trim q) ≡ false → allowedUpto sp (p ++ 61 ∷ rest) ≡ allowedUpto sp (q ++ 61 ∷ rest)
+  spelt-allowed p q rest e f n a h b =
+      accented-allowed p rest e a ∙ ap (λ (k : ℕ). k + allowedFrom sp 0 (61 ∷ rest)) n ∙ sym (plain-allowed-line q rest f h b)
+
+-- ---- what stands below lines that are the same
+
+upto-front : (p : ℕ → Bool) (s t : List ℕ) → any p s ≡ true → upto p (s ++ t) ≡ upto p s
+unfolding any upto
+upto-front p [] t h = absurd (false≢true h)
+upto-front p (x ∷ s) t h = by-test (p x) (λ e. rw e) (λ e. rw e (ap (λ (l : List ℕ). x ∷ l) (upto-front p s t (rw e at h))))
+
+module _ (sp : List Spelling) (x y : List ℕ) (e : allowedUpto sp x ≡ allowedUpto sp y) where
+  ends-some : (b : ℕ) (bs : List ℕ) → beginsLine (b ∷ bs) ≡ true → any (is 10) (b ∷ bs) ≡ true
+  unfolding any
+  ends-some b [] h = rw h
+  ends-some b (c ∷ bs) h = rw (ends-some c bs h) (or-true (is 10 b))
+
+  below-from : (n b : ℕ) (bs : List ℕ) → beginsLine (b ∷ bs) ≡ true → allowedFrom sp n (b ∷ (bs ++ x)) ≡ allowedFrom sp n (b ∷ (bs ++ y))
+  unfolding allowedFrom allowed
+  below-from n b [] h =
+      ap (λ (z : ℕ). allowedFrom sp n (z ∷ x)) (eqb-true b 10 h) ∙ feed-on sp n x ∙ ap (λ (k : ℕ). 1 + k) e ∙ sym (feed-on sp n y)
+      ∙ ap (λ (z : ℕ). allowedFrom sp n (z ∷ y)) (sym (eqb-true b 10 h))
+  below-from n b (c ∷ bs) h =
+      let some = ends-some c bs h in
+      let room : upto (is 10) (c ∷ (bs ++ x)) ≡ upto (is 10) (c ∷ (bs ++ y)) =
+      upto-front (is 10) (c ∷ bs) x some ∙ sym (upto-front (is 10) (c ∷ bs) y some) in
+      rw room
+      (ap (λ (k : ℕ). cond ((isPlain b || is 10 b || (is 13 b && is 10 c)) || (is 224 b && ltb 0 n)) (suc k) 0)
+      (below-from (cond (is 10 b) (labelRoom sp (upto (is 10) (c ∷ (bs ++ y)))) (n - 1)) c bs h))
+
+  pub below-allowed : (before : List ℕ) → beginsLine before ≡ true → allowedUpto sp (before ++ x) ≡ allowedUpto sp (before ++ y)
+  unfolding allowedUpto
+  below-allowed [] h = e
+  below-allowed (b ∷ bs) h =
+      let some = ends-some b bs h in
+      let room : upto (is 10) (b ∷ (bs ++ x)) ≡ upto (is 10) (b ∷ (bs ++ y)) =
+      upto-front (is 10) (b ∷ bs) x some ∙ sym (upto-front (is 10) (b ∷ bs) y some) in
+      ap (λ (l : List ℕ). allowedFrom sp (labelRoom sp l) (b ∷ (bs ++ x))) room ∙ below-from (labelRoom sp (upto (is 10) (b ∷ (bs ++ y)))) b bs h

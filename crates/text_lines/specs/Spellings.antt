@@ -3,7 +3,7 @@
 use Prim.Native.Nat.{ℕ}
 use Prim.Native.String.{String}
 use Rattle.text.specs.Bytes.{any, bytes, firstOf, is, same, trim, upto}
-use mathlib.Core.Bool.{Bool, _&&_, cond}
+use mathlib.Core.Bool.{Bool, true, _&&_, cond}
 use mathlib.Core.List.{List, [], _∷_}
 
 pub record Spelling : Type 0 where
@@ -29,3 +29,9 @@ opens sp l = any (is 61) l && isAccented sp (trim (upto (is 61) l))
 -- how many bytes stand before that '=': 0 where the line does not open so
 unfoldable pub labelRoom : List Spelling → List ℕ → ℕ
 labelRoom sp l = cond (opens sp l) (firstOf 61 l) 0
+
+-- what stands before the first byte of a line: nothing, or bytes of which the last is LF (10)
+abbrev pub beginsLine : List ℕ → Bool
+beginsLine [] = true
+beginsLine (b ∷ []) = is 10 b
+beginsLine (b ∷ c ∷ s) = beginsLine (c ∷ s)
