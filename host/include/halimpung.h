@@ -50,7 +50,7 @@ enum halimpung_refusal {
     HALIMPUNG_PLAN = 13,          /* plan malformed. Detail: its first bad line from 1; 0 if it has no row */
     HALIMPUNG_ADDRESS = 1,        /* address not in plan */
     HALIMPUNG_SIZE = 2,           /* file size: not 1 to 8,192 bytes */
-    HALIMPUNG_BYTE = 3,           /* byte not allowed. Detail: its offset from 0 */
+    HALIMPUNG_BYTE = 3,           /* byte not allowed; E0 is in an accented label of a VQ or QR file alone. Detail: its offset from 0 */
     HALIMPUNG_SEPARATORS = 4,     /* separators: not two with one line between. Detail: how many separator lines */
     HALIMPUNG_LABEL_TWICE = 5,    /* label twice. Detail: field, first repeat from the top */
     HALIMPUNG_LABEL_MISSING = 6,  /* label missing. Detail: how many labels of the layout have no line */

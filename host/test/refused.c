@@ -64,7 +64,7 @@ static void refused_address(void) {
 }
 
 static void refused_byte(void) {
-    static const char *const bad[] = { "\xC3\xA0", "\t", "\x7F", "\x80", "\r" };
+    static const char *const bad[] = { "\xC3\xA0", "\xE0", "\t", "\x7F", "\x80", "\r" };
     struct asked good = revocation("a byte");
     uint32_t at = (uint32_t)place_of(&good.file, "REVOCA");
     for (size_t i = 0; i < sizeof bad / sizeof *bad; i++) changed("a byte that is not allowed", "REVOCA", bad[i], HALIMPUNG_BYTE, at);
@@ -73,6 +73,36 @@ static void refused_byte(void) {
     struct asked last = revocation("a CR at the end");
     add(&last.file, "\r");
     expect(&last, HALIMPUNG_BYTE, (uint32_t)last.file.length - 1);
+}
+
+/* a VQ with an accented label and VMAX, with one change */
+static void respelt(const char *what, const char *from, const char *to, uint32_t number, uint32_t detail) {
+    struct asked asked = message(what, "vq-accented.txt", 303);
+    change(&asked.file, from, to);
+    expect(&asked, number, detail);
+}
+
+/* where these words stand in it */
+static uint32_t respelt_at(const char *words) {
+    struct text file = example("vq-accented.txt");
+    return (uint32_t)place_of(&file, words);
+}
+
+static void refused_spelling(void) {
+    struct asked other = message("an accented label at the address of a CB", "vq-accented.txt", 301);
+    expect(&other, HALIMPUNG_BYTE, respelt_at("\xE0"));
+    uint32_t next = respelt_at("Regolazione");
+    respelt("an accent in a value", "fino a", "fino \xE0", HALIMPUNG_BYTE, respelt_at("fino a") + 5);
+    respelt("an accented label behind '='", "Regolazione", "x=Modalit\xE0 funzionamento\nRegolazione", HALIMPUNG_BYTE, next + 9);
+    respelt("an accented label without '='", "Regolazione", "Modalit\xE0 funzionamento\nRegolazione", HALIMPUNG_BYTE, next + 7);
+    respelt("a longer label", "Regolazione", "Modalit\xE0 funzionamento x=\nRegolazione", HALIMPUNG_BYTE, next + 7);
+    respelt("both spellings", "Regolazione", "Modalita funzionamento=RAT\nRegolazione", HALIMPUNG_LABEL_TWICE, 6);
+    respelt("an accent twice", "Regolazione", "Modalit\xE0 funzionamento=RAT\nRegolazione", HALIMPUNG_LABEL_TWICE, 6);
+    respelt("VMAX in Variazione", "= -1.5", "= VMAX", HALIMPUNG_VALUE, 10);
+    respelt("two blanks", "= VMAX", "= V  MAX", HALIMPUNG_VALUE, 9);
+    respelt("V MAX in the row", ";VMAX", ";V MAX", HALIMPUNG_ROW, 0);
+    respelt("V MAX in the body", "= VMAX", "= V MAX", HALIMPUNG_ROW, 0);
+    respelt("an accented label as the row", "+++++\nVQ-0000000010", "+++++\nModalit\xE0 funzionamento=", HALIMPUNG_ROW, 0);
 }
 
 static void refused_separators(void) {
@@ -147,6 +177,7 @@ void test_refused(void) {
     refused_plan();
     refused_address();
     refused_byte();
+    refused_spelling();
     refused_separators();
     refused_labels();
     refused_value();

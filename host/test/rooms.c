@@ -46,5 +46,6 @@ void test_rooms(void) {
     every_room_of("cb.txt", 301);
     every_room_of("lb.txt", 302);
     every_room_of("vq.txt", 303);
+    every_room_of("vq-accented.txt", 303);
     refused_first();
 }

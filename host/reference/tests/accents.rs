@@ -1,4 +1,4 @@
-//! Request A1 of document 02, accented labels and the short VMAX, by the numbers of readings-02.md. Files here are
+//! Request A1 of document 02, accented labels and the short VMAX, by the numbers of docs/READINGS.md. Files here are
 //! strings of which each character is one byte, so `à` is byte E0.
 
 mod common;
