@@ -33,6 +33,12 @@ module _ (sp : List Spelling) where
       (by-test (ltb 0 n) (λ e. rw e (λ h. ltb-true 0 n e, λ h. omega arith))
       (λ e. rw e (λ h. absurd (omega (arith, h)), λ h. absurd (false≢true (sym e ∙ lt-ltb 0 n h)))))
 
+  stepped : (n b : ℕ) (bs : List ℕ) (i : ℕ) → suc i ≤ allowedFrom sp n (b ∷ bs)
+      → allowedFrom sp n (b ∷ bs) ≡ suc (allowedFrom sp (cond (is 10 b) (labelRoom sp (upto (is 10) bs)) (n - 1)) bs)
+  unfolding allowedFrom
+  stepped n b bs i a =
+      by-test (allowed b bs || (is 224 b && ltb 0 n)) (λ t. rw t) (λ t. let z : suc i ≤ 0 = rw t at a in absurd (omega (arith, z)))
+
   by-room : (i n : ℕ) (r : List ℕ) → i ≤ allowedFrom sp n r → i < length r → getD r i 0 ≡ 224 → i < allowedFrom sp n r ↔ 0 < roomAt n r i
   unfolding roomAt
   by-room i n [] a h e = absurd (omega (arith, h))
@@ -42,12 +48,6 @@ module _ (sp : List Spelling) where
       let step : allowedFrom sp n (b ∷ bs) ≡ suc (allowedFrom sp m bs) = stepped n b bs i a in
       let w = by-room i m bs (omega (arith, a, step)) (omega (arith, h)) e in
       (λ x. w .0 (omega (arith, x, step)), λ x. omega (arith, w .1 x, step))
-    where
-      stepped : (n b : ℕ) (bs : List ℕ) (i : ℕ) → suc i ≤ allowedFrom sp n (b ∷ bs)
-          → allowedFrom sp n (b ∷ bs) ≡ suc (allowedFrom sp (cond (is 10 b) (labelRoom sp (upto (is 10) bs)) (n - 1)) bs)
-      unfolding allowedFrom
-      stepped n b bs i a =
-          by-test (allowed b bs || (is 224 b && ltb 0 n)) (λ t. rw t) (λ t. let z : suc i ≤ 0 = rw t at a in absurd (omega (arith, z)))
 
   -- within one line it falls byte by byte
   in-line : (j n : ℕ) (r : List ℕ) → any (is 10) (take j r) ≡ false → j ≤ length r → roomAt n r j ≡ n - j
@@ -63,12 +63,15 @@ module _ (sp : List Spelling) where
       → roomAt n (before ++ line) (length before + j) ≡ labelRoom sp (upto (is 10) line) - j
   unfolding roomAt
   past-lines n [] line j s e h k = absurd (omega (arith, s))
-  past-lines n (b ∷ []) line j s e h k = rw e (in-line j (labelRoom sp (upto (is 10) line)) line h k)
-  past-lines n (b ∷ c ∷ bs) line j s e h k = past-lines (cond (is 10 b) (labelRoom sp (upto (is 10) (c ∷ bs ++ line))) (n - 1)) (c ∷ bs) line j (omega arith) e h k
+  past-lines n (b ∷ []) line j s e h k = let z : 1 + j ≡ suc j = omega arith in rw (z, e) (in-line j (labelRoom sp (upto (is 10) line)) line h k)
+  past-lines n (b ∷ c ∷ bs) line j s e h k =
+      let z : suc (suc (length bs)) + j ≡ suc (suc (length bs) + j) = omega arith in
+      rw z
+      (past-lines (cond (is 10 b) (labelRoom sp (upto (is 10) (c ∷ bs ++ line))) (n - 1)) (c ∷ bs) line j (omega arith) e h k)
 
   room-is : (before line : List ℕ) (j : ℕ) → beginsLine before ≡ true → any (is 10) (take j line) ≡ false → j ≤ length line
       → roomAt (labelRoom sp (upto (is 10) (before ++ line))) (before ++ line) (length before + j) ≡ labelRoom sp (upto (is 10) line) - j
-  room-is [] line j e h k = in-line j (labelRoom sp (upto (is 10) line)) line h k
+  room-is [] line j e h k = let z : 0 + j ≡ j = omega arith in rw z (in-line j (labelRoom sp (upto (is 10) line)) line h k)
   room-is (b ∷ bs) line j e h k = past-lines (labelRoom sp (upto (is 10) (b ∷ bs ++ line))) (b ∷ bs) line j (omega arith) e h k
 
   some-room : (l : List ℕ) (j : ℕ) → 0 < labelRoom sp l - j ↔ (opens sp l ≡ true) × (j < firstOf 61 l)
@@ -78,12 +81,12 @@ module _ (sp : List Spelling) where
       (λ e. rw e (λ h. absurd (omega (arith, h)), λ h. absurd (false≢true (h .0))))
 
   length-join : (before line : List ℕ) → length (before ++ line) ≡ length before + length line
-  length-join [] line = refl
-  length-join (b ∷ bs) line = ap suc (length-join bs line)
+  length-join [] line = omega arith
+  length-join (b ∷ bs) line = omega (arith, length-join bs line)
 
   getD-join : (before line : List ℕ) (j : ℕ) → getD (before ++ line) (length before + j) 0 ≡ getD line j 0
-  getD-join [] line j = refl
-  getD-join (b ∷ bs) line j = getD-join bs line j
+  getD-join [] line j = let z : 0 + j ≡ j = omega arith in rw z
+  getD-join (b ∷ bs) line j = let z : suc (length bs) + j ≡ suc (length bs + j) = omega arith in rw z (getD-join bs line j)
 
   pub exactly : (before line : List ℕ) (j : ℕ) → beginsLine before ≡ true → any (is 10) (take j line) ≡ false → j < length line → getD line j 0 ≡ 224
       → length before + j ≤ allowedUpto sp (before ++ line)

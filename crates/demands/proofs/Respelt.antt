@@ -93,22 +93,22 @@ spellings Qr x a =
 
 -- ---- the texts of a file, from a line on
 
+pushed : (c : ℕ) (ls : List (List ℕ)) → 0 < length (push c ls)
+pushed c [] = omega arith
+pushed c (l ∷ ls) = omega arith
+
+some-line : (c : ℕ) (bs : List ℕ) → 0 < length (lines (c ∷ bs))
+unfolding lines
+some-line c bs = by-test (is 10 c) (λ e. rw e (omega arith)) (λ e. rw e (pushed c (lines bs)))
+
+stepped : (b : ℕ) (ls ms : List (List ℕ)) → 0 < length ls → lineStep b (ls ++ ms) ≡ lineStep b ls ++ ms
+stepped b [] ms h = absurd (omega (arith, h))
+stepped b (l ∷ ls) ms h = by-test (is 10 b) (λ e. rw e) (λ e. rw e)
+
 lines-below : (b : ℕ) (bs rest : List ℕ) → beginsLine (b ∷ bs) ≡ true → lines (b ∷ (bs ++ rest)) ≡ lines (b ∷ bs) ++ lines rest
 unfolding lines
 lines-below b [] rest h = rw h
-lines-below b (c ∷ bs) rest h =
-    ap (lineStep b) (lines-below c bs rest h) ∙ stepped b (lines (c ∷ bs)) (lines rest) (some-line c bs)
-  where
-    some-line : (c : ℕ) (bs : List ℕ) → 0 < length (lines (c ∷ bs))
-    unfolding lines
-    some-line c bs = by-test (is 10 c) (λ e. rw e (omega arith)) (λ e. rw e (pushed c (lines bs)))
-      where
-        pushed : (c : ℕ) (ls : List (List ℕ)) → 0 < length (push c ls)
-        pushed c [] = omega arith
-        pushed c (l ∷ ls) = omega arith
-    stepped : (b : ℕ) (ls ms : List (List ℕ)) → 0 < length ls → lineStep b (ls ++ ms) ≡ lineStep b ls ++ ms
-    stepped b [] ms h = absurd (omega (arith, h))
-    stepped b (l ∷ ls) ms h = by-test (is 10 b) (λ e. rw e) (λ e. rw e)
+lines-below b (c ∷ bs) rest h = ap (lineStep b) (lines-below c bs rest h) ∙ stepped b (lines (c ∷ bs)) (lines rest) (some-line c bs)
 
 map-join : (xs ys : List (List ℕ)) → map textOf (xs ++ ys) ≡ map textOf xs ++ map textOf ys
 map-join [] ys = refl
@@ -119,6 +119,17 @@ unfolding texts lines
 texts-below [] rest h = refl
 texts-below (b ∷ bs) rest h = ap (map textOf) (lines-below b bs rest h) ∙ map-join (lines (b ∷ bs)) (lines rest)
 
+upto-past : (e : ℕ) (p rest : List ℕ) → any (is e) p ≡ false → is e 61 ≡ false → upto (is e) (p ++ 61 ∷ rest) ≡ p ++ 61 ∷ upto (is e) rest
+unfolding any upto
+upto-past e [] rest h k = rw k
+upto-past e (x ∷ p) rest h k =
+    by-test (is e x) (λ t. absurd (false≢true (sym (rw t at h)))) (λ t. rw t (ap (λ (l : List ℕ). x ∷ l) (upto-past e p rest (rw t at h) k)))
+
+past-past : (e : ℕ) (p rest : List ℕ) → any (is e) p ≡ false → is e 61 ≡ false → past (is e) (p ++ 61 ∷ rest) ≡ past (is e) rest
+unfolding any past
+past-past e [] rest h k = rw k
+past-past e (x ∷ p) rest h k = by-test (is e x) (λ t. absurd (false≢true (sym (rw t at h)))) (λ t. rw t (past-past e p rest (rw t at h) k))
+
 -- the line of a label p, with what follows its '='
 texts-line : (p rest : List ℕ) → any (is 10) p ≡ false → any (is 13) p ≡ false
     → texts (p ++ 61 ∷ rest) ≡ trim (p ++ 61 ∷ upto (is 13) (upto (is 10) rest)) ∷ texts (past (is 10) rest)
@@ -127,15 +138,6 @@ texts-line p rest f r =
     ap (map textOf) (lines-step (p ++ 61 ∷ rest) (omega (arith, length-append p (61 ∷ rest))))
     ∙ ap₂ (λ (l s : List ℕ). trim (upto (is 13) l) ∷ map textOf (lines s)) (upto-past 10 p rest f refl) (past-past 10 p rest f refl)
     ∙ ap (λ (l : List ℕ). trim l ∷ map textOf (lines (past (is 10) rest))) (upto-past 13 p (upto (is 10) rest) r refl)
-  where
-    upto-past : (e : ℕ) (p rest : List ℕ) → any (is e) p ≡ false → is e 61 ≡ false → upto (is e) (p ++ 61 ∷ rest) ≡ p ++ 61 ∷ upto (is e) rest
-    unfolding any upto
-    upto-past e [] rest h k = rw k
-    upto-past e (x ∷ p) rest h k = by-test (is e x) (λ t. absurd (false≢true (sym (rw t at h)))) (λ t. rw t (ap (λ (l : List ℕ). x ∷ l) (upto-past e p rest (rw t at h) k)))
-    past-past : (e : ℕ) (p rest : List ℕ) → any (is e) p ≡ false → is e 61 ≡ false → past (is e) (p ++ 61 ∷ rest) ≡ past (is e) rest
-    unfolding any past
-    past-past e [] rest h k = rw k
-    past-past e (x ∷ p) rest h k = by-test (is e x) (λ t. absurd (false≢true (sym (rw t at h)))) (λ t. rw t (past-past e p rest (rw t at h) k))
 
 -- ---- the answers that the size and the bytes decide
 
@@ -211,15 +213,23 @@ module _ (t : MessageType) (unit before a x b rest : List ℕ) (begins : beginsL
 
   same-size : length (file x) ≡ length (file y)
   same-size =
-      omega (arith, ap length (file-is x), ap length (file-is y), length-append before (part x ++ 61 ∷ rest), length-append before (part y ++ 61 ∷ rest),
-      length-append (part x) (61 ∷ rest), length-append (part y) (61 ∷ rest), sizes)
+      omega (
+        arith,
+        ap length (file-is x),
+        ap length (file-is y),
+        length-append before (part x ++ 61 ∷ rest),
+        length-append before (part y ++ 61 ∷ rest),
+        length-append (part x) (61 ∷ rest),
+        length-append (part y) (61 ∷ rest),
+        sizes,
+      )
 
   same-allowed : allowedUpto (accentsOf t) (file x) ≡ allowedUpto (accentsOf t) (file y)
   same-allowed =
       let sp = accentsOf t in
       let here = spelt-allowed sp (accents-good t) (part x) (part y) rest (part-none 61 (λ q. omega (arith, q)) x (both .x-equals)) (part-none 61 (λ q. omega (arith, q)) y (both .y-equals)) sizes
-          (ap (isAccented sp) (part-trim x (both .x-trim)) ∙ accented) part-plain
-          (ap (isAccented sp) (part-trim y (both .y-trim)) ∙ plain-unaccented sp y (accents-good t) (both .plain)) in
+      (ap (isAccented sp) (part-trim x (both .x-trim)) ∙ accented) part-plain
+      (ap (isAccented sp) (part-trim y (both .y-trim)) ∙ plain-unaccented sp y (accents-good t) (both .plain)) in
       ap (allowedUpto sp) (file-is x) ∙ below-allowed sp (part x ++ 61 ∷ rest) (part y ++ 61 ∷ rest) here before begins ∙ sym (ap (allowedUpto sp) (file-is y))
 
   -- the lines
@@ -250,7 +260,7 @@ module _ (t : MessageType) (unit before a x b rest : List ℕ) (begins : beginsL
       let one : Alike sp (trim (part x ++ 61 ∷ value)) (trim (part y ++ 61 ∷ value)) = (
         line-sep x ∙ sym (line-sep y),
         line-param x (both .x-equals) (both .x-trim)
-        ∙ sym (line-param y (both .y-equals) (both .y-trim) ∙ ap (λ (l : List ℕ). some (param l (trim value))) (respell-plain sp y (accents-good t) (both .plain))),
+            ∙ sym (line-param y (both .y-equals) (both .y-trim) ∙ ap (λ (l : List ℕ). some (param l (trim value))) (respell-plain sp y (accents-good t) (both .plain))),
       ) in
       rw (file-texts x (both .x-feed) (both .x-return), file-texts y y-feed y-return)
       (same-pairs {R = Alike sp} (λ s. (refl, refl)) (texts before) (next one (all-same (texts (past (is 10) rest)))))

@@ -76,8 +76,8 @@ cases =
     -- a row that opens with such a label is a row, and another
     ∷ ofVq (of (head ++ plain ++ tail (bytes "V MAX")) (bytes "Modalità funzionamento=1\n")) 10 0
     -- both in one file are 5, whichever came first; and the accented one twice
-    ∷ ofVq (of (head ++ plain ++ accented) []) 5 6
-    ∷ ofVq (of (head ++ accented ++ plain) []) 5 6
+    ∷ ofVq (of (head ++ plain ++ accented) (bytes "\n")) 5 6
+    ∷ ofVq (of (head ++ accented ++ plain) (bytes "\n")) 5 6
     ∷ ofQr (of (bytes "Quantità Riservata=1\nQuantità Riservata (MW)=2\nQuantita Riservata (MW)=3\nQuantita Riservata=4\n") (bytes "\n")) 5 6
     ∷ ofQr (of (bytes "Quantità Riservata=1\nQuantità Riservata=2\n") (bytes "\n")) 5 7
     -- E0 in a value, behind the '=', in a line without '=', in another type's label, twice, in another label

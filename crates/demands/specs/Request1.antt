@@ -11,6 +11,7 @@ use Rattle.text_lines.specs.Lines.{allowedUpto}
 use Rattle.text_lines.specs.Spellings.{beginsLine, isAccented, respell, opens}
 use Rattle.value.specs.Kinds.{shapeOf}
 use Rattle.value.specs.declared.Got.the-variants.{Bad}
+use Rattle.value.specs.declared.Shape.{Shape}
 use Rattle.value.specs.declared.Shape.the-variants.{IsVoltage, IsRegulator, IsChange, IsReactive}
 use Rattle.value_name.specs.declared.MessageType.{MessageType}
 use Rattle.writer.specs.Writer.{normaliseOf, normalLeft}
@@ -20,10 +21,16 @@ use mathlib.Core.List.{List, [], _∷_, _++_}
 use mathlib.Core.Logic.{_↔_}
 use mathlib.Core.Path.{_≡_}
 
-
 -- what is left of a file from a line on, with a label between blanks before its first '='
 abbrev pub withLabel : List ℕ → List ℕ → List ℕ → List ℕ → List ℕ
 withLabel a label b rest = a ++ (label ++ (b ++ 61 ∷ rest))
+
+-- a kind of value that reads `VMAX` as `V MAX` and `VMIN` as `V MIN`; and one that reads neither
+abbrev pub SameSetting : Shape → Type 0
+SameSetting k = (shapeOf k (bytes "VMAX") ≡ shapeOf k (bytes "V MAX")) × (shapeOf k (bytes "VMIN") ≡ shapeOf k (bytes "V MIN"))
+
+abbrev pub NoSetting : Shape → Type 0
+NoSetting k = (shapeOf k (bytes "VMAX") ≡ Bad) × (shapeOf k (bytes "VMIN") ≡ Bad)
 
 pub record Request1 : Type 0 where
   -- "Byte E0 is to be allowed as the accented letter of those labels only", and "E0 stays 3 except inside the trimmed part before its line's first `=`, where
@@ -44,10 +51,8 @@ pub record Request1 : Type 0 where
       → rowIn (before ++ withLabel a x b rest) ≡ rowIn (before ++ withLabel a (respell (accentsOf (typeAt ca ioa plan)) x) b rest)
       → readOf ca ioa plan (before ++ withLabel a x b rest) ≡ readOf ca ioa plan (before ++ withLabel a (respell (accentsOf (typeAt ca ioa plan)) x) b rest)
   -- "both spellings of the settings mean the same", in the two settings and nowhere else
-  pub settings-alike : (shapeOf IsVoltage (bytes "VMAX") ≡ shapeOf IsVoltage (bytes "V MAX")) × (shapeOf IsVoltage (bytes "VMIN") ≡ shapeOf IsVoltage (bytes "V MIN"))
-      × (shapeOf IsRegulator (bytes "VMAX") ≡ shapeOf IsRegulator (bytes "V MAX")) × (shapeOf IsRegulator (bytes "VMIN") ≡ shapeOf IsRegulator (bytes "V MIN"))
-  pub settings-alone : (shapeOf IsChange (bytes "VMAX") ≡ Bad) × (shapeOf IsReactive (bytes "VMAX") ≡ Bad) × (shapeOf IsChange (bytes "VMIN") ≡ Bad)
-      × (shapeOf IsReactive (bytes "VMIN") ≡ Bad)
+  pub settings-alike : SameSetting IsVoltage × SameSetting IsRegulator
+  pub settings-alone : NoSetting IsChange × NoSetting IsReactive
   -- "The writer keeps its spelling.": what is answered alike is written alike
   pub written-plain : (ca ioa : ℕ) (plan f g out : List ℕ) → readOf ca ioa plan f ≡ readOf ca ioa plan g
       → (normaliseOf (readOf ca ioa plan f) (length out) ≡ normaliseOf (readOf ca ioa plan g) (length out))
