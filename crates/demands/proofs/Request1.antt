@@ -14,7 +14,9 @@ use Rattle.value.specs.declared.Shape.the-variants.{IsVoltage, IsRegulator, IsC
 use Rattle.value_number.specs.Number.{scaled, fractionOf, joinedDigits, unsignedOf, plus, minus, numberOf}
 use Rattle.value_word.specs.Words.{commandWords, modeWords, settingWords, words, word, wordFrom, voltIn}
 use Rattle.writer.specs.Writer.{normaliseOf, normalLeft}
+use Rattle.writer_theorems.proofs.RoundTrip.{file-plain}
 use lib.ListN.{length}
+use mathlib.Core.List.{[]}
 use mathlib.Core.Path.{refl, ap}
 
 settings : SameSetting IsVoltage × SameSetting IsRegulator
@@ -40,6 +42,7 @@ request-1 =
           files.at-same s _ _ (either (s .message) (unitIn s) before a x b rest begins ha hb accented row);
       settings-alike = settings;
       settings-alone = alone;
-      written-plain = λ ca ioa plan f g out e. (ap (λ (r : Answer). normaliseOf r (length out)) e, ap (λ (r : Answer). normalLeft r out) e);
+      written-plain = λ r v. file-plain (v .valid) [];
+      written-alike = λ ca ioa plan f g out e. (ap (λ (r : Answer). normaliseOf r (length out)) e, ap (λ (r : Answer). normalLeft r out) e);
       row-as-it-came = λ ca ioa plan file h. files.read-accepted ca ioa plan file h .row-is;
     }

@@ -6,6 +6,8 @@ use Rattle.layout.specs.Rows.{rowOf}
 use Rattle.reader.specs.Messages.{given, rowIn}
 use Rattle.reader.specs.Reader.{Sound, bodyColumn, readOf}
 use Rattle.reader_accent.specs.Accents.{accentsOf}
+use Rattle.record.specs.declared.Record.{Record}
+use Rattle.record_valid.specs.Valid.{Valid}
 use Rattle.text.specs.Bytes.{all, any, bytes, firstOf, is, isBlank, upto}
 use Rattle.text_lines.specs.Lines.{allowedUpto}
 use Rattle.text_lines.specs.Spellings.{beginsLine, isAccented, respell, opens}
@@ -15,6 +17,7 @@ use Rattle.value.specs.declared.Shape.{Shape}
 use Rattle.value.specs.declared.Shape.the-variants.{IsVoltage, IsRegulator, IsChange, IsReactive}
 use Rattle.value_name.specs.declared.MessageType.{MessageType}
 use Rattle.writer.specs.Writer.{normaliseOf, normalLeft}
+use Rattle.writer_form.specs.Written.{fileOf}
 use lib.ListN.{length, getD, take}
 use mathlib.Core.Bool.{Bool, true, false}
 use mathlib.Core.List.{List, [], _∷_, _++_}
@@ -53,8 +56,9 @@ pub record Request1 : Type 0 where
   -- "both spellings of the settings mean the same", in the two settings and nowhere else
   pub settings-alike : SameSetting IsVoltage × SameSetting IsRegulator
   pub settings-alone : NoSetting IsChange × NoSetting IsReactive
-  -- "The writer keeps its spelling.": what is answered alike is written alike
-  pub written-plain : (ca ioa : ℕ) (plan f g out : List ℕ) → readOf ca ioa plan f ≡ readOf ca ioa plan g
+  -- "The writer keeps its spelling.": every byte of what is written is allowed where no label has an accent; and what is answered alike is written alike
+  pub written-plain : (r : Record) → Valid r → allowedUpto [] (fileOf r) ≡ length (fileOf r)
+  pub written-alike : (ca ioa : ℕ) (plan f g out : List ℕ) → readOf ca ioa plan f ≡ readOf ca ioa plan g
       → (normaliseOf (readOf ca ioa plan f) (length out) ≡ normaliseOf (readOf ca ioa plan g) (length out))
       × (normalLeft (readOf ca ioa plan f) out ≡ normalLeft (readOf ca ioa plan g) out)
   -- "The row is still compared with the body as it came": with the body's own texts

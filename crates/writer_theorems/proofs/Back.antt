@@ -12,6 +12,7 @@ use Rattle.layout.specs.declared.Layout.{Layout}
 use Rattle.layout.specs.declared.Layout.the-variants.{Market, Mfrr, Revocation, Generic, Exclusion, Limitation, Secondary, VoltVar, Rejection, Reserve}
 use Rattle.text_lines.specs.Entries.{entries, again, missing, column}
 use Rattle.text_lines.specs.Lines.{texts, outside, framed, allowedUpto, param, params}
+use Rattle.text_lines.specs.Spellings.{Spelling}
 use Rattle.reader.specs.Messages.{given, rowIn, isKindOfCommand, layoutIn}
 use Rattle.writer_theorems.proofs.Entries.{paired, any-label, Placed, numbered, entries-are, none-again, missing-none, column-back}
 use Rattle.writer_theorems.proofs.Frame.{upper, plain-is, outside-is, inside-is, framed-is}
@@ -113,8 +114,9 @@ module _ (l : Layout) (col : List (List ℕ)) where
     texts-are : texts file ≡ map trim whole
     texts-are = ap texts as-lines ∙ lines-texts whole whole-plain
 
-    all-clean : allowedUpto (accentsOf (typeOf l)) file ≡ length file
-    all-clean = rw as-lines (lines-allowed whole whole-plain (accentsOf (typeOf l)))
+    -- with whatever labels that have an accent, and with none
+    pub all-clean : (sp : List Spelling) → allowedUpto sp file ≡ length file
+    all-clean sp = rw as-lines (lines-allowed whole whole-plain sp)
 
     frame-is : framed (texts file) ≡ true
     frame-is = ap framed texts-are ∙ framed-is above row above-upper (row-tidy l col h) (row-no-sep l col)
@@ -142,7 +144,7 @@ written-back l col n h =
     let m = n ∙ sym (labels-length l) in
     let es = entries-in l col h m in
     record {
-      clean = all-clean l col h;
+      clean = all-clean l col h (accentsOf (typeOf l));
       is-framed = frame-is l col h;
       row-is = row-in l col h;
       layout-is = ap (layoutIn (typeOf l)) (given-is l col h) ∙ layout-of l col m;

@@ -6,6 +6,7 @@ use Rattle.layout.specs.declared.Layout.{Layout}
 use Rattle.reader_accent.specs.Accents.{accentsOf}
 use Rattle.text_lines.specs.Entries.{again, missing}
 use Rattle.text_lines.specs.Lines.{texts, framed, allowedUpto}
+use Rattle.text_lines.specs.Spellings.{Spelling}
 use Rattle.value_name.specs.declared.MessageType.{MessageType}
 use Rattle.plan.specs.Plans.{planOf, soughtOf}
 use Rattle.plan.specs.declared.Sought.{Sought}
@@ -15,7 +16,7 @@ use Rattle.reader.specs.Reader.{isThere, valued, labelled, reading, bodyColumn,
 use Rattle.reader.specs.Refusals.{accepted}
 use Rattle.record.specs.Records.{Typed, recordOf, roomsOf}
 use Rattle.record.specs.declared.Record.{Record}
-use Rattle.writer_theorems.proofs.Back.{ReadBack, written-back}
+use Rattle.writer_theorems.proofs.Back.{all-clean, ReadBack, written-back}
 use Rattle.writer_theorems.proofs.Records.{column-tidy, typed-back, record-back, unit-code}
 use Rattle.writer_theorems.specs.Own.{Fitting, OwnAddress}
 use Rattle.record_rules.specs.Rules.{brokenIn}
@@ -58,6 +59,11 @@ module _ {r : Record} {vs : List Value} (v : ValidAs r vs) where
   pub file-small : length (fileOf r) ≤ 8192
   unfolding fileOf
   file-small = message-small lay (roomsOf r) (r .cells) (rw (values-are v) (v .hold))
+
+  -- none of its bytes is the accent of a label
+  pub file-plain : (sp : List Spelling) → allowedUpto sp (fileOf r) ≡ length (fileOf r)
+  unfolding textsOf
+  file-plain sp = subst (λ (f : List ℕ). allowedUpto sp f ≡ length f) (sym (file-is v)) (all-clean lay col (column-tidy (v .hold)) sp)
 
   -- ---- the file gives the record, and no refusal's condition holds
 
