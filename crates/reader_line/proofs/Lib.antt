@@ -3,3 +3,4 @@ pub mod Turns
 pub mod Heads
 pub mod Meanings
 pub mod Tries
+pub mod Accents

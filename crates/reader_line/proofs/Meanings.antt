@@ -3,16 +3,13 @@ use Prim.Native.Nat.{ℕ, suc, _+_, _≤_, _<_}
 use Rattle.reader_line.proofs.Labels.{star-foreign, mfrr-alone}
 use Rattle.reader_line.specs.Items.{firstLabels, secondLabels, isForeign, item, fielded, itemIn}
 use Rattle.reader_line.specs.declared.Item.{Item}
-use Rattle.layout.specs.Layouts.{labelsOf, layoutOf}
-use Rattle.layout.specs.declared.Layout.{Layout}
-use Rattle.reader_accent.specs.Accents.{accentsOf}
+use Rattle.layout.specs.Layouts.{layoutOf}
 use Rattle.layout.specs.declared.Layout.the-variants.{Mfrr}
 use Rattle.text_lines.proofs.Leaves.{span-holds}
 use Rattle.text_lines.specs.Entries.{placeOf}
 use Rattle.text_lines.specs.Lines.{isSep}
 use Rattle.text_lines.specs.Places.{HoldsText, noSpan, partOf, trimmedAt, valueSpan}
-use Rattle.text_lines.proofs.Spelt.{respell-other}
-use Rattle.text_lines.specs.Spellings.{Spelling, isAccented, respell}
+use Rattle.text_lines.specs.Spellings.{Spelling, respell}
 use Rattle.text_lines.specs.Spots.{fieldIn}
 use Rattle.text_lines.specs.declared.Span.{Span}
 use Rattle.value_name.specs.declared.MessageType.{MessageType}
@@ -20,7 +17,7 @@ use Rattle.value_name.specs.declared.MessageType.the-variants.{Cb, Rc, Mg, Eb, 
 use Rattle.text.proofs.Cuts.{part-from, length-part, upto-take, past-drop, upto-length}
 use Rattle.text.proofs.Tests.{by-test, and-parts, or-right}
 use Rattle.text.proofs.Trims.{keep-no}
-use Rattle.text.specs.Bytes.{part, upto, past, any, all, is, isBlank, firstOf, skip, skipEnd, trim, same}
+use Rattle.text.specs.Bytes.{part, upto, past, any, all, is, isBlank, firstOf, skip, skipEnd, trim}
 use borrow.Author.Tests.{eqb-true, ne-eqb}
 use lib.Dec.{eqb, leb}
 use lib.ListN.{length, getD, take, drop}
@@ -32,19 +29,19 @@ use native.Mathlib.Omega.{arith}
 -- ---- a line is one kind
 
 -- below one separator, and a separator
-pub as-row : (t : MessageType) (n at : ℕ) (l : List ℕ) → eqb n 1 ≡ true → item (at + length l) (isSep (trim l)) 0 0 (trimmedAt at l) ≡ itemIn t n at l
+pub as-row : (sp : List Spelling) (t : MessageType) (n at : ℕ) (l : List ℕ) → eqb n 1 ≡ true → item (at + length l) (isSep (trim l)) 0 0 (trimmedAt at l) ≡ itemIn sp t n at l
 unfolding itemIn
-as-row t n at l e = rw (or-right (isSep (trim l)) (eqb n 1) e)
+as-row sp t n at l e = rw (or-right (isSep (trim l)) (eqb n 1) e)
 
-pub as-separator : (t : MessageType) (n at : ℕ) (l : List ℕ) → isSep (trim l) ≡ true → item (at + length l) true 0 0 (trimmedAt at l) ≡ itemIn t n at l
+pub as-separator : (sp : List Spelling) (t : MessageType) (n at : ℕ) (l : List ℕ) → isSep (trim l) ≡ true → item (at + length l) true 0 0 (trimmedAt at l) ≡ itemIn sp t n at l
 unfolding itemIn
-as-separator t n at l e = rw e
+as-separator sp t n at l e = rw e
 
 -- and any other
-pub as-field : (t : MessageType) (n at : ℕ) (l : List ℕ) → isSep (trim l) ≡ false → (n ≡ 1 → ⊥)
-    → fielded (at + length l) (fieldIn (accentsOf t) (firstLabels t) l) (fieldIn (accentsOf t) (secondLabels t) l) at l ≡ itemIn t n at l
+pub as-field : (sp : List Spelling) (t : MessageType) (n at : ℕ) (l : List ℕ) → isSep (trim l) ≡ false → (n ≡ 1 → ⊥)
+    → fielded (at + length l) (fieldIn sp (firstLabels t) l) (fieldIn sp (secondLabels t) l) at l ≡ itemIn sp t n at l
 unfolding itemIn
-as-field t n at l e ne = rw (e, ne-eqb n 1 ne)
+as-field sp t n at l e ne = rw (e, ne-eqb n 1 ne)
 
 -- ---- the same of a line by its ends, and of what the code found at its trimmed place
 
@@ -62,23 +59,23 @@ module _ (t : MessageType) (file : List ℕ) (at end : ℕ) (ordered : at ≤ en
     text-is : partOf file p ≡ trim line
     text-is = held .holds
 
-    pub row-is : (s : Bool) → s ≡ isSep (partOf file p) → item end s 0 0 p ≡ itemIn t 1 at line
+    pub row-is : (s : Bool) → s ≡ isSep (partOf file p) → item end s 0 0 p ≡ itemIn [] t 1 at line
     row-is s e =
-        rw (placed, e ∙ ap isSep text-is) (ap (λ (k : ℕ). item k (isSep (trim line)) 0 0 (trimmedAt at line)) size ∙ as-row t 1 at line refl)
+        rw (placed, e ∙ ap isSep text-is) (ap (λ (k : ℕ). item k (isSep (trim line)) 0 0 (trimmedAt at line)) size ∙ as-row [] t 1 at line refl)
 
-    pub separator-is : (n : ℕ) {s : Bool} → s ≡ isSep (partOf file p) → s ≡ true → item end true 0 0 p ≡ itemIn t n at line
+    pub separator-is : (n : ℕ) {s : Bool} → s ≡ isSep (partOf file p) → s ≡ true → item end true 0 0 p ≡ itemIn [] t n at line
     separator-is n e y =
         rw placed
-        (ap (λ (k : ℕ). item k true 0 0 (trimmedAt at line)) size ∙ as-separator t n at line (sym (ap isSep text-is) ∙ sym e ∙ y))
+        (ap (λ (k : ℕ). item k true 0 0 (trimmedAt at line)) size ∙ as-separator [] t n at line (sym (ap isSep text-is) ∙ sym e ∙ y))
 
     pub field-is : (n : ℕ) {s : Bool} {i : Item} → s ≡ isSep (partOf file p) → s ≡ false → (n ≡ 1 → ⊥)
-        → i ≡ fielded end (fieldIn (accentsOf t) (firstLabels t) line) (fieldIn (accentsOf t) (secondLabels t) line) at line → i ≡ itemIn t n at line
+        → i ≡ fielded end (fieldIn [] (firstLabels t) line) (fieldIn [] (secondLabels t) line) at line → i ≡ itemIn [] t n at line
     field-is n e y ne i-is =
-        i-is ∙ ap (λ (k : ℕ). fielded k (fieldIn (accentsOf t) (firstLabels t) line) (fieldIn (accentsOf t) (secondLabels t) line) at line) size
-        ∙ as-field t n at line (sym (ap isSep text-is) ∙ sym e ∙ y) ne
+        i-is ∙ ap (λ (k : ℕ). fielded k (fieldIn [] (firstLabels t) line) (fieldIn [] (secondLabels t) line) at line) size
+        ∙ as-field [] t n at line (sym (ap isSep text-is) ∙ sym e ∙ y) ne
 
-  pub below-one : (n : ℕ) {i : Item} → n ≡ 1 → i ≡ itemIn t 1 at line → i ≡ itemIn t n at line
-  below-one n e h = h ∙ ap (λ (k : ℕ). itemIn t k at line) (sym e)
+  pub below-one : (n : ℕ) {i : Item} → n ≡ 1 → i ≡ itemIn [] t 1 at line → i ≡ itemIn [] t n at line
+  below-one n e h = h ∙ ap (λ (k : ℕ). itemIn [] t k at line) (sym e)
 
 -- ---- a text divided at its first '='
 
@@ -98,39 +95,42 @@ nobody : (end at : ℕ) (l : List ℕ) → item end false 0 0 noSpan ≡ fielded
 unfolding fielded
 nobody end at l = refl
 
-no-field : (sp : List Spelling) (ls : List (List ℕ)) (l : List ℕ) → any (is 61) l ≡ false → 0 ≡ fieldIn sp ls l
+no-field : (ls : List (List ℕ)) (l : List ℕ) → any (is 61) l ≡ false → 0 ≡ fieldIn [] ls l
 unfolding fieldIn
-no-field sp ls l e = rw e
+no-field ls l e = rw e
 
 pub its-field : (sp : List Spelling) (ls : List (List ℕ)) (l : List ℕ) → any (is 61) l ≡ true → placeOf ls (respell sp (trim (upto (is 61) l))) ≡ fieldIn sp ls l
 unfolding fieldIn
 its-field sp ls l e = rw e
 
-with-value : (end at : ℕ) (l : List ℕ) (f g : ℕ) (v : Span) → v ≡ valueSpan at l → (eqb f 0 && eqb g 0) ≡ false → item end false f g v ≡ fielded end f g at l
+plain-field : (ls : List (List ℕ)) (l : List ℕ) → any (is 61) l ≡ true → placeOf ls (trim (upto (is 61) l)) ≡ fieldIn [] ls l
+unfolding respell
+plain-field ls l e = its-field [] ls l e
+
+pub with-value : (end at : ℕ) (l : List ℕ) (f g : ℕ) (v : Span) → v ≡ valueSpan at l → (eqb f 0 && eqb g 0) ≡ false → item end false f g v ≡ fielded end f g at l
 unfolding fielded
 with-value end at l f g v v-is z = rw (z, v-is)
 
 module _ (t : MessageType) (end at : ℕ) (l : List ℕ) (e : ℕ) (he : e ≡ firstOf 61 l) where
   abbrev Line : Item → Type 0
-  Line i = i ≡ fielded end (fieldIn (accentsOf t) (firstLabels t) l) (fieldIn (accentsOf t) (secondLabels t) l) at l
+  Line i = i ≡ fielded end (fieldIn [] (firstLabels t) l) (fieldIn [] (secondLabels t) l) at l
 
   -- without '=' there is no field
   pub no-equals : {i : Item} → i ≡ item end false 0 0 noSpan → e ≡ length l → Line i
   no-equals i-is h =
       let none-here = none-there (is 61) l (sym he ∙ h) in
-      i-is ∙ nobody end at l ∙ ap₂ (λ (a b : ℕ). fielded end a b at l) (no-field (accentsOf t) (firstLabels t) l none-here)
-      (no-field (accentsOf t) (secondLabels t) l none-here)
+      i-is ∙ nobody end at l ∙ ap₂ (λ (a b : ℕ). fielded end a b at l) (no-field (firstLabels t) l none-here) (no-field (secondLabels t) l none-here)
 
   module _ (hl : e ≡ length l → ⊥) (label : List ℕ) (label-is : label ≡ trim (take e l)) (f g : ℕ)
-      (hg : g ≡ placeOf (secondLabels t) (respell (accentsOf t) label)) (hf : f ≡ placeOf (firstLabels t) (respell (accentsOf t) label)) where
+      (hg : g ≡ placeOf (secondLabels t) label) (hf : f ≡ placeOf (firstLabels t) label) where
     here : any (is 61) l ≡ true
     here = one-there (is 61) l (λ z. hl (he ∙ z))
 
-    fields-are : fielded end f g at l ≡ fielded end (fieldIn (accentsOf t) (firstLabels t) l) (fieldIn (accentsOf t) (secondLabels t) l) at l
+    fields-are : fielded end f g at l ≡ fielded end (fieldIn [] (firstLabels t) l) (fieldIn [] (secondLabels t) l) at l
     fields-are =
         let x : label ≡ trim (upto (is 61) l) = label-is ∙ ap trim (ap (λ (k : ℕ). take k l) he ∙ sym (upto-take (is 61) l)) in
-        ap₂ (λ (a b : ℕ). fielded end a b at l) (hf ∙ ap (λ (y : List ℕ). placeOf (firstLabels t) (respell (accentsOf t) y)) x ∙ its-field (accentsOf t) (firstLabels t) l here)
-        (hg ∙ ap (λ (y : List ℕ). placeOf (secondLabels t) (respell (accentsOf t) y)) x ∙ its-field (accentsOf t) (secondLabels t) l here)
+        ap₂ (λ (a b : ℕ). fielded end a b at l) (hf ∙ ap (placeOf (firstLabels t)) x ∙ plain-field (firstLabels t) l here)
+        (hg ∙ ap (placeOf (secondLabels t)) x ∙ plain-field (secondLabels t) l here)
 
     -- a foreign label
     pub no-label : {i : Item} → i ≡ item end false 0 0 noSpan → (eqb f 0 && eqb g 0) ≡ true → Line i
@@ -188,63 +188,41 @@ star-sep : (s : List ℕ) → isSep (trim (42 ∷ s)) ≡ false
 unfolding isSep all
 star-sep s = ap isSep (star-trim s) ∙ and-false (leb 5 (length (42 ∷ skipEnd isBlank s)))
 
--- no label with an accent begins so
-star-spelt : (t : MessageType) (y : List ℕ) → respell (accentsOf t) (42 ∷ y) ≡ 42 ∷ y
-unfolding respell accentsOf same
-star-spelt Cb y = refl
-star-spelt Rc y = refl
-star-spelt Mg y = refl
-star-spelt Eb y = refl
-star-spelt Lb y = refl
-star-spelt Sr y = refl
-star-spelt Vq y = refl
-star-spelt Ri y = refl
-star-spelt Qr y = refl
-
-star-field : (t : MessageType) (ls : List (List ℕ)) (s : List ℕ) → ((y : List ℕ) → placeOf ls (42 ∷ y) ≡ 0) → 0 ≡ fieldIn (accentsOf t) ls (42 ∷ s)
-unfolding fieldIn any upto
-star-field t ls s none-such =
-    let y = skipEnd isBlank (upto (is 61) s) in
-    by-test (any (is 61) s) (λ e. rw (e, star-trim (upto (is 61) s), star-spelt t y, none-such y)) (λ e. rw e)
+star-field : (ls : List (List ℕ)) (s : List ℕ) → ((y : List ℕ) → placeOf ls (42 ∷ y) ≡ 0) → 0 ≡ fieldIn [] ls (42 ∷ s)
+unfolding fieldIn respell any upto
+star-field ls s none-such =
+    by-test (any (is 61) s) (λ t. rw (t, star-trim (upto (is 61) s), none-such (skipEnd isBlank (upto (is 61) s)))) (λ t. rw t)
 
 empty-sep : isSep (trim []) ≡ false
 unfolding isSep trim skip skipEnd
 empty-sep = refl
 
-empty-field : (sp : List Spelling) (ls : List (List ℕ)) → 0 ≡ fieldIn sp ls []
+empty-field : (ls : List (List ℕ)) → 0 ≡ fieldIn [] ls []
 unfolding fieldIn any
-empty-field sp ls = refl
+empty-field ls = refl
 
-foreign-is : (t : MessageType) (n at : ℕ) (l : List ℕ) → isForeign l ≡ true → (n ≡ 1 → ⊥) → item (at + length l) false 0 0 noSpan ≡ itemIn t n at l
+foreign-is : (t : MessageType) (n at : ℕ) (l : List ℕ) → isForeign l ≡ true → (n ≡ 1 → ⊥) → item (at + length l) false 0 0 noSpan ≡ itemIn [] t n at l
 unfolding isForeign
 foreign-is t n at [] e ne =
-    nobody (at + 0) at [] ∙ ap₂ (λ (a b : ℕ). fielded (at + 0) a b at []) (empty-field (accentsOf t) (firstLabels t)) (empty-field (accentsOf t) (secondLabels t))
-    ∙ as-field t n at [] empty-sep ne
+    nobody (at + 0) at [] ∙ ap₂ (λ (a b : ℕ). fielded (at + 0) a b at []) (empty-field (firstLabels t)) (empty-field (secondLabels t))
+    ∙ as-field [] t n at [] empty-sep ne
 foreign-is t n at (b ∷ s) e ne =
     let end = at + suc (length s) in
     rw (eqb-true b 42 e)
     (nobody end at (42 ∷ s)
-    ∙ ap₂ (λ (a b : ℕ). fielded end a b at (42 ∷ s)) (star-field t (firstLabels t) s (star-foreign (layoutOf t))) (star-field t (secondLabels t) s (second-star t))
-    ∙ as-field t n at (42 ∷ s) (star-sep s) ne)
+    ∙ ap₂ (λ (a b : ℕ). fielded end a b at (42 ∷ s)) (star-field (firstLabels t) s (star-foreign (layoutOf t))) (star-field (secondLabels t) s (second-star t))
+    ∙ as-field [] t n at (42 ∷ s) (star-sep s) ne)
 
 pub passed-over : (t : MessageType) (file : List ℕ) (at end : ℕ) → at ≤ end → end ≤ length file → (n : ℕ) {i : Item} → i ≡ item end false 0 0 noSpan
-    → isForeign (part at end file) ≡ true → (n ≡ 1 → ⊥) → i ≡ itemIn t n at (part at end file)
+    → isForeign (part at end file) ≡ true → (n ≡ 1 → ⊥) → i ≡ itemIn [] t n at (part at end file)
 passed-over t file at end h k n i-is e ne =
     i-is ∙ ap (λ (j : ℕ). item j false 0 0 noSpan) (size t file at end h k) ∙ foreign-is t n at (part at end file) e ne
 
--- ---- a text that is no label with an accent is asked for as it is
-
-pub plain-first : (t : MessageType) (x : List ℕ) (l : Layout) (k : ℕ) → isAccented (accentsOf t) x ≡ false → l ≡ layoutOf t → k ≡ placeOf (labelsOf l) x
-    → k ≡ placeOf (firstLabels t) (respell (accentsOf t) x)
-plain-first t x l k a e h =
-    h ∙ ap (λ (m : Layout). placeOf (labelsOf m) x) e ∙ ap (placeOf (firstLabels t)) (sym (respell-other (accentsOf t) x a))
-
 -- ---- a line of a type other than CB has no second field; one of CB that has it past the two shared ones has no first
 
-pub no-first : (t : MessageType) (k : ℕ) (x : List ℕ) → k ≡ placeOf (secondLabels t) (respell (accentsOf t) x) → 2 < k
-    → 0 ≡ placeOf (firstLabels t) (respell (accentsOf t) x)
+pub no-first : (t : MessageType) (k : ℕ) (x : List ℕ) → k ≡ placeOf (secondLabels t) x → 2 < k → 0 ≡ placeOf (firstLabels t) x
 unfolding placeOf
-no-first Cb k x e h = mfrr-alone (respell (accentsOf Cb) x) k e h
+no-first Cb k x e h = mfrr-alone x k e h
 no-first Rc k x e h = absurd (omega arith)
 no-first Mg k x e h = absurd (omega arith)
 no-first Eb k x e h = absurd (omega arith)

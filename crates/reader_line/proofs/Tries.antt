@@ -14,7 +14,6 @@ use Rattle.text_lines.proofs.Params.{sep-equals, equals-trim, blanks-equals, tr
 use Rattle.text_lines.proofs.Steps.{run-length}
 use Rattle.text_lines.specs.Entries.{placeOf}
 use Rattle.text_lines.specs.Lines.{isSep}
-use Rattle.text_lines.proofs.Allowed.{line-run}
 use Rattle.text_lines.proofs.Spelt.{opens-rest, plain-unaccented, respell-plain}
 use Rattle.text_lines.specs.Places.{notPlain, plainRun, lineRun, trimmedAt, valueSpan}
 use Rattle.text_lines.specs.Spellings.{Spelling, opens, respell}
@@ -37,13 +36,13 @@ use native.Mathlib.Omega.{arith}
 -- ---- a line that begins as it was expected to
 
 -- the bytes from `at` to the end of its first run of printable ones
-run-part : (file : List ℕ) (at end : ℕ) → end ≡ at + plainRun (drop at file) → part at end file ≡ upto notPlain (drop at file)
+pub run-part : (file : List ℕ) (at end : ℕ) → end ≡ at + plainRun (drop at file) → part at end file ≡ upto notPlain (drop at file)
 run-part file at end e =
     let n : end - at ≡ plainRun (drop at file) = omega arith in
     ap (λ (k : ℕ). take k (drop at file)) n ∙ sym (upto-take notPlain (drop at file))
 
 -- and to the line's end
-line-is : (sp : List Spelling) (file : List ℕ) (at end : ℕ) → end ≡ at + lineRun sp (drop at file) → part at end file ≡ lineFrom sp file at
+pub line-is : (sp : List Spelling) (file : List ℕ) (at end : ℕ) → end ≡ at + lineRun sp (drop at file) → part at end file ≡ lineFrom sp file at
 line-is sp file at end e = let n : end - at ≡ lineRun sp (drop at file) = omega arith in ap (λ (k : ℕ). take k (drop at file)) n
 
 module _ (t : MessageType) (file : List ℕ) (at n h : ℕ) (x : Expected) (hx : IsExpected t x)
@@ -146,8 +145,8 @@ module _ (t : MessageType) (file : List ℕ) (at n h : ℕ) (x : Expected) (hx :
       here
       ∙ ap₂ (λ (f g : ℕ). fielded end f g at line) a b
       ∙ ap (λ (k : ℕ). fielded k (fieldIn (accentsOf t) (firstLabels t) line) (fieldIn (accentsOf t) (secondLabels t) line) at line) size
-      ∙ as-field t n at line no-sep ne
-      ∙ ap (itemIn t n at) (sym run-is-line)
+      ∙ as-field (accentsOf t) t n at line no-sep ne
+      ∙ ap (itemIn (accentsOf t) t n at) (sym run-is-line)
 
 -- ---- what the code finds: h bytes of an expected label and '=', 0 where they do not stand there, and k printable bytes behind them
 
@@ -179,11 +178,3 @@ module _ (t : MessageType) (file : List ℕ) (at n : ℕ) (x : Expected) (hx : I
       -- of any other line the first run of printable bytes was found
       pub run-there : at + h + k ≡ at + plainRun (drop at file)
       run-there = let z : at + h ≡ at = omega arith in omega (arith, run-is, ap (λ (j : ℕ). plainRun (drop j file)) z)
-
-      module _ (end : ℕ) (e : end ≡ at + lineRun (accentsOf t) (drop at file)) where
-        pub end-inside : end ≤ length file
-        end-inside = omega (arith, e, line-run (accentsOf t) (accents-good t) (drop at file) .inside, length-drop at file)
-
-        pub not-met : (i : Item) → i ≡ itemIn t n at (part at end file) → i ≡ itemOf t file at n
-        unfolding itemOf
-        not-met i w = w ∙ ap (itemIn t n at) (line-is (accentsOf t) file at end e)

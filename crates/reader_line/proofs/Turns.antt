@@ -6,9 +6,7 @@ use Rattle.reader_line.specs.declared.Expected.{Expected}
 use Rattle.layout.specs.Layouts.{labelsOf, layoutOf}
 use Rattle.layout.specs.declared.Layout.{Layout}
 use Rattle.layout.specs.declared.Layout.the-variants.{Market, Mfrr}
-use Rattle.reader_accent.specs.Accents.{accentsOf}
 use Rattle.text_lines.specs.Entries.{placeOf}
-use Rattle.text_lines.specs.Spellings.{respell}
 use Rattle.value_name.proofs.MessageType.{the-type}
 use Rattle.value_name.specs.declared.MessageType.{MessageType}
 use Rattle.value_name.specs.declared.MessageType.the-variants.{Cb, Rc, Mg, Eb, Lb, Sr, Vq, Ri, Qr}
@@ -23,9 +21,8 @@ expected l k f g = record { layout = l; field = k; first = f; second = g }
 
 -- ---- CB
 
-pub second-is : (t : MessageType) (x : List ℕ) (k : ℕ) → t ≡ Cb → k ≡ placeOf (labelsOf Mfrr) x → k ≡ placeOf (secondLabels t) (respell (accentsOf t) x)
-unfolding respell accentsOf
-second-is t x k e h = h ∙ ap (λ (u : MessageType). placeOf (secondLabels u) (respell (accentsOf u) x)) (sym e)
+pub second-is : (t : MessageType) (x : List ℕ) (k : ℕ) → t ≡ Cb → k ≡ placeOf (labelsOf Mfrr) x → k ≡ placeOf (secondLabels t) x
+second-is t x k e h = h ∙ ap (λ (u : MessageType). placeOf (secondLabels u) x) (sym e)
 
 pub market-two : (k : ℕ) → k ≤ 2 → IsExpected Cb (expected Market k k k)
 market-two k h = record { first = own-place Market k; second = λ s. market-shared k s h; some-field = λ s. omega (arith, in-layout Market k s .0) }

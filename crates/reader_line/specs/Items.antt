@@ -75,11 +75,11 @@ unfoldable pub fielded : ℕ → ℕ → ℕ → ℕ → List ℕ → Item
 fielded end a b at l = item end false a b (cond (eqb a 0 && eqb b 0) noSpan (valueSpan at l))
 
 -- the line of these bytes at a place, below n separators: a separator, or the row, which is the line below one; else a field's line or none
-unfoldable pub itemIn : MessageType → ℕ → ℕ → List ℕ → Item
-itemIn t n at l =
+unfoldable pub itemIn : List Spelling → MessageType → ℕ → ℕ → List ℕ → Item
+itemIn sp t n at l =
     cond (isSep (trim l) || eqb n 1) (item (at + length l) (isSep (trim l)) 0 0 (trimmedAt at l))
-    (fielded (at + length l) (fieldIn (accentsOf t) (firstLabels t) l) (fieldIn (accentsOf t) (secondLabels t) l) at l)
+    (fielded (at + length l) (fieldIn sp (firstLabels t) l) (fieldIn sp (secondLabels t) l) at l)
 
 -- THE DEFINITION: what the line at a place of a file is
 unfoldable pub itemOf : MessageType → List ℕ → ℕ → ℕ → Item
-itemOf t file at n = itemIn t n at (lineFrom (accentsOf t) file at)
+itemOf t file at n = itemIn (accentsOf t) t n at (lineFrom (accentsOf t) file at)

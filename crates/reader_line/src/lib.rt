@@ -3,18 +3,17 @@ use layout::Layout;
 use text::scan;
 use text_lines::Span;
 use value_name::MessageType;
-ghost use Prim.Native.Nat.{_≤_, _<_};
+ghost use Prim.Native.Nat.{_+_, _≤_, _<_};
 ghost use Rattle.reader_line.specs.Items.{firstLabels, secondLabels, headOf, isPrinted, isForeign, IsExpected, item, fielded, itemIn, itemOf};
 ghost use Rattle.layout.specs.Layouts.{labelsOf, labelAt};
-ghost use Rattle.reader_accent.specs.Accents.{accentsOf};
 ghost use Rattle.text_lines.specs.Entries.{placeOf};
-ghost use Rattle.text_lines.specs.Places.{noSpan};
-ghost use Rattle.text_lines.specs.Spellings.{respell};
+ghost use Rattle.text_lines.specs.Places.{noSpan, plainRun};
 ghost use Rattle.text_lines.specs.Spots.{fieldIn};
 ghost use Rattle.text.specs.Bytes.{part, same};
 ghost use lib.Dec.{eqb};
-ghost use lib.ListN.{length};
+ghost use lib.ListN.{length, drop};
 ghost use mathlib.Core.Bool.{false, cond};
+ghost use mathlib.Core.List.{[]};
 ghost use mathlib.Core.Path.{_≡_};
 
 // A line: whether it is a separator, else its field in the type's layout and in the other layout of CB (0 where it is foreign to one),
@@ -26,6 +25,9 @@ pub struct Item {
     pub second: usize,
     pub value: Span,
 }
+
+// The accented letter.
+const ACCENTED: u8 = 0xE0;
 
 const NOWHERE: Span = Span { from: 0, to: 0 };
 
@@ -65,9 +67,9 @@ fn field_of(l: Layout, s: &[u8]) -> usize
     0
 }
 
-// The field in the mFRR layout, for CB alone, which has no accents.
+// The field in the mFRR layout, for CB alone.
 fn second_of(t: MessageType, s: &[u8]) -> usize
-    ensures { λ r. ⌜ r ≡ placeOf (secondLabels t) (respell (accentsOf t) (now (s .entry))) ⌝ }
+    ensures { λ r. ⌜ r ≡ placeOf (secondLabels t) (now (s .entry)) ⌝ }
 {
     match t {
         MessageType::Cb => field_of(Layout::Mfrr, s),
@@ -75,18 +77,13 @@ fn second_of(t: MessageType, s: &[u8]) -> usize
     }
 }
 
-// The field in the type's layout, by either spelling of its label, where the field in the mFRR layout is known: from the third on, its labels are no other
-// layout's.
+// The field in the type's layout, where the field in the mFRR layout is known: from the third on, its labels are no other layout's.
 fn first_of(t: MessageType, second: usize, s: &[u8]) -> usize
-    requires { ⌜ second ≡ placeOf (secondLabels t) (respell (accentsOf t) (now s)) ⌝ }
-    ensures { λ r. ⌜ r ≡ placeOf (firstLabels t) (respell (accentsOf t) (now (s .entry))) ⌝ }
+    requires { ⌜ second ≡ placeOf (secondLabels t) (now s) ⌝ }
+    ensures { λ r. ⌜ r ≡ placeOf (firstLabels t) (now (s .entry)) ⌝ }
 {
     if 2 < second {
         return 0;
-    }
-    let k = reader_accent::field_of(t, s);
-    if k != 0 {
-        return k;
     }
     field_of(layout::of_type(t), s)
 }
@@ -200,7 +197,7 @@ fn head_at(l: Layout, k: usize, s: &[u8]) -> usize
 // The line below one separator: a separator, or the row.
 fn row_item(t: MessageType, s: &[u8], at: usize, end: usize) -> Item
     requires { ⌜ (at ≤ end) × (end ≤ length (now s)) × (end < 65536) ⌝ }
-    ensures { λ r. ⌜ r ≡ itemIn t 1 at (part at end (now (s .entry))) ⌝ }
+    ensures { λ r. ⌜ r ≡ itemIn [] t 1 at (part at end (now (s .entry))) ⌝ }
 {
     let p = text_lines::trim_span(s, at, end);
     let a = p.from as usize;
@@ -230,7 +227,7 @@ fn nothing(end: usize) -> Item
 // A line that is no separator: the first '=' divides it, and label and value are trimmed.
 fn param_item(t: MessageType, s: &[u8], at: usize, end: usize) -> Item
     requires { ⌜ (at ≤ end) × (end ≤ length (now s)) × (end < 65536) ⌝ }
-    ensures { λ r. ⌜ r ≡ fielded end (fieldIn (accentsOf t) (firstLabels t) (part at end (now (s .entry)))) (fieldIn (accentsOf t) (secondLabels t) (part at end (now (s .entry)))) at (part at end (now (s .entry))) ⌝ }
+    ensures { λ r. ⌜ r ≡ fielded end (fieldIn [] (firstLabels t) (part at end (now (s .entry)))) (fieldIn [] (secondLabels t) (part at end (now (s .entry)))) at (part at end (now (s .entry))) ⌝ }
 {
     let line = &s[at..end];
     let e = scan::first(line, b'=');
@@ -266,7 +263,7 @@ fn is_foreign(s: &[u8]) -> bool
 // A line that does not begin with the expected label.
 fn other_item(t: MessageType, s: &[u8], at: usize, end: usize, seps: usize) -> Item
     requires { ⌜ (at ≤ end) × (end ≤ length (now s)) × (end < 65536) ⌝ }
-    ensures { λ r. ⌜ r ≡ itemIn t seps at (part at end (now (s .entry))) ⌝ }
+    ensures { λ r. ⌜ r ≡ itemIn [] t seps at (part at end (now (s .entry))) ⌝ }
 {
     if seps == 1 {
         return row_item(t, s, at, end);
@@ -287,6 +284,30 @@ fn other_item(t: MessageType, s: &[u8], at: usize, end: usize, seps: usize) -> I
         };
     }
     param_item(t, s, at, end)
+}
+
+// The line whose run of printable bytes stops at an accent: as it was read, or to its end where it opens with such a label.
+fn accented_item(t: MessageType, s: &[u8], at: usize, end: usize, seps: usize, plain: Item) -> Item
+    requires { ⌜ (at ≤ length (now s)) × (length (now s) < 65536) × (end ≡ at + plainRun (drop at (now s))) × (plain ≡ itemIn [] t seps at (part at end (now s))) ⌝ }
+    ensures { λ r. ⌜ r ≡ itemOf t (now (s .entry)) at seps ⌝ }
+{
+    let far = reader_accent::line_end(t, s, at, end);
+    if far == end {
+        return plain;
+    }
+    if seps == 1 {
+        return row_item(t, s, at, far);
+    }
+    let e = scan::first(&s[at..far], b'=');
+    let first = reader_accent::field_of(t, scan::trim(&s[at..at + e]));
+    let value = text_lines::trim_span(s, at + e + 1, far);
+    Item {
+        end: far,
+        separator: false,
+        first,
+        second: 0,
+        value,
+    }
 }
 
 // Where the value may begin that follows the label expected at a turn: 0 below one separator, where none is expected.
@@ -320,5 +341,12 @@ pub fn line_of(t: MessageType, s: &[u8], at: usize, seps: usize, turn: usize) ->
             value,
         };
     }
-    other_item(t, s, at, reader_accent::line_end(t, s, at, end), seps)
+    let plain = other_item(t, s, at, end, seps);
+    if end == s.len() {
+        return plain;
+    }
+    if s[end] != ACCENTED {
+        return plain;
+    }
+    accented_item(t, s, at, end, seps, plain)
 }

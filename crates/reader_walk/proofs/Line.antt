@@ -64,8 +64,8 @@ field-le : (sp : List Spelling) (ls : List (List ℕ)) (l : List ℕ) → fieldI
 unfolding fieldIn
 field-le sp ls l = by-test (any (is 61) l) (λ e. rw e (place-le ls (respell sp (trim (upto (is 61) l))))) (λ e. rw e (omega arith))
 
-module _ (t : MessageType) (n at : ℕ) (l : List ℕ) (i : Item) (it : i ≡ itemIn t n at l) where
-  fields-le : (itemIn t n at l .first ≤ 26) × (itemIn t n at l .second ≤ 26)
+module _ (t : MessageType) (n at : ℕ) (l : List ℕ) (i : Item) (it : i ≡ itemIn (accentsOf t) t n at l) where
+  fields-le : (itemIn (accentsOf t) t n at l .first ≤ 26) × (itemIn (accentsOf t) t n at l .second ≤ 26)
   unfolding itemIn fielded
   fields-le =
       by-test (isSep (trim l)) (λ e. rw e (omega arith, omega arith))
@@ -150,7 +150,7 @@ module _ (t : MessageType) (file : List ℕ) (f : Frame) (m : Marks) (spans : Li
   second-zero : (p : Span) → Kept file (secondLabels t) (notedOf o 0 .marks) (set others (notedOf o 0 .into) p) (spots (accentsOf t) (secondLabels t) done)
   second-zero p = note-zero file (secondLabels t) o others (spots (accentsOf t) (secondLabels t) done) p (w .second) 0 refl
 
-  walked-sep : isSep (trim l) ≡ true → After (itemIn t (f .seps) at l) done
+  walked-sep : isSep (trim l) ≡ true → After (itemIn (accentsOf t) t (f .seps) at l) done
   unfolding itemIn frameOf
   walked-sep e =
       rw e record { inside = w .inside; row = w .row; first = first-zero (trimmedAt at l); second = second-zero (trimmedAt at l) }
@@ -165,7 +165,7 @@ module _ (t : MessageType) (file : List ℕ) (f : Frame) (m : Marks) (spans : Li
   unfolding spotIn
   row-spots sp ls one = spots-more done x sp ls ∙ rw (eq-eqb (f .seps) 1 one) (append-nil (spots sp ls done))
 
-  walked-row : isSep (trim l) ≡ false → f .seps ≡ 1 → After (itemIn t (f .seps) at l) (done ++ x ∷ [])
+  walked-row : isSep (trim l) ≡ false → f .seps ≡ 1 → After (itemIn (accentsOf t) t (f .seps) at l) (done ++ x ∷ [])
   unfolding itemIn frameOf
   walked-row e one =
       let b = eq-eqb (f .seps) 1 one in
@@ -187,7 +187,7 @@ module _ (t : MessageType) (file : List ℕ) (f : Frame) (m : Marks) (spans : Li
   unfolding spotIn
   field-spots sp ls one = spots-more done x sp ls ∙ rw (ne-eqb (f .seps) 1 one)
 
-  walked-out : isSep (trim l) ≡ false → (f .seps ≡ 1 → ⊥) → After (itemIn t (f .seps) at l) (done ++ x ∷ [])
+  walked-out : isSep (trim l) ≡ false → (f .seps ≡ 1 → ⊥) → After (itemIn (accentsOf t) t (f .seps) at l) (done ++ x ∷ [])
   unfolding itemIn fielded frameOf
   walked-out e one =
       let b = ne-eqb (f .seps) 1 one in
@@ -207,11 +207,11 @@ module _ (t : MessageType) (file : List ℕ) (f : Frame) (m : Marks) (spans : Li
         second = rw (field-spots sp ks one, sym second-spot) (note-fields file ks o others (spots sp ks done) p (w .second) j (field-le sp ks l) (second-few t));
       }
 
-  walked-in : After (itemIn t (f .seps) at l) (done ++ onto (lineIf (f .seps) at l) [])
+  walked-in : After (itemIn (accentsOf t) t (f .seps) at l) (done ++ onto (lineIf (f .seps) at l) [])
   unfolding lineIf
   walked-in =
       by-test (isSep (trim l)) (λ e. rw (e, append-nil done) (walked-sep e))
       (λ e. rw e (by-eq (f .seps) 1 (walked-row e) (walked-out e)))
 
-  pub walked-line : (i : Item) → i ≡ itemIn t (f .seps) at l → After i (done ++ onto (lineIf (f .seps) at l) [])
+  pub walked-line : (i : Item) → i ≡ itemIn (accentsOf t) t (f .seps) at l → After i (done ++ onto (lineIf (f .seps) at l) [])
   walked-line i e = subst (λ (y : Item). After y (done ++ onto (lineIf (f .seps) at l) [])) (sym e) walked-in

@@ -176,17 +176,17 @@ onto-append : {B : Type 0} (o : Option B) (xs ys : List B) → (xs ++ onto o [])
 onto-append none xs ys = ap (λ (l : List _). l ++ ys) (append-nil xs)
 onto-append (some y) xs ys = append-assoc xs (y ∷ []) ys
 
-item-separator : (t : MessageType) (n at : ℕ) (l : List ℕ) → itemIn t n at l .separator ≡ isSep (trim l)
+item-separator : (t : MessageType) (n at : ℕ) (l : List ℕ) → itemIn (accentsOf t) t n at l .separator ≡ isSep (trim l)
 unfolding itemIn fielded
 item-separator t n at l = by-test (isSep (trim l)) (λ e. rw e) (λ e. by-test (eqb n 1) (λ o. rw (e, o)) (λ o. rw (e, o)))
 
-item-end : (t : MessageType) (n at : ℕ) (l : List ℕ) → itemIn t n at l .end ≡ at + length l
+item-end : (t : MessageType) (n at : ℕ) (l : List ℕ) → itemIn (accentsOf t) t n at l .end ≡ at + length l
 unfolding itemIn fielded
 item-end t n at l = by-test (isSep (trim l)) (λ e. rw e) (λ e. by-test (eqb n 1) (λ o. rw (e, o)) (λ o. rw (e, o)))
 
 -- what the line reader answered is a line of the file
 module _ (t : MessageType) (s : List ℕ) (at n : ℕ) (i : Item) (it : i ≡ itemOf t s at n) where
-  pub item-is : i ≡ itemIn t n at (lineFrom (accentsOf t) s at)
+  pub item-is : i ≡ itemIn (accentsOf t) t n at (lineFrom (accentsOf t) s at)
   unfolding itemOf
   item-is = it
 
@@ -205,7 +205,7 @@ module _ (t : MessageType) (s : List ℕ) (at : ℕ) (f : Frame) (m : Marks) (sp
   second-small = seen-small s (secondLabels t) o others (spots (accentsOf t) (secondLabels t) (w .done)) (w .walked .second) (second-few t)
 
   turn : (end n : ℕ) (i : Item) → at < length s → end ≡ at + lineRun (accentsOf t) (drop at s) → After n ≡ breakOf (drop end s)
-      → i ≡ itemIn t (f .seps) at (lineFrom (accentsOf t) s at)
+      → i ≡ itemIn (accentsOf t) t (f .seps) at (lineFrom (accentsOf t) s at)
       → Sofar t s (end + n) (frameOf f (i .separator) (i .value)) (notedOf m (i .first) .marks) (set spans (notedOf m (i .first) .into) (i .value))
       (notedOf o (i .second) .marks) (set others (notedOf o (i .second) .into) (i .value))
   unfolding seps count

@@ -35,7 +35,7 @@ bad-here b (c ∷ cs) t h =
 
 -- ---- a run of bytes that can be printed
 
-run-plain : (r : List ℕ) → all isPlain (upto notPlain r) ≡ true
+pub run-plain : (r : List ℕ) → all isPlain (upto notPlain r) ≡ true
 unfolding all upto
 run-plain [] = refl
 run-plain (b ∷ bs) = by-test (notPlain b) (λ t. rw t) (λ t. rw t (rw (not-false (isPlain b) t) (run-plain bs)))
@@ -217,6 +217,10 @@ module _ (sp : List Spelling) (good : allGood sp ≡ true) (r : List ℕ) where
       let f = stops-at sp r a in
       let n = ap length (a .cut) ∙ length-append (a .front) (224 ∷ beyond o) in
       (omega (arith, f, n), ap (λ (k : ℕ). getD (drop k r) 0 0) f ∙ ap (λ (l : List ℕ). getD (drop (length (a .front)) l) 0 0) (a .cut) ∙ ap (λ (l : List ℕ). getD l 0 0) (drop-append-seam (a .front) (224 ∷ beyond o)))
+
+  -- and the line has the label whole, with its '='
+  pub opens-inside : opens sp (upto (is 10) r) ≡ true → firstOf 61 r < lineRun sp r
+  opens-inside o = omega (arith, far-run o, accented o .room, past-equals sp r (accented o))
 
   -- its bytes are of one line
   pub line-run : OneLine r (lineRun sp r)

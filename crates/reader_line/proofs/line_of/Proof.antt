@@ -1,10 +1,13 @@
 -- The label that is expected, and what stands behind it; or any other line.
-use Prim.Native.Nat.{_+_, _≤_}
-use Rattle.reader_line.proofs.Tries.{head-inside, run-inside, met, run-there, end-inside, not-met}
+use Prim.Native.Nat.{_+_, _≤_, _<_}
+use Rattle.reader_line.proofs.Accents.{whole-line, other-byte}
+use Rattle.reader_line.proofs.Tries.{head-inside, run-inside, met, run-there}
 use Rattle.reader_line.proofs.line_of.Statement.{statement}
 use Rattle.reader_line.proofs.line_of.Tie as tie
+use Rattle.text_lines.specs.Places.{plainRun}
 use borrow.Author.Needs.{needs}
-use lib.ListN.{length}
+use lib.ListN.{length, drop}
+use mathlib.Core.Path.{_≡_}
 use native.Mathlib.Omega.{arith}
 
 abbrev start : tie.After-expected-head → tie.Start
@@ -70,41 +73,46 @@ returns c =
     met _ _ _ _ _ (head .before .before .expect .ensures) _ _ (start head .pre .0) (head .expected-head .ensures)
     (run .plain-run .ensures) (c .before .if1 .taken) _ (c .trim-span .ensures)
 
--- where no expected label was met, and where that line ends
-abbrev other : tie.Else1 → tie.After-plain-run
-other c = c .before
+-- where no expected label was met: the line as far as its bytes can be printed
+abbrev run-of : tie.After-other-item → tie.After-plain-run
+run-of c = c .before .before
 
-line-end-requires : tie.Need-line-end-requires
-line-end-requires c κs =
-    let run = other c in
-    let head = run .before .before in
-    let z = start head in (
-      z .pre .0,
-      run-there (z .args .t) (z .args .s .now) (z .args .at) (z .args .seps) _ (head .before .before .expect .ensures) _ _ (z .pre .0)
-          (head .expected-head .ensures) (run .plain-run .ensures) (c .if1 .left),
-    )
-
-end-here : (c : tie.After-line-end) → c .line-end .result ≤ length (start (other (c .before) .before .before) .args .s .now)
-end-here c =
-    let run = other (c .before) in
+there : (c : tie.After-other-item)
+    → start (run-of c .before .before) .args .at + run-of c .before .before .expected-head .result + run-of c .plain-run .result
+    ≡ start (run-of c .before .before) .args .at + plainRun (drop (start (run-of c .before .before) .args .at) (start (run-of c .before .before) .args .s .now))
+there c =
+    let run = run-of c in
     let head = run .before .before in
     let z = start head in
-    end-inside (z .args .t) (z .args .s .now) (z .args .at) (z .args .seps) _ (head .before .before .expect .ensures) _ _ (z .pre .0)
-    (head .expected-head .ensures) (run .plain-run .ensures) (c .before .if1 .left) _ (c .line-end .ensures)
+    run-there (z .args .t) (z .args .s .now) (z .args .at) (z .args .seps) _ (head .before .before .expect .ensures) _ _ (z .pre .0)
+    (head .expected-head .ensures) (run .plain-run .ensures) (c .before .if1 .left)
 
 other-item-requires : tie.Need-other-item-requires
-other-item-requires c κs =
-    let near = end-here c in
-    let z = start (other (c .before) .before .before) in
-    (omega (arith, c .line-end .ensures), near, omega (arith, near, z .pre .1))
+other-item-requires c κs = let near = end-near (c .before) in (omega arith, near, omega arith)
 
 returns-2 : tie.Need-returns-2
 returns-2 c =
-    let e = c .before in
-    let run = other (e .before) in
-    let head = run .before .before in
-    not-met _ _ _ _ _ (head .before .before .expect .ensures) _ _ (start head .pre .0) (head .expected-head .ensures)
-    (run .plain-run .ensures) (e .before .if1 .left) _ (e .line-end .ensures) _ (c .other-item .ensures)
+    let o = c .before in
+    let z = start (run-of o .before .before) in
+    whole-line (z .args .t) _ _ _ _ (z .pre .0) (there o) _ (o .other-item .ensures) (c .if2 .taken)
+
+inside : (c : tie.Else2)
+    → start (run-of (c .before) .before .before) .args .at + run-of (c .before) .before .before .expected-head .result + run-of (c .before) .plain-run .result
+    < length (start (run-of (c .before) .before .before) .args .s .now)
+inside c = omega (arith, end-near (run-of (c .before)), c .if2 .left)
+
+returns-3 : tie.Need-returns-3
+returns-3 c =
+    let e = c .before .before in
+    let o = e .before in
+    let z = start (run-of o .before .before) in
+    other-byte (z .args .t) _ _ _ _ (z .pre .0) (there o) _ (o .other-item .ensures) (inside e) (c .if3 .taken)
+
+accented-item-requires : tie.Need-accented-item-requires
+accented-item-requires c κs =
+    let o = c .before .before .before in
+    let z = start (run-of o .before .before) in
+    (z .pre .0, z .pre .1, there o, o .other-item .ensures)
 
 pub line-of-spec : {M : Type 1} → statement M
 line-of-spec =
@@ -123,6 +131,9 @@ line-of-spec =
     add-end
     trim-span-requires
     returns
-    line-end-requires
     other-item-requires
-    returns-2)
+    returns-2
+    (λ c. inside (c .before))
+    returns-3
+    accented-item-requires
+    (λ c. c .accented-item .ensures))

@@ -14,7 +14,7 @@ returns : tie.Need-returns
 returns c = second-is _ _ _ (c .before .enum-told .given .1) (c .field-of .ensures)
 
 returns-2 : tie.Need-returns-2
-returns-2 c = no-second (c .before .before .args .t) _ (c .match .keys2)
+returns-2 c = no-second (c .before .before .args .t) (c .before .before .args .s .now) (c .match .keys2)
 
 pub second-of-spec : {M : Type 1} → statement M
 second-of-spec = tie.close (tie.spec enum-told field-of-requires returns returns-2)
