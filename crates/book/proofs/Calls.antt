@@ -20,13 +20,14 @@ use Rattle.book_source.proofs.Comes.{instants-fit}
 use Rattle.book_lists.specs.Keyed.{keep, insert, greatest, Ascending}
 use Rattle.layout.specs.Layouts.{isCommand, isRevocation}
 use Rattle.layout.specs.declared.Layout.{Layout}
-use Rattle.book_ledger.specs.Calls.{Call, command, revoke, close, firstHolding, unfit}
+use Rattle.book_ledger.specs.Calls.{Call, command, revoke, close, unfit}
 use Rattle.book_ledger.specs.Ledger.{answer, effect}
 use Rattle.book_order.specs.Messages.{orderOf, strikeOf}
 use Rattle.book_order.specs.Orders.{number, nameOf, named, live, pastEnd, strikeAt, already}
 use Rattle.book_order.specs.declared.Order.{Order}
 use Rattle.record.specs.declared.Record.{Record}
 use Rattle.text.specs.Bytes.{any, same}
+use Rattle.text.specs.Refusals.{Refusal, refusal as row, firstNumber}
 use Rattle.record_check.specs.Validity.{isValid}
 use borrow.Author.Tests.{le-leb, lt-leb, lt-ltb, le-ltb, ne-eqb, eqb-false}
 use denote.Enum.Declared.{tagOf}
@@ -42,28 +43,28 @@ use types.Run.{OneOf}
 -- ---- what is refused for the message alone stands before all else
 
 -- 12, 29 and 21 before the rest
-abbrev three : Bool → Bool → Bool → List (Bool × ℕ) → List (Bool × ℕ)
-three a b c rest = (a, 12) ∷ (b, 29) ∷ (c, 21) ∷ rest
+abbrev three : Bool → Bool → Bool → List Refusal → List Refusal
+three a b c rest = row 12 0 a ∷ row 29 0 b ∷ row 21 0 c ∷ rest
 
-three-some : (a b c : Bool) (rest : List (Bool × ℕ)) → (firstHolding (three a b c []) ≡ 0 → ⊥) → firstHolding (three a b c rest) ≡ firstHolding (three a b c [])
+three-some : (a b c : Bool) (rest : List Refusal) → (firstNumber (three a b c []) ≡ 0 → ⊥) → firstNumber (three a b c rest) ≡ firstNumber (three a b c [])
 three-some true b c rest n = refl
 three-some false true c rest n = refl
 three-some false false true rest n = refl
 three-some false false false rest n = absurd (n refl)
 
-three-none : (a b c : Bool) (rest : List (Bool × ℕ)) → firstHolding (three a b c []) ≡ 0 → firstHolding (three a b c rest) ≡ firstHolding rest
+three-none : (a b c : Bool) (rest : List Refusal) → firstNumber (three a b c []) ≡ 0 → firstNumber (three a b c rest) ≡ firstNumber rest
 three-none true b c rest e = absurd (eqb-false 12 0 refl e)
 three-none false true c rest e = absurd (eqb-false 29 0 refl e)
 three-none false false true rest e = absurd (eqb-false 21 0 refl e)
 three-none false false false rest e = refl
 
-module _ (calls : Layout → Bool) (unit : List ℕ) (r : Record) (rest : List (Bool × ℕ)) (right : Bool) (which : right ≡ calls (r .layout)) (n : ℕ)
+module _ (calls : Layout → Bool) (unit : List ℕ) (r : Record) (rest : List Refusal) (right : Bool) (which : right ≡ calls (r .layout)) (n : ℕ)
     (u : n ≡ unfitOf right unit r) where
-  unfit-some : (n ≡ 0 → ⊥) → firstHolding (unfit calls unit r rest) ≡ n
+  unfit-some : (n ≡ 0 → ⊥) → firstNumber (unfit calls unit r rest) ≡ n
   unfolding unfitOf
   unfit-some z = rw (← which) (three-some (not (isValid r)) (not right) (not (same (unitOf r) unit)) rest (λ e. z (u ∙ e)) ∙ sym u)
 
-  unfit-none : n ≡ 0 → firstHolding (unfit calls unit r rest) ≡ firstHolding rest
+  unfit-none : n ≡ 0 → firstNumber (unfit calls unit r rest) ≡ firstNumber rest
   unfolding unfitOf
   unfit-none z = rw (← which) (three-none (not (isValid r)) (not right) (not (same (unitOf r) unit)) rest (sym u ∙ z))
 
@@ -72,7 +73,7 @@ fit-both : (right : Bool) (unit : List ℕ) (r : Record) (n : ℕ) → n ≡ unf
 unfolding unfitOf
 fit-both right unit r n u z = both (isValid r) right (sym u ∙ z)
   where
-    both : (v w : Bool) → firstHolding (three (not v) (not w) (not (same (unitOf r) unit)) []) ≡ 0 → (v ≡ true) × (w ≡ true)
+    both : (v w : Bool) → firstNumber (three (not v) (not w) (not (same (unitOf r) unit)) []) ≡ 0 → (v ≡ true) × (w ≡ true)
     both true true e = (refl, refl)
     both true false e = absurd (eqb-false 29 0 refl e)
     both false w e = absurd (eqb-false 12 0 refl e)
@@ -86,11 +87,11 @@ command-instants r right which unit n u z =
 
 -- ---- what follows it: 23, 22 and 24 of a command, 25 and 26 of a revocation
 
-abbrev others : Order → ℕ → List Order → List (Bool × ℕ)
-others o f l = (leb (o .end) f, 23) ∷ (any (named (nameOf o)) l, 22) ∷ (leb 96 (length l), 24) ∷ []
+abbrev others : Order → ℕ → List Order → List Refusal
+others o f l = row 23 0 (leb (o .end) f) ∷ row 22 0 (any (named (nameOf o)) l) ∷ row 24 0 (leb 96 (length l)) ∷ []
 
-abbrev unheld : Record → List Order → List (Bool × ℕ)
-unheld r l = (not (any (named (strikeOf r .name)) l), 25) ∷ (any (already (strikeOf r)) l, 26) ∷ []
+abbrev unheld : Record → List Order → List Refusal
+unheld r l = row 25 0 (not (any (named (strikeOf r .name)) l)) ∷ row 26 0 (any (already (strikeOf r)) l) ∷ []
 
 -- ---- 20
 
@@ -132,7 +133,7 @@ module _ (b : Book) (count : ℕ) (h : Holding b count) where
         (ne-eqb n 0 z)
 
     module _ (z : n ≡ 0) (o : Order) (brought : o ≡ orderOf r) where
-      command-rest : answer (command r) (shelf b) ≡ firstHolding (others o (b .floor) (take count (b .orders)))
+      command-rest : answer (command r) (shelf b) ≡ firstNumber (others o (b .floor) (take count (b .orders)))
       unfolding shelf
       command-rest =
           unfit-none isCommand (take (b .size) (b .unit)) r (others (orderOf r) (b .floor) (shelf b .orders)) right which n u z
@@ -149,7 +150,7 @@ module _ (b : Book) (count : ℕ) (h : Holding b count) where
         command-held t = refusal (command r) 22 (command-rest ∙ rw (lt-leb (o .end) (b .floor) timely, command-test ∙ t)) refl
 
         module _ (t : seat .held ≡ false) where
-          command-last : answer (command r) (shelf b) ≡ firstHolding ((leb 96 count, 24) ∷ [])
+          command-last : answer (command r) (shelf b) ≡ firstNumber (row 24 0 (leb 96 count) ∷ [])
           command-last = command-rest ∙ rw (lt-leb (o .end) (b .floor) timely, command-test ∙ t, length-take-le count (b .orders) fits)
 
           pub command-full : count ≡ 96 → outcome 24 b ≡ outcomeOf (command r) b
@@ -174,7 +175,7 @@ module _ (b : Book) (count : ℕ) (h : Holding b count) where
     revoke-unfit z = refusal (revoke r) n (unfit-some isRevocation (take (b .size) (b .unit)) r (unheld r (shelf b .orders)) right which n u z) (ne-eqb n 0 z)
 
     module _ (z : n ≡ 0) (m : ℕ) (names : m ≡ strikeOf r .name .number) (seat : Seat) (seated : seat ≡ seatOf m (take count (b .orders))) where
-      revoke-rest : answer (revoke r) (shelf b) ≡ firstHolding (unheld r (take count (b .orders)))
+      revoke-rest : answer (revoke r) (shelf b) ≡ firstNumber (unheld r (take count (b .orders)))
       unfolding shelf
       revoke-rest =
           unfit-none isRevocation (take (b .size) (b .unit)) r (unheld r (shelf b .orders)) right which n u z
@@ -193,7 +194,7 @@ module _ (b : Book) (count : ℕ) (h : Holding b count) where
       revoke-unheld t = refusal (revoke r) 25 (revoke-rest ∙ rw (revoke-test ∙ t)) refl
 
       module _ (t : seat .held ≡ true) where
-        revoke-last : answer (revoke r) (shelf b) ≡ firstHolding ((seat .struck, 26) ∷ [])
+        revoke-last : answer (revoke r) (shelf b) ≡ firstNumber (row 26 0 (seat .struck) ∷ [])
         revoke-last = revoke-rest ∙ rw (revoke-test ∙ t, revoke-already)
 
         pub revoke-struck : seat .struck ≡ true → outcome 26 b ≡ outcomeOf (revoke r) b

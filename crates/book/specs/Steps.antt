@@ -5,10 +5,11 @@ use Rattle.book.specs.declared.Book.{Book}
 use Rattle.book.specs.declared.fitness.Tally.{Tally}
 use Rattle.book.specs.declared.fitness.Tally.the-variants.{Malformed, Holds}
 use Rattle.book.specs.declared.places.Seat.{Seat}
-use Rattle.book_ledger.specs.Calls.{firstHolding, unfit}
+use Rattle.book_ledger.specs.Calls.{unfit}
 use Rattle.book_order.specs.declared.Order.{Order}
 use Rattle.record.specs.declared.Record.{Record}
 use Rattle.book_order.specs.Orders.{emptyOrder, struckOut}
+use Rattle.text.specs.Refusals.{firstNumber}
 use Rattle.text.specs.Bytes.{upto}
 use lib.Dec.{leb, ltb, eqb}
 use lib.ListN.{length, getD, take, drop}
@@ -26,7 +27,7 @@ tallyOf b = cond (formedBook b) (Holds (length (shelf b .orders))) Malformed
 
 -- what is refused for the message alone, with the layout's test as the call found it: 0 where nothing is
 unfoldable pub unfitOf : Bool → List ℕ → Record → ℕ
-unfitOf right unit r = firstHolding (unfit (λ l. right) unit r [])
+unfitOf right unit r = firstNumber (unfit (λ l. right) unit r [])
 
 -- how many orders stand before the first whose number is n or more
 unfoldable pub rankOf : ℕ → List Order → ℕ

@@ -8,9 +8,10 @@ use Rattle.book_order.specs.Messages.{orderOf, strikeOf}
 use Rattle.book_order.specs.Orders.{Name, sameName, nameOf}
 use Rattle.record.specs.declared.Record.{Record}
 use Rattle.text.specs.Bytes.{same}
+use Rattle.text.specs.Refusals.{Refusal, refusal}
 use Rattle.record_check.specs.Validity.{isValid}
-use mathlib.Core.Bool.{Bool, false, not, _&&_, cond}
-use mathlib.Core.List.{List, [], _∷_}
+use mathlib.Core.Bool.{Bool, false, not, _&&_}
+use mathlib.Core.List.{List, _∷_}
 
 -- a command and a revocation bring a record; close and the question which order is in force name an instant
 pub data Call : Type 0 where
@@ -19,14 +20,9 @@ pub data Call : Type 0 where
   close : ℕ → Call
   ask : ℕ → Call
 
--- the number of the first condition that holds: 0 where none does
-abbrev pub firstHolding : List (Bool × ℕ) → ℕ
-firstHolding [] = 0
-firstHolding (r ∷ rs) = cond (r .0) (r .1) (firstHolding rs)
-
 -- 12 the record is invalid, 29 its layout is not one of the call's, 21 it is for another unit; then what follows in the call's list
-abbrev pub unfit : (Layout → Bool) → List ℕ → Record → List (Bool × ℕ) → List (Bool × ℕ)
-unfit right unit r rest = (not (isValid r), 12) ∷ (not (right (r .layout)), 29) ∷ (not (same (unitOf r) unit), 21) ∷ rest
+abbrev pub unfit : (Layout → Bool) → List ℕ → Record → List Refusal → List Refusal
+unfit right unit r rest = refusal 12 0 (not (isValid r)) ∷ refusal 29 0 (not (right (r .layout))) ∷ refusal 21 0 (not (same (unitOf r) unit)) ∷ rest
 
 -- a message that a book for the unit does not refuse for itself
 abbrev pub fitFor : (Layout → Bool) → List ℕ → Record → Bool

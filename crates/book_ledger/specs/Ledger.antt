@@ -2,12 +2,13 @@
 use Prim.Native.Nat.{ℕ}
 use Rattle.layout.specs.Layouts.{isCommand, isRevocation}
 use Rattle.book_lists.specs.Keyed.{keep, insert, greatest}
-use Rattle.book_ledger.specs.Calls.{Call, command, revoke, close, ask, firstHolding, unfit}
+use Rattle.book_ledger.specs.Calls.{Call, command, revoke, close, ask, unfit}
 use Rattle.book_ledger.specs.Keepers.{Keeper, run as runOf, answers as answersOf, accepted as acceptedOf}
 use Rattle.book_order.specs.Messages.{orderOf, strikeOf}
 use Rattle.book_order.specs.Orders.{number, nameOf, named, live, pastEnd, strikeAt, already}
 use Rattle.book_order.specs.declared.Order.{Order}
 use Rattle.text.specs.Bytes.{any}
+use Rattle.text.specs.Refusals.{refusal, firstNumber}
 use lib.Dec.{eqb, leb, ltb}
 use lib.ListN.{length}
 use mathlib.Core.Bool.{not, cond}
@@ -28,18 +29,18 @@ fresh unit = record { unit = unit; floor = 0; orders = [] }
 -- close: 27 below the floor; in force: 28 below the floor
 abbrev pub answer : Call → Ledger → ℕ
 answer (command r) b =
-    firstHolding (unfit isCommand (b .unit) r
-    ((leb (orderOf r .end) (b .floor), 23)
-    ∷ (any (named (nameOf (orderOf r))) (b .orders), 22)
-    ∷ (leb 96 (length (b .orders)), 24)
+    firstNumber (unfit isCommand (b .unit) r
+    (refusal 23 0 (leb (orderOf r .end) (b .floor))
+    ∷ refusal 22 0 (any (named (nameOf (orderOf r))) (b .orders))
+    ∷ refusal 24 0 (leb 96 (length (b .orders)))
     ∷ []))
 answer (revoke r) b =
-    firstHolding (unfit isRevocation (b .unit) r
-    ((not (any (named (strikeOf r .name)) (b .orders)), 25)
-    ∷ (any (already (strikeOf r)) (b .orders), 26)
+    firstNumber (unfit isRevocation (b .unit) r
+    (refusal 25 0 (not (any (named (strikeOf r .name)) (b .orders)))
+    ∷ refusal 26 0 (any (already (strikeOf r)) (b .orders))
     ∷ []))
-answer (close t) b = firstHolding ((ltb t (b .floor), 27) ∷ [])
-answer (ask t) b = firstHolding ((ltb t (b .floor), 28) ∷ [])
+answer (close t) b = firstNumber (refusal 27 0 (ltb t (b .floor)) ∷ [])
+answer (ask t) b = firstNumber (refusal 28 0 (ltb t (b .floor)) ∷ [])
 
 -- what an accepted call does: the order is held; it is struck; the floor is t and orders with end ≤ t go; nothing
 abbrev pub effect : Call → Ledger → Ledger

@@ -6,6 +6,7 @@ use crate::request::Kind;
 use crate::request::Request;
 use crate::request::parts::text_of;
 use crate::said;
+use crate::transfers;
 use layout::Layout;
 use reader::Answer;
 use record::Record;
@@ -207,7 +208,7 @@ fn run_prog(line: &[u8], r: Request) {
     say_printed(scan::front(&out, n));
 }
 
-// The requests that look at the line and change no byte of it: all but a book's, whose calls are decoded one by one.
+// The requests that look at the line and change no byte of it: all but a book's and a transfer's, whose calls and units are decoded one by one.
 fn answer_still(kind: Kind, line: &[u8], r: Request) {
     match kind {
         Kind::Read => run_read(line, r),
@@ -215,7 +216,7 @@ fn answer_still(kind: Kind, line: &[u8], r: Request) {
         Kind::StartUp => run_time(Which::StartUp, line, r),
         Kind::Ramp => run_time(Which::Ramp, line, r),
         Kind::Prog | Kind::Blind => run_prog(line, r),
-        Kind::Book | Kind::Unknown => say_unknown(),
+        Kind::Book | Kind::Collect | Kind::Unknown => say_unknown(),
     }
 }
 
@@ -224,6 +225,10 @@ fn answer(line: &mut [u8]) {
     let kind = r.kind;
     if let Kind::Book = kind {
         calls::run(line, r.plan, r.calls);
+        return;
+    }
+    if let Kind::Collect = kind {
+        transfers::run(line, r.calls);
         return;
     }
     answer_still(kind, line, r);

@@ -12,16 +12,11 @@ use reader::Answer;
 use record::Record;
 use said::say;
 use said::say_blank;
+use said::say_code;
 use said::say_number;
 use said::say_unknown;
 use text::put;
 use text::scan;
-
-fn say_code(number: u8, detail: usize) {
-    say_number(number as u64);
-    say(b"/");
-    say_number(detail as u64);
-}
 
 // What a call answered, and the book that it handed back.
 fn handed(o: Outcome) -> Book {

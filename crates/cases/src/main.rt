@@ -5,6 +5,7 @@ mod calls;
 mod lookups;
 mod request;
 mod said;
+mod transfers;
 
 use libc::STDIN_FILENO;
 use said::say;

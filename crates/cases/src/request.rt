@@ -20,7 +20,7 @@ pub(crate) struct Part {
     pub(crate) to: usize,
 }
 
-// What a request asks for: a file's reading, the normaliser or one of the two entries on it, one of its two times, what the program prints, or a book.
+// What a request asks for: a file's reading, the normaliser or one of the two entries on it, one of its two times, what the program prints, a book, or a transfer.
 // `Blind` is the program with a plan that cannot be read; `Unknown` is a line that is not of the form.
 pub(crate) enum Kind {
     Read,
@@ -32,6 +32,7 @@ pub(crate) enum Kind {
     Prog,
     Blind,
     Book,
+    Collect,
     Unknown,
 }
 
@@ -54,7 +55,7 @@ fn only_if(good: bool, kind: Kind) -> Kind {
     Kind::Unknown
 }
 
-// `-` is no calls.
+// `-` is no calls, and no units.
 fn calls_of(line: &[u8], p: Part) -> Part {
     if letter_of(line, p) == b'-' {
         return NOWHERE;

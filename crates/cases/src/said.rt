@@ -21,6 +21,13 @@ pub(crate) fn say_refusal(number: u8, detail: usize) {
     say_number(detail as u64);
 }
 
+// A call's number and detail.
+pub(crate) fn say_code(number: u8, detail: usize) {
+    say_number(number as u64);
+    say(b"/");
+    say_number(detail as u64);
+}
+
 // A request that is not of the form.
 pub(crate) fn say_unknown() {
     say(b"?");

@@ -8,7 +8,8 @@ use Rattle.gateway.specs.Entry.{lengthOr11, entryCode, outOf}
 use Rattle.plan.specs.Plans.{planOf, soughtOf}
 use Rattle.reader.proofs.Firsts.{given-first, numbers}
 use Rattle.reader.specs.Reader.{valued, labelled, reading, recordIn, planned, answerAt, readOf}
-use Rattle.reader.specs.Refusals.{Refusal, answer, IsFirst}
+use Rattle.reader.specs.Refusals.{answer, IsFirst}
+use Rattle.text.specs.Refusals.{Refusal}
 use Rattle.reader.specs.declared.Answer.{Answer}
 use Rattle.reader_theorems.proofs.Validity.{read-valid}
 use Rattle.record.specs.Records.{zeroRecord}

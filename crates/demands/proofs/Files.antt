@@ -8,7 +8,8 @@ use Rattle.plan.specs.declared.Sought.{Sought}
 use Rattle.reader.proofs.Firsts.{NoneHolds, none, next, none-given, accepted-none, numbers}
 use Rattle.reader.specs.Messages.{given, rowIn, entriesIn}
 use Rattle.reader.specs.Reader.{Sound, recordIn, messageOf, unitIn, planned, answerAt, readOf}
-use Rattle.reader.specs.Refusals.{Refusal, refused, answer, accepted as taken}
+use Rattle.reader.specs.Refusals.{refused, answer, accepted as taken}
+use Rattle.text.specs.Refusals.{Refusal}
 use Rattle.reader.specs.declared.Answer.{Answer}
 use Rattle.reader_theorems.proofs.Agreed.{Accepted, accepted}
 use Rattle.reader_theorems.proofs.Alike.{reordered, same-reading}

@@ -8,3 +8,4 @@ pub mod Spelled
 pub mod Unique
 pub mod Demands
 pub mod Request1
+pub mod Request2

@@ -8,7 +8,8 @@ use Rattle.layout.specs.Rows.{textAt, rowOf}
 use Rattle.layout.specs.declared.Layout.{Layout}
 use Rattle.reader.specs.Messages.{given, rowIn, layoutIn, entriesIn, valuesOf, isBad, goodOf, columnRecord}
 use Rattle.reader.specs.Reader.{Sound, isThere, numberOr, valued, labelled, bodyColumn, recordIn, messageOf}
-use Rattle.reader.specs.Refusals.{refusal, answer}
+use Rattle.reader.specs.Refusals.{answer}
+use Rattle.text.specs.Refusals.{refusal}
 use Rattle.reader.specs.declared.Answer.{Answer}
 use Rattle.reader_theorems.proofs.Alike.{sound-reading}
 use Rattle.reader_theorems.proofs.Validity.{tidy-body}

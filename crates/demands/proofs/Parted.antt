@@ -5,7 +5,8 @@ use Rattle.demands.specs.Spaced.{Pairwise, none, next, SpacedLine, same-
 use Rattle.layout.specs.Layouts.{labelsOf}
 use Rattle.reader.specs.Messages.{given, rowIn, layoutIn, entriesIn, columnRecord}
 use Rattle.reader.specs.Reader.{Clean, labelled, recordIn, messageOf}
-use Rattle.reader.specs.Refusals.{refusal, answer}
+use Rattle.reader.specs.Refusals.{answer}
+use Rattle.text.specs.Refusals.{refusal}
 use Rattle.reader.specs.declared.Answer.{Answer}
 use Rattle.reader_accent.specs.Accents.{accentsOf}
 use Rattle.reader_theorems.proofs.Alike.{clean-reading}

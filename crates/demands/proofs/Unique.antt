@@ -9,6 +9,8 @@ use Rattle.record_rules.proofs as record-rules
 use Rattle.report.proofs as report
 use Rattle.report_brief.proofs as report_brief
 use Rattle.times.proofs as times
+use Rattle.transfer.proofs as transfer
+use Rattle.transfer_unit.proofs as transfer_unit
 use Rattle.value.proofs as value
 use Rattle.value_date.proofs as value_date
 use Rattle.value_fits.proofs as value_fits
@@ -21,7 +23,7 @@ use Rattle.writer.proofs as writer
 use Rattle.demands.specs.Calls.{Calls, Meets}
 use Rattle.demands.specs.Contracts.{Contracts}
 use Rattle.demands.specs.Within.{Within}
-use Rattle.text.proofs.Determined.{equation, equations, buffer-equation, text-equation}
+use Rattle.text.proofs.Determined.{equation, equations, three-equations, buffer-equation, text-equation}
 use Rattle.text.proofs.Numerals.{length-text}
 use lib.ListN.{length}
 use mathlib.Core.Path.{sym, ap, _∙_}
@@ -31,12 +33,15 @@ calls =
     record {
       gateway-halimpung-read = (λ κs a. tt, λ κs a. equations _ _ _);
       gateway-halimpung-normalise = (λ κs a. tt, λ κs a. equations _ _ _);
+      gateway-halimpung-collect = (λ κs a. tt, λ κs a. three-equations _ _ _ _ _);
       reader-read = (λ κs a. tt, λ κs a. equation _);
       writer-write = (λ κs a. tt, λ κs a. equations _ _ _);
       writer-normalise = (λ κs a. tt, λ κs a. equations _ _ _);
       record-check-is-valid = (λ κs a. tt, λ κs a. equation _);
       record-rules-lowest-broken = (λ κs a. tt, λ κs a. equation _);
       report-brief-of-record = (λ κs a. tt, λ κs a. equation _);
+      transfer-fresh = (λ κs a. tt, λ κs a. equation _);
+      transfer-take = (λ κs a. tt, λ κs a. equations _ _ _);
       book-fresh = (λ κs a. tt, λ κs a. equation _);
       book-command = (λ κs a. tt, λ κs a. equation _);
       book-revoke = (λ κs a. tt, λ κs a. equation _);
@@ -70,6 +75,11 @@ calls =
 pub within : Within
 within =
     record {
+      transfer-unit-told-by = (λ κs a. tt, λ κs a. equation _);
+      transfer-unit-ca-of = (λ κs a. tt, λ κs a. equation _);
+      transfer-unit-ioa-of = (λ κs a. tt, λ κs a. equation _);
+      transfer-state-collector-in = (λ κs a. tt, λ κs a. equation _);
+      transfer-state-state-of = (λ κs a. tt, λ κs a. equation _);
       text-digits-is-digit = (λ κs a. tt, λ κs a. equation _);
       text-digits-read-digits = λ κs a. equation _;
       text-digits-pow10 = λ κs a. equation _;
@@ -206,6 +216,8 @@ contracts =
     record {
       halimpung-read = λ κs ca ioa plan file out z e h. h;
       halimpung-normalise = λ κs ca ioa plan file out z e h. h;
+      halimpung-collect = λ κs unit state file z e h. h;
+      take = λ κs c unit file z e h. h;
       read = λ κs ca ioa plan file z e h. h;
       write = λ κs r out z e h. h;
       normalise = λ κs ca ioa plan file out z e h. h;
@@ -227,12 +239,15 @@ meets =
     record {
       gateway-halimpung-read = λ M. gateway.halimpung_read.Met.met;
       gateway-halimpung-normalise = λ M. gateway.halimpung_normalise.Met.met;
+      gateway-halimpung-collect = λ M. gateway.halimpung_collect.Met.met;
       reader-read = λ M. reader.read.Met.met;
       writer-write = λ M. writer.write.Met.met;
       writer-normalise = λ M. writer.normalise.Met.met;
       record-check-is-valid = λ M. record-check.is_valid.Met.met;
       record-rules-lowest-broken = λ M. record-rules.lowest_broken.Met.met;
       report-brief-of-record = λ M. report_brief.of_record.Met.met;
+      transfer-fresh = λ M. transfer.fresh.Met.met;
+      transfer-take = λ M. transfer.Collector.take.Met.met;
       book-fresh = λ M. book.fresh.Met.met;
       book-command = λ M. book.Book.command.Met.met;
       book-revoke = λ M. book.Book.revoke.Met.met;

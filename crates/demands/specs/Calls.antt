@@ -12,11 +12,12 @@ use Rattle.value_put.proofs as value_put
 use Rattle.report.proofs as report
 use Rattle.record_rules.proofs as record-rules
 use Rattle.times.proofs as times
+use Rattle.transfer.proofs as transfer
 use Rattle.record_check.proofs as record-check
 use Rattle.value.proofs as value
 use Rattle.value_word.proofs as value_word
 use Rattle.writer.proofs as writer
-use Rattle.text.specs.Shapes.{Answers, Lends, Writes}
+use Rattle.text.specs.Shapes.{Answers, Lends, Writes, WritesTwo}
 
 -- Of each the contract asks nothing of its caller, and one answer at most satisfies it, with the final bytes of the buffer that it writes. (`e` has the
 -- parameters at exit, in order: `e .1 .0 .now` are the bytes of the second)
@@ -26,6 +27,9 @@ pub record Calls : Type 0 where
       Writes gateway.halimpung_read.ended (λ κs e. e .1 .1 .1 .1 .0 .now) gateway.halimpung_read.Reads.Asked gateway.halimpung_read.Reads.Learnt
   pub gateway-halimpung-normalise :
       Writes gateway.halimpung_normalise.ended (λ κs e. e .1 .1 .1 .1 .0 .now) gateway.halimpung_normalise.Reads.Asked gateway.halimpung_normalise.Reads.Learnt
+  pub gateway-halimpung-collect :
+      WritesTwo gateway.halimpung_collect.ended (λ κs e. e .1 .0 .now) (λ κs e. e .1 .1 .0 .now) gateway.halimpung_collect.Reads.Asked
+      gateway.halimpung_collect.Reads.Learnt
   -- files and records: the reader, the writer, the normaliser, the test of a record, the lowest rule that it breaks, what is told of it
   pub reader-read : Answers reader.read.ended reader.read.Reads.Asked reader.read.Reads.Learnt
   pub writer-write : Writes writer.write.ended (λ κs e. e .1 .0 .now) writer.write.Reads.Asked writer.write.Reads.Learnt
@@ -33,6 +37,10 @@ pub record Calls : Type 0 where
   pub record-check-is-valid : Answers record-check.is_valid.ended record-check.is_valid.Reads.Asked record-check.is_valid.Reads.Learnt
   pub record-rules-lowest-broken : Answers record-rules.lowest_broken.ended record-rules.lowest_broken.Reads.Asked record-rules.lowest_broken.Reads.Learnt
   pub report-brief-of-record : Answers report_brief.of_record.ended report_brief.of_record.Reads.Asked report_brief.of_record.Reads.Learnt
+  -- a file from its segments: a fresh collector, and one unit
+  pub transfer-fresh : Answers transfer.fresh.ended transfer.fresh.Reads.Asked transfer.fresh.Reads.Learnt
+  pub transfer-take :
+      Writes transfer.Collector.take.ended (λ κs e. e .1 .1 .0 .now) transfer.Collector.take.Reads.Asked transfer.Collector.take.Reads.Learnt
   -- the book: a fresh one, and the four calls
   pub book-fresh : Answers book.fresh.ended book.fresh.Reads.Asked book.fresh.Reads.Learnt
   pub book-command : Answers book.Book.command.ended book.Book.command.Reads.Asked book.Book.command.Reads.Learnt
@@ -70,12 +78,15 @@ pub record Calls : Type 0 where
 pub record Meets : Type 2 where
   pub gateway-halimpung-read : (M : Type 1) → gateway.halimpung_read.Statement.statement M
   pub gateway-halimpung-normalise : (M : Type 1) → gateway.halimpung_normalise.Statement.statement M
+  pub gateway-halimpung-collect : (M : Type 1) → gateway.halimpung_collect.Statement.statement M
   pub reader-read : (M : Type 1) → reader.read.Statement.statement M
   pub writer-write : (M : Type 1) → writer.write.Statement.statement M
   pub writer-normalise : (M : Type 1) → writer.normalise.Statement.statement M
   pub record-check-is-valid : (M : Type 1) → record-check.is_valid.Statement.statement M
   pub record-rules-lowest-broken : (M : Type 1) → record-rules.lowest_broken.Statement.statement M
   pub report-brief-of-record : (M : Type 1) → report_brief.of_record.Statement.statement M
+  pub transfer-fresh : (M : Type 1) → transfer.fresh.Statement.statement M
+  pub transfer-take : (M : Type 1) → transfer.Collector.take.Statement.statement M
   pub book-fresh : (M : Type 1) → book.fresh.Statement.statement M
   pub book-command : (M : Type 1) → book.Book.command.Statement.statement M
   pub book-revoke : (M : Type 1) → book.Book.revoke.Statement.statement M

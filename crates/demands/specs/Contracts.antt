@@ -8,6 +8,7 @@ use Rattle.book.specs.declared.Book.{Book}
 use Rattle.book.specs.declared.Outcome.{Outcome}
 use Rattle.report_brief.specs.Brief.{sixLines}
 use Rattle.gateway.proofs as gateway
+use Rattle.gateway.specs.Collecting.{collectCode}
 use Rattle.gateway.specs.Entry.{entryCode, outOf}
 use Rattle.book_ledger.specs.Calls.{command, revoke, close}
 use Rattle.reader.proofs as reader
@@ -24,6 +25,11 @@ use Rattle.times.specs.declared.Refusal.{Refusal}
 use Rattle.times.specs.declared.Time.{Time}
 use Rattle.times_sheet.specs.declared.Which.the-variants.{StartUp, Ramp}
 use Rattle.times_sheet.specs.declared.Which.{Which}
+use Rattle.transfer.proofs as transfer
+use Rattle.transfer.specs.Collect.{takenOf, roomAfter}
+use Rattle.transfer.specs.States.{collectorIn, stateOf}
+use Rattle.transfer.specs.declared.Collector.{Collector}
+use Rattle.transfer.specs.declared.Taken.{Taken}
 use Rattle.value.specs.Texts.{rooms, valueText}
 use Rattle.value.specs.declared.Value.{Value}
 use Rattle.value_list.specs.declared.Triple.{Triple}
@@ -54,6 +60,14 @@ pub record Contracts : Type 0 where
   pub halimpung-normalise : (κs : _) (ca ioa : ℕ) (plan file out : Slice) (z : ℕ) (e : _)
       → gateway.halimpung_normalise.Reads.Learnt κs (ca, (ioa, (plan, (file, (out, tt))))) z e
       → (z ≡ entryCode fileOf (to ca ioa plan file) (length (out .now))) × (e .1 .1 .1 .1 .0 .now ≡ outOf fileOf (to ca ioa plan file) (out .now))
+  pub halimpung-collect : (κs : _) (unit state file : Slice) (z : ℕ) (e : _)
+      → gateway.halimpung_collect.Reads.Learnt κs (unit, (state, (file, tt))) z e
+      → (z ≡ collectCode (takenOf (collectorIn (state .now)) (unit .now) (file .now) .heard))
+      × (e .1 .0 .now ≡ stateOf (takenOf (collectorIn (state .now)) (unit .now) (file .now) .collector))
+      × (e .1 .1 .0 .now ≡ roomAfter (collectorIn (state .now)) (unit .now) (file .now))
+  pub take : (κs : _) (c : Collector) (unit file : Slice) (z : Taken) (e : _)
+      → transfer.Collector.take.Reads.Learnt κs (c, (unit, (file, tt))) z e
+      → (z ≡ takenOf c (unit .now) (file .now)) × (e .1 .1 .0 .now ≡ roomAfter c (unit .now) (file .now))
   pub read : (κs : _) (ca ioa : ℕ) (plan file : Slice) (z : Answer) (e : _)
       → reader.read.Reads.Learnt κs (ca, (ioa, (plan, (file, tt)))) z e
       → z ≡ to ca ioa plan file

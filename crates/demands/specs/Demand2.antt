@@ -12,7 +12,8 @@ use Rattle.plan.specs.Plans.{planOf, soughtOf}
 use Rattle.plan.specs.declared.Sought.{Sought}
 use Rattle.reader.specs.Messages.{given, rowIn, layoutIn, entriesIn}
 use Rattle.reader.specs.Reader.{Clean, Sound, bodyColumn, recordIn, planned, readOf}
-use Rattle.reader.specs.Refusals.{Refusal, accepted}
+use Rattle.reader.specs.Refusals.{accepted}
+use Rattle.text.specs.Refusals.{Refusal}
 use Rattle.record.specs.declared.Record.{Record}
 use Rattle.writer_theorems.specs.Own.{OwnAddress}
 use Rattle.text.specs.Bytes.{any, same}

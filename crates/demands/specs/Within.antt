@@ -26,6 +26,8 @@ use Rattle.record.proofs as records
 use Rattle.value_put.proofs as value_put
 use Rattle.report.proofs as report
 use Rattle.text_room.proofs as text_room
+use Rattle.transfer.proofs as transfer
+use Rattle.transfer_unit.proofs as transfer_unit
 use Rattle.reader_row.proofs as reader_row
 use Rattle.reader_walk.proofs as reader_walk
 use Rattle.record_rules.proofs as record-rules
@@ -38,6 +40,13 @@ use Rattle.book.proofs as book
 use Rattle.record_check.proofs as record-check
 
 pub record Within : Type 0 where
+  -- transfer
+  pub transfer-unit-told-by : Answers transfer_unit.told_by.ended transfer_unit.told_by.Reads.Asked transfer_unit.told_by.Reads.Learnt
+  pub transfer-unit-ca-of : Answers transfer_unit.ca_of.ended transfer_unit.ca_of.Reads.Asked transfer_unit.ca_of.Reads.Learnt
+  pub transfer-unit-ioa-of : Answers transfer_unit.ioa_of.ended transfer_unit.ioa_of.Reads.Asked transfer_unit.ioa_of.Reads.Learnt
+  pub transfer-state-collector-in :
+      Answers transfer.state.collector_in.ended transfer.state.collector_in.Reads.Asked transfer.state.collector_in.Reads.Learnt
+  pub transfer-state-state-of : Answers transfer.state.state_of.ended transfer.state.state_of.Reads.Asked transfer.state.state_of.Reads.Learnt
   -- text
   pub text-digits-is-digit : Answers text.digits.is_digit.ended text.digits.is_digit.Reads.Asked text.digits.is_digit.Reads.Learnt
   pub text-digits-read-digits : OneResult text.digits.read_digits.ended text.digits.read_digits.Reads.Learnt

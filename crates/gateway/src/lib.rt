@@ -2,10 +2,15 @@
 use layout::fields;
 use record::at;
 use text::put::Wrote;
+use transfer::Heard;
+use transfer::state;
 use writer::Written;
 ghost use Rattle.report_brief.specs.Brief.{sixLines};
+ghost use Rattle.gateway.specs.Collecting.{collectCode};
 ghost use Rattle.gateway.specs.Entry.{entryCode, outOf};
 ghost use Rattle.reader.specs.Reader.{readOf};
+ghost use Rattle.transfer.specs.Collect.{takenOf, roomAfter};
+ghost use Rattle.transfer.specs.States.{collectorIn, stateOf};
 ghost use Rattle.writer_form.specs.Written.{fileOf};
 ghost use lib.ListN.{length};
 ghost use mathlib.Core.Path.{_≡_};
@@ -51,5 +56,24 @@ pub extern "C" fn halimpung_normalise(
     match writer::normalise(ca, ioa, plan, file, out) {
         Written::Length(n) => n as u32,
         Written::Refused(number, detail) => number as u32 * 65536 + detail as u32,
+    }
+}
+
+// Takes one unit of a file transfer. The host keeps the 16 bytes of the state between two units, all zero at first, and lends the file's 8,192 bytes.
+#[no_mangle]
+pub extern "C" fn halimpung_collect(unit: &[u8], state: &mut [u8; 16], file: &mut [u8; 8192]) -> u32
+    ensures { λ r. ⌜ (r ≡ collectCode (takenOf (collectorIn (now (state .entry))) (now (unit .entry)) (now (file .entry)) .heard))
+        × (now (state .exit) ≡ stateOf (takenOf (collectorIn (now (state .entry))) (now (unit .entry)) (now (file .entry)) .collector))
+        × (now (file .exit) ≡ roomAfter (collectorIn (now (state .entry))) (now (unit .entry)) (now (file .entry))) ⌝ }
+{
+    let c = state::collector_in(state);
+    let taken = c.take(unit, file);
+    let next = taken.collector;
+    *state = state::state_of(next);
+    let heard = taken.heard;
+    match heard {
+        Heard::More => 0,
+        Heard::Whole(_, _, n) => n as u32,
+        Heard::Refused(number) => number as u32 * 65536,
     }
 }

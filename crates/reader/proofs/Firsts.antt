@@ -1,25 +1,17 @@
--- A refusal is given exactly when its condition is the first in its list to hold: once, for every list of refusals.
--- Assumes nothing.
+-- The reader's answer is the refusal of the first that holds in its list, and the record exactly where none does. Assumes nothing.
 use Prim.Native.Nat.{ℕ}
-use Rattle.value_name.specs.declared.MessageType.{MessageType}
 use Rattle.plan.specs.declared.Sought.{Sought}
 use Rattle.reader.specs.Reader.{valued, labelled, reading, planned}
-use Rattle.reader.specs.Refusals.{Refusal, refusal, refused, accepted, answer, First, here, later, IsFirst}
+use Rattle.reader.specs.Refusals.{refused, accepted, answer, IsFirst}
+use Rattle.reader.specs.declared.Answer.{Answer}
 use Rattle.record.specs.declared.Record.{Record}
-use Rattle.text.proofs.Tests.{by-test, and-parts}
+use Rattle.text.proofs.Firsts.{Decided, first, not-any, decided, numbered, zero-none, first-given, none-given as none-said}
 use Rattle.text.specs.Bytes.{all}
-use borrow.Author.Tests.{leb-true}
-use lib.Dec.{leb}
+use Rattle.text.specs.Refusals.{Refusal, refusal, firstHolding, firstNumber, NoneHolds}
+use Rattle.value_name.specs.declared.MessageType.{MessageType}
 use mathlib.Core.Bool.{Bool, true, false}
-use mathlib.Core.List.{List, [], _∷_}
-use mathlib.Core.Path.{_≡_, refl}
-use native.Mathlib.Omega.{arith}
-
--- ---- none holds
-
-pub data NoneHolds : List Refusal → Type 0 where
-  none : NoneHolds []
-  next : {x : Refusal} {xs : List Refusal} → x .holds ≡ false → NoneHolds xs → NoneHolds (x ∷ xs)
+use mathlib.Core.List.{List, _∷_}
+use mathlib.Core.Path.{_≡_, refl, sym, ap, _∙_}
 
 -- ---- one step of an answer
 
@@ -32,40 +24,28 @@ module _ (n d : ℕ) (b : Bool) (xs : List Refusal) (r : Record) where
   unfolding answer
   answer-no e = rw e
 
--- ---- from the conditions to the answer
-
-pub first-given : {rs : List Refusal} {x : Refusal} (r : Record) → First rs x → answer rs r ≡ refused (x .number) (x .detail)
-unfolding answer
-first-given r (here e) = rw e
-first-given r (later e f) = rw e (first-given r f)
+-- ---- an answer tells which is the first that holds, and that none does: the number 0 is no refusal's
 
 pub none-given : {rs : List Refusal} (r : Record) → NoneHolds rs → answer rs r ≡ accepted r
 unfolding answer
-none-given r none = refl
-none-given r (next e f) = rw e (none-given r f)
+none-given r h = none-said refused (accepted r) h
 
--- ---- and back: the number 0 is no refusal's, so it tells the two apart
-
-abbrev pub numbered : Refusal → Bool
-numbered x = leb 1 (x .number)
-
-pub given-first : (rs : List Refusal) (r : Record) → all numbered rs ≡ true → (answer rs r .number ≡ 0 → ⊥) → IsFirst rs (answer rs r)
-unfolding answer all
-given-first [] r h n = absurd (n refl)
-given-first (x ∷ xs) r h n =
-    by-test (x .holds) (λ e. record { which = x; first = here e; says = rw e })
-    (λ e.
-    let g = given-first xs r (and-parts (numbered x) (all numbered xs) h .1) (λ z. n (rw e z)) in
-    record { which = g .which; first = later e (g .first); says = rw e (g .says) })
+pub given-first : (rs : List Refusal) (r : Record) → (answer rs r .number ≡ 0 → ⊥) → IsFirst rs (answer rs r)
+unfolding answer
+given-first rs r n = by (decided rs)
+  where
+    by : Decided rs → IsFirst rs (firstHolding refused (accepted r) rs)
+    by (first {x} f) = record { which = x; first = f; says = first-given refused (accepted r) f }
+    by (not-any h) = absurd (n (ap (λ (a : Answer). a .number) (none-said refused (accepted r) h)))
 
 pub accepted-none : (rs : List Refusal) (r : Record) → all numbered rs ≡ true → answer rs r .number ≡ 0 → NoneHolds rs
-unfolding answer all
-accepted-none [] r h z = none
-accepted-none (x ∷ xs) r h z =
-    let p = and-parts (numbered x) (all numbered xs) h in
-    by-test (x .holds)
-    (λ e. let k : x .number ≡ 0 = rw e at z in absurd (omega (arith, leb-true 1 (x .number) (p .0))))
-    (λ e. next e (accepted-none xs r (p .1) (rw e at z)))
+unfolding answer
+accepted-none rs r h z = zero-none rs h (by (decided rs))
+  where
+    by : Decided rs → firstNumber rs ≡ 0
+    by (first {x} f) =
+        first-given (λ n d. n) 0 f ∙ sym (ap (λ (a : Answer). a .number) (first-given refused (accepted r) f)) ∙ z
+    by (not-any h) = none-said (λ n d. n) 0 h
 
 -- ---- the reader's lists
 

@@ -11,7 +11,6 @@ use Rattle.text_lines.specs.Places.{partOf, spanAt, Placed}
 use Rattle.text_lines.specs.declared.Span.{Span}
 use Rattle.value_list.specs.declared.Triple.{Triple}
 use Rattle.reader.proofs.Firsts.{answer-yes, answer-no, none-given}
-use Rattle.reader.proofs.Firsts.NoneHolds.{none}
 use Rattle.reader.specs.Messages.{valuesOf, isBad, goodOf, columnRecord}
 use Rattle.reader.specs.Reader.{valued}
 use Rattle.reader.specs.Refusals.{refused, accepted}
@@ -23,6 +22,7 @@ use Rattle.record.specs.declared.Cell.{Cell}
 use Rattle.record_rules.specs.Rules.{rulesOf, lowest, brokenIn}
 use Rattle.text.proofs.Tests.{by-test, by-eq}
 use Rattle.text.specs.Bytes.{same}
+use Rattle.text.specs.Refusals.{none}
 use borrow.Author.Tests.{lt-ltb, le-ltb}
 use lib.Dec.{ltb}
 use lib.ListN.{length}

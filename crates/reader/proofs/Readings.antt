@@ -85,7 +85,7 @@ module _ (c i : ℕ) (plan file : List ℕ) where
     unfolding readOf answerAt
     refused-is =
         let s = soughtOf c i (planOf plan) in
-        let f = given-first (planned s file) (recordIn (s .message) file) (numbers s file) n in
+        let f = given-first (planned s file) (recordIn (s .message) file) n in
         let e = f .says in
         ap (λ (x : Answer). refused (x .number) (x .detail)) e ∙ sym e
 

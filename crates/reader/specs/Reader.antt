@@ -11,7 +11,8 @@ use Rattle.value_name.specs.declared.MessageType.{MessageType}
 use Rattle.plan.specs.Plans.{planOf, soughtOf}
 use Rattle.plan.specs.declared.Sought.{Sought}
 use Rattle.reader.specs.Messages.{given, rowIn, layoutIn, entriesIn, valuesOf, isBad, columnRecord}
-use Rattle.reader.specs.Refusals.{Refusal, refusal, answer}
+use Rattle.reader.specs.Refusals.{answer}
+use Rattle.text.specs.Refusals.{Refusal, refusal}
 use Rattle.reader.specs.declared.Answer.{Answer}
 use Rattle.record.specs.Records.{badOf}
 use Rattle.record.specs.declared.Record.{Record}

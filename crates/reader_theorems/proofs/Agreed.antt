@@ -8,10 +8,11 @@ use Rattle.text_lines.proofs.Allowed.{allowed-length}
 use Rattle.text_lines.specs.Entries.{again, missing}
 use Rattle.text_lines.specs.Lines.{allowedUpto, texts, framed}
 use Rattle.value_name.specs.declared.MessageType.{MessageType}
-use Rattle.reader.proofs.Firsts.{NoneHolds, next, none-given, accepted-none, reading-numbered}
+use Rattle.reader.proofs.Firsts.{none-given, accepted-none, reading-numbered}
 use Rattle.reader.specs.Messages.{given, rowIn, layoutIn, entriesIn, valuesOf, isBad}
 use Rattle.reader.specs.Reader.{isThere, valued, labelled, reading, bodyColumn, recordIn, messageOf}
-use Rattle.reader.specs.Refusals.{Refusal, accepted as taken}
+use Rattle.reader.specs.Refusals.{accepted as taken}
+use Rattle.text.specs.Refusals.{Refusal, NoneHolds, next}
 use Rattle.record_rules.specs.Rules.{brokenIn}
 use Rattle.text.proofs.Cuts.{same-true}
 use Rattle.text.proofs.Tests.{within-tells}

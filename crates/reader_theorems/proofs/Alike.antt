@@ -17,7 +17,8 @@ use Rattle.value_name.specs.declared.MessageType.{MessageType}
 use Rattle.value_name.specs.declared.MessageType.the-variants.{Cb, Rc, Mg, Eb, Lb, Sr, Vq, Ri, Qr}
 use Rattle.reader.specs.Messages.{given, rowIn, isKindOfCommand, layoutIn, entriesIn, columnRecord}
 use Rattle.reader.specs.Reader.{Clean, Sound, labelled, reading, recordIn, messageOf}
-use Rattle.reader.specs.Refusals.{refusal, answer}
+use Rattle.reader.specs.Refusals.{answer}
+use Rattle.text.specs.Refusals.{refusal}
 use Rattle.reader.specs.declared.Answer.{Answer}
 use Rattle.text.proofs.Cuts.{upto-seam, past-seam, upto-all, any-append, all-none}
 use Rattle.text.proofs.Tests.{and-parts, or-parts, within-tells}

@@ -18,7 +18,8 @@ use Rattle.plan.specs.Plans.{Plan, rows, wrong, onward, planFrom, planOf, lookU
 use Rattle.plan_row.specs.Rows.RowRead.{good as goodRow, bad as badRow}
 use Rattle.reader.specs.Messages.{given, rowIn, layoutIn, entriesIn, valuesOf, isBad, columnRecord}
 use Rattle.reader.specs.Reader.{isThere, numberOr, valued, labelled, reading, recordIn, unitIn, planned, answerAt, readOf}
-use Rattle.reader.specs.Refusals.{Refusal, refusal, answer}
+use Rattle.reader.specs.Refusals.{answer}
+use Rattle.text.specs.Refusals.{Refusal, refusal}
 use Rattle.record.specs.Records.{Typed, joined, typed, badOf}
 use Rattle.record.specs.Records.Typed.{bad, good}
 use Rattle.record.specs.declared.Cell.{Cell}

@@ -9,7 +9,7 @@ use Rattle.value_name.specs.declared.MessageType.{MessageType}
 use Rattle.plan.specs.Plans.{planOf, soughtOf}
 use Rattle.plan.specs.declared.Sought.{Sought}
 use Rattle.reader_theorems.proofs.Agreed.{Accepted, accepted}
-use Rattle.reader.proofs.Firsts.{NoneHolds, next, accepted-none, numbers, answer-no}
+use Rattle.reader.proofs.Firsts.{accepted-none, numbers, answer-no}
 use Rattle.reader_theorems.proofs.Held.{record-valid}
 use Rattle.reader.specs.Messages.{given, layoutIn, entriesIn, valuesOf, isBad, goodOf, columnRecord}
 use Rattle.reader.specs.Reader.{bodyColumn, recordIn, messageOf, planned, answerAt, readOf, unitIn}
@@ -18,6 +18,7 @@ use Rattle.record.specs.Records.{Typed}
 use Rattle.record.specs.Records.Typed.{bad, good}
 use Rattle.record_rules.specs.Rules.{brokenIn}
 use Rattle.text.specs.Bytes.{all, tidy}
+use Rattle.text.specs.Refusals.{NoneHolds, next}
 use Rattle.record_valid.specs.Valid.{Valid}
 use lib.Dec.{eqb}
 use lib.ListN.{length}

@@ -1,4 +1,5 @@
 pub mod Tests
+pub mod Firsts
 pub mod Cuts
 pub mod Trims
 pub mod Numerals

@@ -47,17 +47,26 @@ module _ (f : Ended) where
   OneOutput buffer learnt =
       (κs : Lent) (a : In κs) → Determines (λ (x : Out κs × List ℕ). (e : End κs) × (x .1 ≡ buffer κs e) × learnt κs a (x .0) e)
 
+  -- and of two buffers
+  abbrev pub OneOutputs : ((κs : Lent) → End κs → List ℕ) → ((κs : Lent) → End κs → List ℕ) → Tells → Type 0
+  OneOutputs first second learnt =
+      (κs : Lent) (a : In κs)
+      → Determines (λ (x : Out κs × List ℕ × List ℕ). (e : End κs) × (x .1 ≡ first κs e) × (x .2 ≡ second κs e) × learnt κs a (x .0) e)
+
   -- for every input one text at most, where the result is a part of what was lent
   abbrev pub OneText : ((κs : Lent) → Out κs → List ℕ) → Tells → Type 0
   OneText text learnt =
       (κs : Lent) (a : In κs) → Determines (λ (t : List ℕ). (z : Out κs) × (e : End κs) × (t ≡ text κs z) × learnt κs a z e)
 
-  -- those three, of a contract that asks nothing
+  -- those four, of a contract that asks nothing
   abbrev pub Answers : Asks → Tells → Type 0
   Answers asked learnt = AsksNothing asked × OneResult learnt
 
   abbrev pub Writes : ((κs : Lent) → End κs → List ℕ) → Asks → Tells → Type 0
   Writes buffer asked learnt = AsksNothing asked × OneOutput buffer learnt
+
+  abbrev pub WritesTwo : ((κs : Lent) → End κs → List ℕ) → ((κs : Lent) → End κs → List ℕ) → Asks → Tells → Type 0
+  WritesTwo first second asked learnt = AsksNothing asked × OneOutputs first second learnt
 
   abbrev pub Lends : ((κs : Lent) → Out κs → List ℕ) → Asks → Tells → Type 0
   Lends text asked learnt = AsksNothing asked × OneText text learnt

@@ -6,6 +6,14 @@ use crate::request::parts::letter_of;
 use crate::request::parts::text_of;
 use text::scan;
 
+// `collect UNITS`
+fn of_two(key: &[u8]) -> Kind {
+    if scan::same(key, b"collect") {
+        return Kind::Collect;
+    }
+    Kind::Unknown
+}
+
 // `book UNIT CALLS` and `prog PLAN STDIN`, by the letter that PLAN is: `!` is one that cannot be read.
 fn of_three(key: &[u8], plan: u8) -> Kind {
     if scan::same(key, b"book") {
@@ -59,6 +67,7 @@ pub(crate) fn kind_of(line: &[u8], f: Fields) -> Kind {
     let next = letter_of(line, field(f, 1));
     let count = f.count;
     match count {
+        2 => of_two(key),
         3 => of_three(key, next),
         5 => of_five(key),
         6 => of_six(key),
@@ -109,6 +118,7 @@ pub(crate) fn shape_of(kind: Kind) -> Shape {
         Kind::Prog => stands(1, NO, NO, 2, NO, NO, NO),
         Kind::Blind => stands(NO, NO, NO, 2, NO, NO, NO),
         Kind::Book => stands(1, NO, NO, NO, NO, NO, 2),
+        Kind::Collect => stands(NO, NO, NO, NO, NO, NO, 1),
         Kind::Unknown => stands(NO, NO, NO, NO, NO, NO, NO),
     }
 }

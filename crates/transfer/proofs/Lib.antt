@@ -1,0 +1,3 @@
+pub mod Comes
+pub mod Small
+pub mod Rooms
