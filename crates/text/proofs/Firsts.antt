@@ -12,12 +12,12 @@ use native.Mathlib.Omega.{arith}
 
 -- ---- from the conditions to what is said
 
-module _ {A : Type 0} (no : ℕ → ℕ → A) (yes : A) where
-  pub first-given : {rs : List Refusal} {x : Refusal} → First rs x → firstHolding no yes rs ≡ no (x .number) (x .detail)
+module _ {A : Type 0} (say : ℕ → ℕ → A) (other : A) where
+  pub first-given : {rs : List Refusal} {x : Refusal} → First rs x → firstHolding say other rs ≡ say (x .number) (x .detail)
   first-given (here e) = rw e
   first-given (later e f) = rw e (first-given f)
 
-  pub none-given : {rs : List Refusal} → NoneHolds rs → firstHolding no yes rs ≡ yes
+  pub none-given : {rs : List Refusal} → NoneHolds rs → firstHolding say other rs ≡ other
   none-given none = refl
   none-given (next e f) = rw e (none-given f)
 

@@ -15,8 +15,8 @@ refusal n d b = record { number = n; detail = d; holds = b }
 
 -- THE DEFINITION: what the first refusal that holds says, by its number and detail, or else what is said where none does
 abbrev pub firstHolding : {A : Type 0} → (ℕ → ℕ → A) → A → List Refusal → A
-firstHolding no yes [] = yes
-firstHolding no yes (x ∷ xs) = cond (x .holds) (no (x .number) (x .detail)) (firstHolding no yes xs)
+firstHolding say other [] = other
+firstHolding say other (x ∷ xs) = cond (x .holds) (say (x .number) (x .detail)) (firstHolding say other xs)
 
 -- its number: 0 where none holds
 abbrev pub firstNumber : List Refusal → ℕ
