@@ -4,7 +4,7 @@ use Rattle.transfer.proofs.Comes.{Went, Comes, refused, went, comes}
 use Rattle.transfer.specs.Collect.{ofHeard, kept, takenOf, roomAfter, heardOf}
 use Rattle.transfer.specs.declared.Collector.{Collector}
 use Rattle.transfer.specs.declared.Taken.{Taken}
-use Rattle.transfer_unit.proofs.Kinds.{segment-octets}
+use Rattle.transfer_unit.proofs.Layouts.{segment-octets}
 use Rattle.transfer_unit.specs.Units.{toldBy, octetsOf}
 use Rattle.transfer_unit.specs.declared.Told.{Told}
 use Rattle.transfer_unit.specs.declared.Told.the-variants.{FileReady, SectionReady, Segment, LastSegment, LastSection, Other}

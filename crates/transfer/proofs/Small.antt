@@ -8,7 +8,7 @@ use Rattle.transfer.specs.declared.Collector.{Collector}
 use Rattle.transfer.specs.declared.Taken.{Taken}
 use Rattle.transfer.specs.declared.Turn.{Turn}
 use Rattle.transfer.specs.declared.Turn.the-variants.{Fresh, Between, Within}
-use Rattle.transfer_unit.proofs.Kinds.{octet-small, last-named}
+use Rattle.transfer_unit.proofs.Layouts.{octet-small, last-named}
 use Rattle.transfer_unit.specs.Units.{caOf, ioaOf, toldBy, Octets}
 use Rattle.transfer_unit.specs.declared.Told.{Told}
 use Rattle.transfer_unit.specs.declared.Told.the-variants.{FileReady, SectionReady, Segment, LastSegment, LastSection, Other}
@@ -36,9 +36,16 @@ pub state-back : (c : Collector) → Small c → collectorIn (stateOf c) ≡ c
 unfolding collectorIn stateOf
 state-back c h =
     let ended : low (c .ended) ≡ c .ended = omega (arith, h .ended-small) in
-    rw (turn-back (c .turn), two-back (c .ca) (h .ca-small), three-back (c .ioa) (h .ioa-small), ended,
-    two-back (c .announced) (omega (arith, h .announced-small)), two-back (c .start) (omega (arith, h .start-small)),
-    two-back (c .due) (omega (arith, h .due-small)), two-back (c .count) (omega (arith, h .count-small)))
+    rw (
+      turn-back (c .turn),
+      two-back (c .ca) (h .ca-small),
+      three-back (c .ioa) (h .ioa-small),
+      ended,
+      two-back (c .announced) (omega (arith, h .announced-small)),
+      two-back (c .start) (omega (arith, h .start-small)),
+      two-back (c .due) (omega (arith, h .due-small)),
+      two-back (c .count) (omega (arith, h .count-small)),
+    )
 
 -- ---- all of a run have room
 

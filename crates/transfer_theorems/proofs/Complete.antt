@@ -11,7 +11,7 @@ use Rattle.transfer.specs.declared.Heard.the-variants.{More, Whole}
 use Rattle.transfer.specs.declared.Turn.the-variants.{Between, Within}
 use Rattle.transfer_theorems.proofs.Sound.{part-more}
 use Rattle.transfer_theorems.specs.Transfers.{Run, startOf, runOf, stepOf, afterAll, answers, Says, Segments, none-yet, one-more, Sections, no-section, section, Transfer, TakenWhole}
-use Rattle.transfer_unit.proofs.Kinds.{segment-octets}
+use Rattle.transfer_unit.proofs.Layouts.{segment-octets}
 use Rattle.transfer_unit.specs.Units.{caOf, ioaOf, toldBy, isOther, octetsOf}
 use Rattle.transfer_unit.specs.declared.Told.{Told}
 use Rattle.transfer_unit.specs.declared.Told.the-variants.{FileReady, SectionReady, Segment, LastSegment, LastSection}
@@ -112,11 +112,11 @@ module _ (ca ioa a : ℕ) where
       let g : b + length y + n ≤ 8192 = omega (arith, h, k, m) in
       let i : suc e ≡ e + 1 = omega arith in
       let t = steps c (f .room) s (Segment (suc e) n) (says .0) refl (at-home c s (says .1) (says .2)) More (eq-eqb (suc e) (e + 1) i) refl refl
-          (le-ltb (b + length y + n) 8192 g) in
+      (le-ltb (b + length y + n) 8192 g) in
       let q : b + length y + n ≡ b + length (y ++ w) = omega (arith, k, m) in
       let o = sets (f .room) (b + length y) w in
       let r : take (b + length y + length w) o ≡ x ++ (y ++ w) =
-          filled (f .room) w (b + length y) (omega (arith, g, m, f .long)) ∙ ap (λ (l : List ℕ). l ++ w) (f .held) ∙ append-assoc x y w in
+      filled (f .room) w (b + length y) (omega (arith, g, m, f .long)) ∙ ap (λ (l : List ℕ). l ++ w) (f .held) ∙ append-assoc x y w in
       rw (← q)
       (record {
         room = o;
@@ -137,14 +137,14 @@ module _ (ca ioa a : ℕ) where
       let c = paused j n in
       let i : suc j ≡ j + 1 = omega arith in
       let s = steps c (f .room) ready (SectionReady (suc j) m) (is-ready .0) refl (at-home c ready (is-ready .1) (is-ready .2)) More
-          (eq-eqb (suc j) (j + 1) i) refl refl (le-ltb m 8192 (omega (arith, h, k))) in
+      (eq-eqb (suc j) (j + 1) i) refl refl (le-ltb m 8192 (omega (arith, h, k))) in
       let g = segments-fill j n m segments (omega (arith, h, k)) (f .room) x (f .long) (f .held) in
       let d = opened j n m (n + m) in
       let p : checksum y ≡ checksum (part n (n + m) (g .room)) = ap checksum (sym (part-more (g .room) x y n (n + m) refl refl (g .held))) in
       let o : n + m - n ≡ m = omega arith in
       let turn : inTurn d (LastSegment (suc j) (checksum y)) ≡ true = rw (eq-eqb (suc j) (j + 1) i, lt-ltb n (n + m) (omega (arith, some))) in
       let t = steps d (g .room) last (LastSegment (suc j) (checksum y)) (is-last .0) refl (at-home d last (is-last .1) (is-last .2)) More
-          turn (eq-eqb (checksum y) (checksum (part n (n + m) (g .room))) p) (eq-eqb (n + m - n) m o) (le-ltb (n + m) 8192 (omega (arith, h, k))) in
+      turn (eq-eqb (checksum y) (checksum (part n (n + m) (g .room))) p) (eq-eqb (n + m - n) m o) (le-ltb (n + m) 8192 (omega (arith, h, k))) in
       let e : paused (j + 1) (n + m) ≡ paused (suc j) (length (x ++ y)) = ap₂ paused (sym i) (sym k) in
       let q : n + m ≡ length (x ++ y) = sym k in
       record {

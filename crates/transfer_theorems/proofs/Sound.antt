@@ -12,7 +12,7 @@ use Rattle.transfer.specs.declared.Taken.{Taken}
 use Rattle.transfer.specs.declared.Turn.{Turn}
 use Rattle.transfer.specs.declared.Turn.the-variants.{Fresh, Between, Within}
 use Rattle.transfer_theorems.specs.Transfers.{Run, startOf, runOf, stepOf, afterAll, Says, Segments, none-yet, one-more, Sections, no-section, section, Transfer, WholeOf}
-use Rattle.transfer_unit.proofs.Kinds.{segment-octets}
+use Rattle.transfer_unit.proofs.Layouts.{segment-octets}
 use Rattle.transfer_unit.specs.Units.{caOf, ioaOf, toldBy, isOther, octetsOf}
 use Rattle.transfer_unit.specs.declared.Told.{Told}
 use Rattle.transfer_unit.specs.declared.Told.the-variants.{FileReady, SectionReady, Segment, LastSegment, LastSection, Other}
@@ -56,7 +56,7 @@ pub record Opened (c : Collector) (room : List ℕ) (us : List (List ℕ)) : Typ
   pub few : c .count ≤ 8192
 
 abbrev Standing : Turn → Collector → List ℕ → List (List ℕ) → Type 0
-Standing Fresh c room us = ⊤
+Standing Fresh c room us = Unit {0}
 Standing Between c room us = Paused c room us
 Standing Within c room us = Opened c room us
 
@@ -286,7 +286,7 @@ module _ (x : Run) (all : List (List ℕ)) (h : Since x all) (s : List ℕ) wher
       let o = and-parts (ltb 0 (c .ended)) (ltb 0 (c .count)) (r .1) in
       let b = paused (c .turn) (p .0) (h .standing) in
       let f = last-section c (x .room) s (h .units) (h .long) i k e (eqb-true i (c .ended) (r .0)) (ltb-true 0 (c .ended) (o .0))
-          (eqb-true k (checksum (take (c .count) (x .room))) (w .is-summed)) (eqb-true (c .count) (c .announced) (w .is-met)) (its-address c s (b .1) (w .known)) (b .0) in
+      (eqb-true k (checksum (take (c .count) (x .room))) (w .is-summed)) (eqb-true (c .count) (c .announced) (w .is-met)) (its-address c s (b .1) (w .known)) (b .0) in
       record {
         before = all ++ (s ∷ []);
         units = [];

@@ -42,7 +42,7 @@ answers x (s ∷ us) = stepOf x s .heard ∷ answers (stepOf x s) us
 
 -- units of octets
 abbrev pub AllOctets : List (List ℕ) → Type 0
-AllOctets [] = ⊤
+AllOctets [] = Unit {0}
 AllOctets (s ∷ us) = Octets s × AllOctets us
 
 -- ---- a transfer

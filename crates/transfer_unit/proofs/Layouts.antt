@@ -53,12 +53,12 @@ module _ (s : List ℕ) (P : Told → Type 0) (other : P Other) where
 -- ---- a segment's octets
 
 abbrev Long : List ℕ → Told → Type 0
-Long s (FileReady n) = ⊤
-Long s (SectionReady i n) = ⊤
+Long s (FileReady n) = Unit {0}
+Long s (SectionReady i n) = Unit {0}
 Long s (Segment i n) = (1 ≤ n) × (length s ≡ 13 + n)
-Long s (LastSegment i k) = ⊤
-Long s (LastSection i k) = ⊤
-Long s Other = ⊤
+Long s (LastSegment i k) = Unit {0}
+Long s (LastSection i k) = Unit {0}
+Long s Other = Unit {0}
 
 told-long : (s : List ℕ) → Long s (toldBy s)
 told-long s = told-has s (Long s) tt tt tt (λ h. h) tt tt
@@ -73,12 +73,12 @@ octet-small s zero h = omega arith
 octet-small s (suc k) h = h k
 
 abbrev Named : Told → Type 0
-Named (FileReady n) = ⊤
-Named (SectionReady i n) = ⊤
-Named (Segment i n) = ⊤
+Named (FileReady n) = Unit {0}
+Named (SectionReady i n) = Unit {0}
+Named (Segment i n) = Unit {0}
 Named (LastSegment i k) = i ≤ 255
-Named (LastSection i k) = ⊤
-Named Other = ⊤
+Named (LastSection i k) = Unit {0}
+Named Other = Unit {0}
 
 pub last-named : (s : List ℕ) (i k : ℕ) → Octets s → toldBy s ≡ LastSegment i k → i ≤ 255
 last-named s i k h e = subst Named e (told-has s Named tt tt tt (λ h. tt) (omega (arith, octet-small s 12 h)) tt)
