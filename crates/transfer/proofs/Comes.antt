@@ -3,7 +3,7 @@
 use Prim.Native.Nat.{ℕ, _+_, _≤_}
 use Rattle.text.proofs.Firsts.{Decided, first, not-any, decided, first-given, none-given}
 use Rattle.text.proofs.Tests.{and-parts}
-use Rattle.text.specs.Refusals.{next}
+use Rattle.text.specs.Refusals.{NoneHolds, next}
 use Rattle.transfer.specs.Collect.{isMore, isBetween, fresh, elsewhere, inTurn, summed, met, tooLong, refusalsOf, onward, heardOf, kept, taken, dropped, takenOf, roomAfter}
 use Rattle.transfer.specs.declared.Collector.{Collector}
 use Rattle.transfer.specs.declared.Heard.{Heard}
@@ -12,7 +12,7 @@ use Rattle.transfer.specs.declared.Taken.{Taken}
 use Rattle.transfer_unit.specs.Units.{toldBy, isOther}
 use Rattle.transfer_unit.specs.declared.Told.{Told}
 use Rattle.transfer_unit.specs.declared.Told.the-variants.{FileReady, SectionReady, Segment, LastSegment, LastSection, Other}
-use borrow.Author.Tests.{ltb-true, ltb-false}
+use borrow.Author.Tests.{ltb-true, ltb-false, not-false}
 use lib.Dec.{eqb, ltb}
 use mathlib.Core.Bool.{Bool, true, false, not, _&&_, _||_, false≢true}
 use mathlib.Core.List.{List}
@@ -32,24 +32,23 @@ pub data Comes (c : Collector) (s file : List ℕ) : Type 0 where
   went : (u : Told) → toldBy s ≡ u → Went c s file u → takenOf c s file ≡ taken (heardOf c u) (onward c s u) → roomAfter c s file ≡ kept c s file u
       → Comes c s file
 
-yes : {b : Bool} → not b ≡ false → b ≡ true
-yes {true} e = refl
-yes {false} e = absurd (false≢true (sym e))
+module _ (c : Collector) (s file : List ℕ) where
+  abbrev says : Told
+  says = toldBy s
 
-pub comes : (c : Collector) (s file : List ℕ) → Comes c s file
-unfolding takenOf roomAfter
-comes c s file = by (decided (refusalsOf c s file))
-  where
-    u = toldBy s
-    said = taken (heardOf c u) (onward c s u)
-    room = kept c s file u
+  abbrev answer : Taken
+  answer = taken (heardOf c says) (onward c s says)
 
-    by : Decided (refusalsOf c s file) → Comes c s file
-    by (first {r} f) = refused (r .number) (first-given dropped said f) (first-given (λ n d. file) room f)
-    by (not-any (next a (next t (next k (next m (next l n)))))) =
-        let o = next a (next t (next k (next m (next l n)))) in
-        went u refl (record { known = a; in-turn = yes t; is-summed = yes k; is-met = yes m; not-long = l })
-        (none-given dropped said o) (none-given (λ n d. file) room o)
+  pub comes : Comes c s file
+  unfolding takenOf roomAfter
+  comes = by (decided (refusalsOf c s file))
+    where
+      by : Decided (refusalsOf c s file) → Comes c s file
+      by (first {x = r} f) = refused (r .number) (first-given dropped answer f) (first-given (λ n d. file) (kept c s file says) f)
+      by (not-any (next a (next t (next k (next m (next l n)))))) =
+          let o : NoneHolds (refusalsOf c s file) = next a (next t (next k (next m (next l n)))) in
+          went says refl (record { known = a; in-turn = not-false _ t; is-summed = not-false _ k; is-met = not-false _ m; not-long = l })
+          (none-given dropped answer o) (none-given (λ n d. file) (kept c s file says) o)
 
 -- ---- whatever is not `More` leaves the collector as fresh
 
@@ -78,10 +77,8 @@ bounded c s file (Segment i m) ca ioa n w e = let z : _≡_ {A = ℕ} 0 1 = cc i
 bounded c s file (LastSegment i k) ca ioa n w e = let z : _≡_ {A = ℕ} 0 1 = cc in absurd (omega arith)
 bounded c s file (LastSection i k) ca ioa n w e =
     let m : c .count ≡ n = cc in
-    let p = and-parts (isBetween (c .turn)) (eqb i (c .ended) && (ltb 0 (c .ended) && ltb 0 (c .count))) (w .in-turn) in
-    let q = and-parts (eqb i (c .ended)) (ltb 0 (c .ended) && ltb 0 (c .count)) (p .1) in
-    let r = and-parts (ltb 0 (c .ended)) (ltb 0 (c .count)) (q .1) in
-    (omega (arith, ltb-true 0 (c .count) (r .1), m), omega (arith, ltb-false 8192 (c .count) (w .not-long), m))
+    let p = and-parts (isBetween (c .turn) && eqb i (c .ended) && ltb 0 (c .ended)) (ltb 0 (c .count)) (w .in-turn) in
+    (omega (arith, ltb-true 0 (c .count) (p .1), m), omega (arith, ltb-false 8192 (c .count) (w .not-long), m))
 bounded c s file Other ca ioa n w e = absurd (false≢true (w .in-turn))
 
 pub whole-bounded : (c : Collector) (s file : List ℕ) (ca ioa n : ℕ) → takenOf c s file .heard ≡ Whole ca ioa n → (1 ≤ n) × (n ≤ 8192)

@@ -102,13 +102,13 @@ module _ (c : Collector) (h : Small c) (s : List ℕ) (octets : Octets s) where
         count-small = ltb-false 8192 (c .count + n) (w .not-long);
       }
   onward-small file (LastSegment i k) e w =
-      let p = and-parts (isWithin (c .turn)) (eqb i (c .ended + 1) && ltb (c .start) (c .count)) (w .in-turn) in
-      let q = and-parts (eqb i (c .ended + 1)) (ltb (c .start) (c .count)) (p .1) in
+      let p = and-parts (isWithin (c .turn) && eqb i (c .ended + 1)) (ltb (c .start) (c .count)) (w .in-turn) in
+      let q = and-parts (isWithin (c .turn)) (eqb i (c .ended + 1)) (p .0) in
       record {
         ca-small = h .ca-small;
         ioa-small = h .ioa-small;
         announced-small = h .announced-small;
-        ended-small = omega (arith, eqb-true i (c .ended + 1) (q .0), last-named s i k octets e);
+        ended-small = omega (arith, eqb-true i (c .ended + 1) (q .1), last-named s i k octets e);
         start-small = omega arith;
         due-small = omega arith;
         count-small = h .count-small;
