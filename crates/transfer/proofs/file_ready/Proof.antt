@@ -1,44 +1,39 @@
-use borrow.Author.Needs.{needs}
+-- Out of turn, too long, or a transfer begins.
+use Rattle.transfer.proofs.Turns.{out-of-turn, too-long, not-refused, file-begins}
 use Rattle.transfer.proofs.file_ready.Statement.{statement}
 use Rattle.transfer.proofs.file_ready.Tie as tie
-use Rattle.transfer.proofs.file_ready.Reads as reads
-use Rattle.transfer.proofs.file_ready.Lts as lts
-use Rattle.transfer.proofs.dropped.Reads as dropped-reads
-use Rattle.transfer.proofs.is_fresh.Reads as is-fresh-reads
-use Rattle.transfer_unit.proofs.ca_of.Reads as ca-of-reads
-use Rattle.transfer_unit.proofs.ioa_of.Reads as ioa-of-reads
+use borrow.Author.Needs.{needs}
+use borrow.Author.Tests.{lt-ltb, le-ltb}
+use mathlib.Core.Path.{refl}
 
--- src/lib.rt:137:9
 is-fresh-requires : tie.Need-is-fresh-requires
 is-fresh-requires c κs = search needs
 
--- src/lib.rt:138:9
 dropped-requires : tie.Need-dropped-requires
 dropped-requires c κs = search needs
 
--- src/lib.rt:138:9
 returns : tie.Need-returns
-returns c = ?
+returns c = out-of-turn _ _ _ _ _ (c .before .before .is-fresh .ensures) (c .before .if1 .taken) (c .dropped .ensures) .0
 
--- src/lib.rt:141:9
 dropped-requires-2 : tie.Need-dropped-requires-2
 dropped-requires-2 c κs = search needs
 
--- src/lib.rt:141:9
 returns-2 : tie.Need-returns-2
-returns-2 c = ?
+returns-2 c =
+    let l = c .before in
+    too-long _ _ _ _ _ (l .before .before .is-fresh .ensures) (l .before .if1 .left) refl refl (lt-ltb _ _ (l .if2 .taken)) (c .dropped2 .ensures) .0
 
--- src/lib.rt:147:17
 ca-of-requires : tie.Need-ca-of-requires
 ca-of-requires c κs = search needs
 
--- src/lib.rt:148:18
 ioa-of-requires : tie.Need-ioa-of-requires
 ioa-of-requires c κs = search needs
 
--- src/lib.rt:133:1
 returns-3 : tie.Need-returns-3
-returns-3 c = ?
+returns-3 c =
+    let l = c .before .before in
+    file-begins _ _ _ _ (c .before .ca-of .ensures) (c .ioa-of .ensures)
+    (not-refused _ _ _ _ _ (l .before .before .is-fresh .ensures) (l .before .if1 .left) refl refl (le-ltb _ _ (l .if2 .left)) .0)
 
 pub file-ready-spec : {M : Type 1} → statement M
 file-ready-spec =

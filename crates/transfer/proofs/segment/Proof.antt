@@ -1,65 +1,66 @@
-use borrow.Author.Needs.{needs}
+-- Out of turn, too long, or its octets are put behind the others. (n is the place where the turn and the name were asked.)
+use Rattle.transfer_unit.specs.declared.Told.the-variants.{Segment}
+use Rattle.transfer.proofs.Turns.{out-of-turn, too-long, not-refused, octets-put}
 use Rattle.transfer.proofs.segment.Statement.{statement}
 use Rattle.transfer.proofs.segment.Tie as tie
-use Rattle.transfer.proofs.segment.Reads as reads
-use Rattle.transfer.proofs.segment.Lts as lts
-use Rattle.text.proofs.put.put_text.Reads as put-text-reads
-use Rattle.text.proofs.scan.rest.Reads as rest-reads
-use Rattle.transfer.proofs.dropped.Reads as dropped-reads
-use Rattle.transfer.proofs.is_next.Reads as is-next-reads
-use Rattle.transfer.proofs.is_within.Reads as is-within-reads
+use Rattle.transfer.specs.Collect.{inTurn}
+use borrow.Author.Needs.{needs}
+use borrow.Author.Tests.{lt-ltb, le-ltb}
+use mathlib.Core.Bool.{_&&_}
+use mathlib.Core.Path.{_≡_, refl, ap₂}
 
--- src/lib.rt:196:10
+abbrev start : tie.After-is-next → tie.Start
+start n = n .before .before .before
+
+turn-is : (n : tie.After-is-next)
+    → (n .before .is-within .result && n .is-next .result) ≡ inTurn (start n .args .c) (Segment (start n .args .i) (start n .args .n))
+turn-is n = ap₂ _&&_ (n .before .is-within .ensures) (n .is-next .ensures)
+
 is-within-requires : tie.Need-is-within-requires
 is-within-requires c κs = search needs
 
--- src/lib.rt:196:28
 is-next-requires : tie.Need-is-next-requires
 is-next-requires c κs = search needs
 
--- src/lib.rt:197:9
 dropped-requires : tie.Need-dropped-requires
 dropped-requires c κs = search needs
 
--- src/lib.rt:197:9
 returns : tie.Need-returns
-returns c = ?
+returns c = out-of-turn _ _ _ _ _ (turn-is (c .before .before)) (c .before .if1 .taken) (c .dropped .ensures)
 
--- src/lib.rt:199:17
 cast-count : tie.Need-cast-count
 cast-count c = search needs
 
--- src/lib.rt:199:17
 add-count : tie.Need-add-count
 add-count c = search needs
 
--- src/lib.rt:201:9
 dropped-requires-2 : tie.Need-dropped-requires-2
 dropped-requires-2 c κs = search needs
 
--- src/lib.rt:201:9
 returns-2 : tie.Need-returns-2
-returns-2 c = ?
+returns-2 c =
+    let l = c .before in
+    let t = l .before .before in
+    too-long _ _ _ _ _ (turn-is (t .before)) (t .if1 .left) refl refl (lt-ltb _ _ (l .if2 .taken)) (c .dropped2 .ensures)
 
--- src/lib.rt:203:25
 cast-put-text : tie.Need-cast-put-text
 cast-put-text c = search needs
 
--- src/lib.rt:203:43
 rest-requires : tie.Need-rest-requires
 rest-requires c κs = search needs
 
--- src/lib.rt:203:5
 put-text-requires : tie.Need-put-text-requires
 put-text-requires c κs = search needs
 
--- src/lib.rt:214:20
 cast-t19 : tie.Need-cast-t19
 cast-t19 c = search needs
 
--- src/lib.rt:191:1
 returns-3 : tie.Need-returns-3
-returns-3 c = ?
+returns-3 c =
+    let l = c .before .before .before .before in
+    let t = l .before .before in
+    let g = not-refused _ _ _ _ _ (turn-is (t .before)) (t .if1 .left) refl refl (le-ltb _ _ (l .if2 .left)) in
+    (g .0, octets-put (start (t .before) .args .s .now) _ _ _ _ (c .before .rest .ensures) (c .put-text .ensures .1) (g .1))
 
 pub segment-spec : {M : Type 1} → statement M
 segment-spec =

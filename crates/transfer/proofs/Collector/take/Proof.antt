@@ -1,104 +1,128 @@
-use borrow.Author.Needs.{needs}
+-- A unit of another address, one that says nothing of ours, and each that says something. (t is the place where it was asked what the unit says.)
+use Prim.Native.Nat.{ℕ}
+use Rattle.transfer_unit.specs.Units.{isOther}
+use Rattle.transfer_unit.specs.declared.Told.{Told}
 use Rattle.transfer.proofs.Collector.take.Statement.{statement}
 use Rattle.transfer.proofs.Collector.take.Tie as tie
-use Rattle.transfer.proofs.Collector.take.Reads as reads
-use Rattle.transfer.proofs.Collector.take.Lts as lts
-use Rattle.transfer.proofs.dropped.Reads as dropped-reads
-use Rattle.transfer.proofs.file_ready.Reads as file-ready-reads
-use Rattle.transfer.proofs.is_elsewhere.Reads as is-elsewhere-reads
-use Rattle.transfer.proofs.last_section.Reads as last-section-reads
-use Rattle.transfer.proofs.last_segment.Reads as last-segment-reads
-use Rattle.transfer.proofs.section_ready.Reads as section-ready-reads
-use Rattle.transfer.proofs.segment.Reads as segment-reads
-use Rattle.transfer_unit.proofs.told_by.Reads as told-by-reads
+use Rattle.transfer.proofs.Turns.{foreign-taken, foreign-room, nothing-taken, nothing-room, goes-taken, goes-room, goes-still, file-ready-any, section-ready-any, last-segment-any, last-section-any}
+use Rattle.transfer.specs.Collect.{kept, takenAs, keptAs, takenOf, roomAfter}
+use Rattle.transfer.specs.declared.Collector.{Collector}
+use Rattle.transfer.specs.declared.Taken.{Taken}
+use borrow.Author.Needs.{needs}
+use mathlib.Core.Bool.{false}
+use mathlib.Core.List.{List}
+use mathlib.Core.Path.{_≡_, refl}
 
--- src/lib.rt:280:12
+abbrev self : tie.After-told-by → Collector
+self t = let s = t .before .before .before in s .before .args .self
+
+abbrev unit : tie.After-told-by → List ℕ
+unit t = let s = t .before .before .before in s .before .args .unit .now
+
+abbrev file : tie.After-told-by → List ℕ
+file t = let s = t .before .before .before in s .before .args .file .now
+
+module _ (t : tie.After-told-by) (u : Told) (e : t .told-by .result ≡ u) (some : isOther u ≡ false) where
+  comes-to : {r : Taken} → r ≡ takenAs (self t) (unit t) (file t) u → r ≡ takenOf (self t) (unit t) (file t)
+  comes-to = goes-taken (self t) (unit t) (file t) _ (t .before .before .is-elsewhere .ensures) _ u (t .told-by .ensures) e (t .before .if1 .left) some
+
+  fills : {room : List ℕ} → room ≡ keptAs (self t) (unit t) (file t) u → room ≡ roomAfter (self t) (unit t) (file t)
+  fills = goes-room (self t) (unit t) (file t) _ (t .before .before .is-elsewhere .ensures) _ u (t .told-by .ensures) e (t .before .if1 .left) some
+
+  stands : kept (self t) (unit t) (file t) u ≡ file t → file t ≡ roomAfter (self t) (unit t) (file t)
+  stands = goes-still (self t) (unit t) (file t) _ (t .before .before .is-elsewhere .ensures) _ u (t .told-by .ensures) e (t .before .if1 .left) some
+
 is-elsewhere-requires : tie.Need-is-elsewhere-requires
 is-elsewhere-requires c κs = search needs
 
--- src/lib.rt:281:13
 dropped-requires : tie.Need-dropped-requires
 dropped-requires c κs = search needs
 
--- src/lib.rt:281:13
 returns : tie.Need-returns
-returns c = ?
+returns c =
+    let a = c .before .before in
+    (foreign-taken _ _ _ _ (a .is-elsewhere .ensures) (c .before .if1 .taken) (c .dropped .ensures), foreign-room _ _ _ _ (a .is-elsewhere .ensures) (c .before .if1 .taken))
 
--- src/lib.rt:283:13
 told-by-requires : tie.Need-told-by-requires
 told-by-requires c κs = search needs
 
--- src/lib.rt:285:29
 enum-known-told : tie.Need-enum-known-told
 enum-known-told c = search needs
 
--- src/lib.rt:285:35
 file-ready-requires : tie.Need-file-ready-requires
 file-ready-requires c κs = search needs
 
--- src/lib.rt:286:32
 enum-known-told-2 : tie.Need-enum-known-told-2
 enum-known-told-2 c = search needs
 
--- src/lib.rt:286:41
 section-ready-requires : tie.Need-section-ready-requires
 section-ready-requires c κs = search needs
 
--- src/lib.rt:287:27
 enum-known-told-3 : tie.Need-enum-known-told-3
 enum-known-told-3 c = search needs
 
--- src/lib.rt:287:36
 segment-requires : tie.Need-segment-requires
 segment-requires c κs = search needs
 
--- src/lib.rt:288:31
 enum-known-told-4 : tie.Need-enum-known-told-4
 enum-known-told-4 c = search needs
 
--- src/lib.rt:288:42
 last-segment-requires : tie.Need-last-segment-requires
 last-segment-requires c κs = search needs
 
--- src/lib.rt:289:31
 enum-known-told-5 : tie.Need-enum-known-told-5
 enum-known-told-5 c = search needs
 
--- src/lib.rt:289:42
 last-section-requires : tie.Need-last-section-requires
 last-section-requires c κs = search needs
 
--- src/lib.rt:290:28
 enum-told : tie.Need-enum-told
 enum-told c = search needs
 
--- src/lib.rt:290:28
 dropped-requires-2 : tie.Need-dropped-requires-2
 dropped-requires-2 c κs = search needs
 
--- src/lib.rt:276:5
 returns-2 : tie.Need-returns-2
-returns-2 c = ?
+returns-2 c =
+    let t = c .before .before .before .before in
+    let e = c .before .before .told .given .1 in
+    (comes-to t _ e refl (file-ready-any _ _ _ _ (c .file-ready .ensures)), stands t _ e refl refl)
 
--- src/lib.rt:276:5
 returns-3 : tie.Need-returns-3
-returns-3 c = ?
+returns-3 c =
+    let t = c .before .before .before .before in
+    let e = c .before .before .told2 .given .1 in
+    (comes-to t _ e refl (section-ready-any _ _ _ _ _ (c .section-ready .ensures)), stands t _ e refl refl)
 
--- src/lib.rt:276:5
 returns-4 : tie.Need-returns-4
-returns-4 c = ?
+returns-4 c =
+    let t = c .before .before .before in
+    let e = t .told3 .given .1 in
+    let b = t .before .before in
+    (comes-to b _ e refl (c .segment .ensures .0), fills b _ e refl (c .segment .ensures .1))
 
--- src/lib.rt:276:5
 returns-5 : tie.Need-returns-5
-returns-5 c = ?
+returns-5 c =
+    let t = c .before .before .before .before in
+    let e = t .told4 .given .1 in
+    let b = t .before .before in
+    (comes-to b _ e refl (last-segment-any _ _ _ _ _ (c .last-segment .ensures)), stands b _ e refl refl)
 
--- src/lib.rt:276:5
 returns-6 : tie.Need-returns-6
-returns-6 c = ?
+returns-6 c =
+    let t = c .before .before .before .before in
+    let e = t .told5 .given .1 in
+    let b = t .before .before in
+    (comes-to b _ e refl (last-section-any _ _ _ _ _ (c .last-section .ensures)), stands b _ e refl refl)
 
--- src/lib.rt:276:5
 returns-7 : tie.Need-returns-7
-returns-7 c = ?
+returns-7 c =
+    let t = c .before .before .before in
+    let a = t .before .before in
+    let e = c .before .enum-told .given .1 in (
+      nothing-taken _ _ _ _ (a .is-elsewhere .ensures) _ _ (t .told-by .ensures) e refl (c .dropped2 .ensures),
+      nothing-room _ _ _ _ (a .is-elsewhere .ensures) _ _ (t .told-by .ensures) e refl,
+    )
 
 pub take-spec : {M : Type 1} → statement M
 take-spec =

@@ -1,19 +1,18 @@
+-- The two numbers, and every other.
 use Rattle.transfer.proofs.state.turn_in.Statement.{statement}
 use Rattle.transfer.proofs.state.turn_in.Tie as tie
-use Rattle.transfer.proofs.state.turn_in.Reads as reads
-use Rattle.transfer.proofs.state.turn_in.Lts as lts
+use Rattle.transfer.specs.States.{turnIn}
+use borrow.Author.Tests.{ne-eqb}
+use mathlib.Core.Path.{sym, ap}
 
--- src/state.rt:8:1
 returns : tie.Need-returns
-returns c = ?
+returns c = ap turnIn (sym (c .match .keys1))
 
--- src/state.rt:8:1
 returns-2 : tie.Need-returns-2
-returns-2 c = ?
+returns-2 c = ap turnIn (sym (c .match .keys2))
 
--- src/state.rt:8:1
 returns-3 : tie.Need-returns-3
-returns-3 c = ?
+returns-3 c = rw (ne-eqb _ _ (c .match .rest .0 .1), ne-eqb _ _ (c .match .rest .1))
 
 pub turn-in-spec : {M : Type 1} → statement M
 turn-in-spec = tie.close (tie.spec returns returns-2 returns-3)
