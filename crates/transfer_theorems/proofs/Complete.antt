@@ -18,7 +18,7 @@ use Rattle.transfer_unit.specs.declared.Told.the-variants.{FileReady, SectionRe
 use borrow.Author.Tests.{eq-eqb, lt-ltb, le-ltb}
 use lib.ListN.{length, take, length-append}
 use lib.Seq.{sets, length-sets}
-use mathlib.Core.Bool.{Bool, true, false, not, _&&_}
+use mathlib.Core.Bool.{Bool, true, false, not, _&&_, _||_}
 use mathlib.Core.List.{List, [], _∷_, _++_, map, append-assoc, append-nil}
 use mathlib.Core.Path.{_≡_, refl, sym, ap, ap₂, _∙_, subst}
 use native.Mathlib.Omega.{arith}
@@ -70,7 +70,7 @@ module _ (c : Collector) (room s : List ℕ) (u : Told) (told : toldBy s ≡ u) 
   unrefused : inTurn c u ≡ true → summed c room u ≡ true → met c u ≡ true → tooLong c u ≡ false → NoneHolds (refusalsOf c s room)
   unrefused t k m l =
       rw told
-      (next (rw (known, home)) (next (rw t) (next (rw k) (next (rw m) (next l none)))))
+      (next (ap₂ _||_ known home) (next (ap not t) (next (ap not k) (next (ap not m) (next l none)))))
 
   steps : (h : Heard) → inTurn c u ≡ true → summed c room u ≡ true → met c u ≡ true → tooLong c u ≡ false
       → stepOf (record { collector = c; room = room; heard = h }) s ≡ runOf (taken (heardOf c u) (onward c s u)) (kept c s room u)
@@ -103,7 +103,7 @@ module _ (ca ioa a : ℕ) where
       let z : b + 0 ≡ b = omega arith in
       rw z
       (record { room = room; leads = record { after = refl; said = refl }; held = held ∙ sym (append-nil x); long = long })
-  segments-fill e b d (one-more {us} {y} {s} {n} segments says) h room x long held =
+  segments-fill e b d (one-more {us = us} {x = y} {n = n} s segments says) h room x long held =
       let w = octetsOf s in
       let m : length w ≡ n = segment-octets s (suc e) n (says .0) in
       let k = length-append y w in
@@ -112,7 +112,7 @@ module _ (ca ioa a : ℕ) where
       let g : b + length y + n ≤ 8192 = omega (arith, h, k, m) in
       let i : suc e ≡ e + 1 = omega arith in
       let t = steps c (f .room) s (Segment (suc e) n) (says .0) refl (at-home c s (says .1) (says .2)) More (eq-eqb (suc e) (e + 1) i) refl refl
-      (le-ltb (b + length y + n) 8192 g) in
+      (le-ltb 8192 (b + length y + n) g) in
       let q : b + length y + n ≡ b + length (y ++ w) = omega (arith, k, m) in
       let o = sets (f .room) (b + length y) w in
       let r : take (b + length y + length w) o ≡ x ++ (y ++ w) =
@@ -129,7 +129,7 @@ module _ (ca ioa a : ℕ) where
       → Filled (startOf (paused 0 0) room) us (paused j (length x)) x
   unfolding afterAll answers
   sections-fill no-section h room long = record { room = room; leads = record { after = refl; said = refl }; held = refl; long = long }
-  sections-fill (section {j} {us} {vs} {ready} {last} {x} {y} sections is-ready segments some is-last) h room long =
+  sections-fill (section {j = j} {us = us} {vs = vs} {x = x} {y = y} ready last sections is-ready segments some is-last) h room long =
       let k = length-append x y in
       let n = length x in
       let m = length y in
@@ -137,14 +137,14 @@ module _ (ca ioa a : ℕ) where
       let c = paused j n in
       let i : suc j ≡ j + 1 = omega arith in
       let s = steps c (f .room) ready (SectionReady (suc j) m) (is-ready .0) refl (at-home c ready (is-ready .1) (is-ready .2)) More
-      (eq-eqb (suc j) (j + 1) i) refl refl (le-ltb m 8192 (omega (arith, h, k))) in
+      (eq-eqb (suc j) (j + 1) i) refl refl (le-ltb 8192 m (omega (arith, h, k))) in
       let g = segments-fill j n m segments (omega (arith, h, k)) (f .room) x (f .long) (f .held) in
       let d = opened j n m (n + m) in
       let p : checksum y ≡ checksum (part n (n + m) (g .room)) = ap checksum (sym (part-more (g .room) x y n (n + m) refl refl (g .held))) in
       let o : n + m - n ≡ m = omega arith in
       let turn : inTurn d (LastSegment (suc j) (checksum y)) ≡ true = rw (eq-eqb (suc j) (j + 1) i, lt-ltb n (n + m) (omega (arith, some))) in
       let t = steps d (g .room) last (LastSegment (suc j) (checksum y)) (is-last .0) refl (at-home d last (is-last .1) (is-last .2)) More
-      turn (eq-eqb (checksum y) (checksum (part n (n + m) (g .room))) p) (eq-eqb (n + m - n) m o) (le-ltb (n + m) 8192 (omega (arith, h, k))) in
+      turn (eq-eqb (checksum y) (checksum (part n (n + m) (g .room))) p) (eq-eqb (n + m - n) m o) (le-ltb 8192 (n + m) (omega (arith, h, k))) in
       let e : paused (j + 1) (n + m) ≡ paused (suc j) (length (x ++ y)) = ap₂ paused (sym i) (sym k) in
       let q : n + m ≡ length (x ++ y) = sym k in
       record {
@@ -159,47 +159,52 @@ module _ (ca ioa a : ℕ) where
 -- sections have an octet
 sections-some : {ca ioa j : ℕ} {us : List (List ℕ)} {x : List ℕ} → Sections ca ioa j us x → 1 ≤ j → 1 ≤ length x
 sections-some no-section h = h
-sections-some (section {x = x} {y = y} sections is-ready segments some is-last) h = omega (arith, some, length-append x y)
+sections-some (section {x = x} {y = y} ready last sections is-ready segments some is-last) h = omega (arith, some, length-append x y)
 
-pub transfer-taken : (room : List ℕ) (us : List (List ℕ)) (ca ioa : ℕ) (octets : List ℕ) → length room ≡ 8192 → (t : Transfer ca ioa us octets)
-    → TakenWhole room ca ioa us octets t
-unfolding afterAll answers
-transfer-taken room us ca ioa octets long t =
-    record {
-      said = ap (answers x) (t .cut) ∙ answers-append x (t .ready ∷ t .middle) (t .last ∷ [])
-          ∙ ap₂ _++_ (begun .said) (ap (λ (r : Run). answers r (t .last ∷ [])) (begun .after) ∙ ap (λ (r : Run). r .heard ∷ []) ends);
-      held = ap (λ (l : List (List ℕ)). take n (afterAll x l .room)) (t .cut)
-          ∙ ap (λ (r : Run). take n (r .room)) (after-append x (t .ready ∷ t .middle) (t .last ∷ []))
-          ∙ ap (λ (r : Run). take n (afterAll r (t .last ∷ []) .room)) (begun .after)
-          ∙ ap (λ (r : Run). take n (r .room)) ends
-          ∙ f .held;
-    }
-  where
-    n = length octets
-    x = startOf fresh room
-    c = paused ca ioa n (t .sections) n
+module _ (room : List ℕ) (us : List (List ℕ)) (ca ioa : ℕ) (octets : List ℕ) (long : length room ≡ 8192) (t : Transfer ca ioa us octets) where
+  abbrev n : ℕ
+  n = length octets
 
-    opens : stepOf x (t .ready) ≡ startOf (paused ca ioa n 0 0) room
-    opens =
-        steps fresh room (t .ready) (FileReady n) (t .is-ready .0) refl refl More refl refl refl (le-ltb n 8192 (t .not-long))
-        ∙ rw (t .is-ready .1, t .is-ready .2)
+  abbrev x : Run
+  x = startOf fresh room
 
-    f : Filled (startOf (paused ca ioa n 0 0) room) (t .middle) c octets
-    f = sections-fill ca ioa n (t .are-sections) (t .not-long) room long
+  abbrev c : Collector
+  c = paused ca ioa n (t .sections) n
 
-    begun : Leads x (t .ready ∷ t .middle) (startOf c (f .room))
-    begun = leads-on (t .ready ∷ []) (t .middle) (single (t .ready) opens refl) (f .leads)
+  opens : stepOf x (t .ready) ≡ startOf (paused ca ioa n 0 0) room
+  opens =
+      steps fresh room (t .ready) (FileReady n) (t .is-ready .0) refl refl More refl refl refl (le-ltb 8192 n (t .not-long))
+      ∙ rw (t .is-ready .1, t .is-ready .2)
 
-    some-octet : 1 ≤ n
-    some-octet = sections-some (t .are-sections) (t .some)
+  f : Filled (startOf (paused ca ioa n 0 0) room) (t .middle) c octets
+  f = sections-fill ca ioa n (t .are-sections) (t .not-long) room long
 
-    turn : inTurn c (LastSection (t .sections) (checksum octets)) ≡ true
-    turn = rw (eq-eqb (t .sections) (t .sections) refl, lt-ltb 0 (t .sections) (t .some), lt-ltb 0 n some-octet)
+  begun : Leads x (t .ready ∷ t .middle) (startOf c (f .room))
+  begun = leads-on (t .ready ∷ []) (t .middle) (single (t .ready) opens refl) (f .leads)
 
-    sums : checksum octets ≡ checksum (take n (f .room))
-    sums = ap checksum (sym (f .held))
+  some-octet : 1 ≤ n
+  some-octet = sections-some (t .are-sections) (t .some)
 
-    ends : stepOf (startOf c (f .room)) (t .last) ≡ runOf (taken (Whole ca ioa n) fresh) (f .room)
-    ends =
-        steps c (f .room) (t .last) (LastSection (t .sections) (checksum octets)) (t .is-last .0) refl (at-home c (t .last) (t .is-last .1) (t .is-last .2)) More
-        turn (eq-eqb (checksum octets) (checksum (take n (f .room))) sums) (eq-eqb n n refl) (le-ltb n 8192 (t .not-long))
+  turn : inTurn c (LastSection (t .sections) (checksum octets)) ≡ true
+  turn = rw (eq-eqb (t .sections) (t .sections) refl, lt-ltb 0 (t .sections) (t .some), lt-ltb 0 n some-octet)
+
+  sums : checksum octets ≡ checksum (take n (f .room))
+  sums = ap checksum (sym (f .held))
+
+  ends : stepOf (startOf c (f .room)) (t .last) ≡ runOf (taken (Whole ca ioa n) fresh) (f .room)
+  ends =
+      steps c (f .room) (t .last) (LastSection (t .sections) (checksum octets)) (t .is-last .0) refl (at-home c (t .last) (t .is-last .1) (t .is-last .2)) More
+      turn (eq-eqb (checksum octets) (checksum (take n (f .room))) sums) (eq-eqb n n refl) (le-ltb 8192 n (t .not-long))
+
+  pub transfer-taken : TakenWhole room ca ioa us octets t
+  unfolding afterAll answers
+  transfer-taken =
+      record {
+        said = ap (answers x) (t .cut) ∙ answers-append x (t .ready ∷ t .middle) (t .last ∷ [])
+            ∙ ap₂ _++_ (begun .said) (ap (λ (r : Run). answers r (t .last ∷ [])) (begun .after) ∙ ap (λ (r : Run). r .heard ∷ []) ends);
+        held = ap (λ (l : List (List ℕ)). take n (afterAll x l .room)) (t .cut)
+            ∙ ap (λ (r : Run). take n (r .room)) (after-append x (t .ready ∷ t .middle) (t .last ∷ []))
+            ∙ ap (λ (r : Run). take n (afterAll r (t .last ∷ []) .room)) (begun .after)
+            ∙ ap (λ (r : Run). take n (r .room)) ends
+            ∙ f .held;
+      }

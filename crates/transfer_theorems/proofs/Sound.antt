@@ -23,6 +23,7 @@ use lib.Seq.{sets, length-sets, take-nil, drop-append-seam}
 use mathlib.Core.Bool.{Bool, true, false, not, _&&_, _||_, false≢true}
 use mathlib.Core.List.{List, [], _∷_, _++_, append-assoc, append-nil}
 use mathlib.Core.Path.{_≡_, refl, sym, ap, ap₂, _∙_, subst}
+use native.Mathlib.Numerals.{add-one}
 use native.Mathlib.Omega.{arith}
 
 -- ---- what a collector says of the units since the file ready
@@ -142,7 +143,7 @@ module _ (c : Collector) (room s : List ℕ) (us : List (List ℕ)) (long : leng
         cut = ap (λ (l : List (List ℕ)). l ++ (s ∷ [])) (b .cut);
         is-ready = b .is-ready;
         sections = b .sections;
-        is-opening = (e ∙ ap (λ (k : ℕ). SectionReady k d) q, a);
+        is-opening = (e ∙ ap (λ (k : ℕ). SectionReady k d) q, a .0, a .1);
         are-segments = none-yet;
         started = b .counted;
         counted = omega (arith, b .counted);
@@ -167,7 +168,7 @@ module _ (c : Collector) (room s : List ℕ) (us : List (List ℕ)) (long : leng
         is-ready = b .is-ready;
         sections = b .sections;
         is-opening = b .is-opening;
-        are-segments = one-more (b .are-segments) (e ∙ ap (λ (k : ℕ). Segment k n) q, a);
+        are-segments = one-more s (b .are-segments) (e ∙ ap (λ (k : ℕ). Segment k n) q, a .0, a .1);
         started = b .started;
         counted = omega (arith, b .counted, length-append (b .more) x, m);
         held = ap (λ (k : ℕ). take (c .count + k) (sets room (c .count) x)) (sym m)
@@ -185,7 +186,7 @@ module _ (c : Collector) (room s : List ℕ) (us : List (List ℕ)) (long : leng
       let d : c .due ≡ length y = omega (arith, len, b .started, b .counted) in
       let says = e ∙ ap₂ LastSegment q (sum ∙ ap checksum p) in
       let opens = b .is-opening .0 ∙ ap (SectionReady (suc (c .ended))) d in
-      let w = section (b .sections) (opens, b .is-opening .1) (b .are-segments) (omega (arith, o, b .started, b .counted)) (says, a) in
+      let w = section (b .opening) s (b .sections) (opens, b .is-opening .1, b .is-opening .2) (b .are-segments) (omega (arith, o, b .started, b .counted)) (says, a .0, a .1) in
       record {
         ready = b .ready;
         middle = b .middle ++ (b .opening ∷ (b .segments ++ (s ∷ [])));
@@ -193,7 +194,7 @@ module _ (c : Collector) (room s : List ℕ) (us : List (List ℕ)) (long : leng
         cut = ap (λ (l : List (List ℕ)). l ++ (s ∷ [])) (b .cut)
             ∙ ap (λ (l : List (List ℕ)). b .ready ∷ l) (append-assoc (b .middle) (b .opening ∷ b .segments) (s ∷ []));
         is-ready = b .is-ready;
-        sections = subst (λ (j : ℕ). Sections (c .ca) (c .ioa) j _ _) (omega arith) w;
+        sections = rw (add-one (c .ended)) w;
         counted = omega (arith, b .counted, length-append (b .octets) y);
         held = b .held;
         few = b .few;
@@ -209,10 +210,10 @@ module _ (c : Collector) (room s : List ℕ) (us : List (List ℕ)) (long : leng
         last = s;
         sections = c .ended;
         cut = ap (λ (l : List (List ℕ)). l ++ (s ∷ [])) (b .cut);
-        is-ready = (b .is-ready .0 ∙ ap FileReady (sym n), b .is-ready .1);
+        is-ready = (b .is-ready .0 ∙ ap FileReady (sym n), b .is-ready .1, b .is-ready .2);
         are-sections = subst (Sections (c .ca) (c .ioa) (c .ended) (b .middle)) (sym (b .held)) (b .sections);
         some = o;
-        is-last = (e ∙ ap₂ LastSection q sum, a);
+        is-last = (e ∙ ap₂ LastSection q sum, a .0, a .1);
         not-long = omega (arith, b .few, n, len);
       }
 
@@ -265,10 +266,10 @@ module _ (x : Run) (all : List (List ℕ)) (h : Since x all) (s : List ℕ) wher
       }
   since-went (LastSegment i k) e w =
       let c = x .collector in
-      let p = and-parts (isWithin (c .turn)) (eqb i (c .ended + 1) && ltb (c .start) (c .count)) (w .in-turn) in
-      let r = and-parts (eqb i (c .ended + 1)) (ltb (c .start) (c .count)) (p .1) in
+      let r = and-parts (isWithin (c .turn) && eqb i (c .ended + 1)) (ltb (c .start) (c .count)) (w .in-turn) in
+      let p = and-parts (isWithin (c .turn)) (eqb i (c .ended + 1)) (r .0) in
       let b = opened (c .turn) (p .0) (h .standing) in
-      let q : i ≡ suc (c .ended) = omega (arith, eqb-true i (c .ended + 1) (r .0)) in
+      let q : i ≡ suc (c .ended) = omega (arith, eqb-true i (c .ended + 1) (p .1)) in
       record {
         before = h .before;
         units = h .units ++ (s ∷ []);
@@ -281,11 +282,11 @@ module _ (x : Run) (all : List (List ℕ)) (h : Since x all) (s : List ℕ) wher
       }
   since-went (LastSection i k) e w =
       let c = x .collector in
-      let p = and-parts (isBetween (c .turn)) (eqb i (c .ended) && (ltb 0 (c .ended) && ltb 0 (c .count))) (w .in-turn) in
-      let r = and-parts (eqb i (c .ended)) (ltb 0 (c .ended) && ltb 0 (c .count)) (p .1) in
-      let o = and-parts (ltb 0 (c .ended)) (ltb 0 (c .count)) (r .1) in
+      let o = and-parts (isBetween (c .turn) && eqb i (c .ended) && ltb 0 (c .ended)) (ltb 0 (c .count)) (w .in-turn) in
+      let r = and-parts (isBetween (c .turn) && eqb i (c .ended)) (ltb 0 (c .ended)) (o .0) in
+      let p = and-parts (isBetween (c .turn)) (eqb i (c .ended)) (r .0) in
       let b = paused (c .turn) (p .0) (h .standing) in
-      let f = last-section c (x .room) s (h .units) (h .long) i k e (eqb-true i (c .ended) (r .0)) (ltb-true 0 (c .ended) (o .0))
+      let f = last-section c (x .room) s (h .units) (h .long) i k e (eqb-true i (c .ended) (p .1)) (ltb-true 0 (c .ended) (r .1))
       (eqb-true k (checksum (take (c .count) (x .room))) (w .is-summed)) (eqb-true (c .count) (c .announced) (w .is-met)) (its-address c s (b .1) (w .known)) (b .0) in
       record {
         before = all ++ (s ∷ []);

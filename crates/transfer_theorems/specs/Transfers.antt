@@ -54,13 +54,13 @@ Says ca ioa s u = (toldBy s ≡ u) × (caOf s ≡ ca) × (ioaOf s ≡ ioa)
 -- segments of the section i, and their octets joined
 pub data Segments (ca ioa i : ℕ) : List (List ℕ) → List ℕ → Type 0 where
   none-yet : Segments ca ioa i [] []
-  one-more : {us : List (List ℕ)} {x s : List ℕ} {n : ℕ} → Segments ca ioa i us x → Says ca ioa s (Segment i n)
+  one-more : {us : List (List ℕ)} {x : List ℕ} {n : ℕ} (s : List ℕ) → Segments ca ioa i us x → Says ca ioa s (Segment i n)
       → Segments ca ioa i (us ++ (s ∷ [])) (x ++ octetsOf s)
 
 -- the sections 1 to j: each announced with its length, of one octet or more, and ended with its checksum
 pub data Sections (ca ioa : ℕ) : ℕ → List (List ℕ) → List ℕ → Type 0 where
   no-section : Sections ca ioa 0 [] []
-  section : {j : ℕ} {us vs : List (List ℕ)} {ready last x y : List ℕ} → Sections ca ioa j us x
+  section : {j : ℕ} {us vs : List (List ℕ)} {x y : List ℕ} (ready last : List ℕ) → Sections ca ioa j us x
       → Says ca ioa ready (SectionReady (suc j) (length y)) → Segments ca ioa (suc j) vs y → 1 ≤ length y
       → Says ca ioa last (LastSegment (suc j) (checksum y)) → Sections ca ioa (suc j) (us ++ (ready ∷ (vs ++ (last ∷ [])))) (x ++ y)
 
