@@ -1,22 +1,22 @@
 -- What a unit comes to: it is refused, or nothing of the list holds and it goes by what it says. So whatever is not `More` leaves the collector as fresh, and
 -- a whole file has 1 to 8,192 octets, for every collector. Assumes nothing.
-use Prim.Native.Nat.{ℕ, _+_, _≤_}
+use Prim.Native.Nat.{ℕ, _≤_}
 use Rattle.text.proofs.Firsts.{Decided, first, not-any, decided, first-given, none-given}
 use Rattle.text.proofs.Tests.{and-parts}
 use Rattle.text.specs.Refusals.{NoneHolds, next}
-use Rattle.transfer.specs.Collect.{isMore, isBetween, fresh, elsewhere, inTurn, summed, met, tooLong, refusalsOf, onward, heardOf, kept, taken, dropped, takenOf, roomAfter}
+use Rattle.transfer.specs.Collect.{isMore, isBetween, fresh, elsewhere, inTurn, summed, met, tooLong}
+use Rattle.transfer.specs.Collect.{refusalsOf, onward, heardOf, kept, taken, dropped, takenOf, roomAfter}
 use Rattle.transfer.specs.declared.Collector.{Collector}
-use Rattle.transfer.specs.declared.Heard.{Heard}
-use Rattle.transfer.specs.declared.Heard.the-variants.{More, Whole, Refused}
+use Rattle.transfer.specs.declared.Heard.the-variants.{Whole, Refused}
 use Rattle.transfer.specs.declared.Taken.{Taken}
 use Rattle.transfer_unit.specs.Units.{toldBy, isOther}
 use Rattle.transfer_unit.specs.declared.Told.{Told}
 use Rattle.transfer_unit.specs.declared.Told.the-variants.{FileReady, SectionReady, Segment, LastSegment, LastSection, Other}
 use borrow.Author.Tests.{ltb-true, ltb-false, not-false}
 use lib.Dec.{eqb, ltb}
-use mathlib.Core.Bool.{Bool, true, false, not, _&&_, _||_, false≢true}
+use mathlib.Core.Bool.{true, false, _&&_, _||_, false≢true}
 use mathlib.Core.List.{List}
-use mathlib.Core.Path.{_≡_, refl, sym, ap, _∙_, subst}
+use mathlib.Core.Path.{_≡_, refl, sym, ap, _∙_}
 use native.Mathlib.Omega.{arith}
 
 -- nothing of the list holds of a unit s that says u

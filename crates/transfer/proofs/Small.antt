@@ -1,5 +1,5 @@
 -- What a host in C keeps is the collector: each that a run from a fresh one gives has room in 16 bytes, and comes back from them. Assumes nothing.
-use Prim.Native.Nat.{ℕ, _+_, _*_, _/_, _%_, _≤_, _<_}
+use Prim.Native.Nat.{ℕ, _+_, _*_, _<_}
 use Rattle.text.proofs.Tests.{and-parts}
 use Rattle.transfer.proofs.Comes.{Went, Comes, refused, went, comes}
 use Rattle.transfer.specs.Collect.{isWithin, fresh, onward, takenOf}
@@ -14,7 +14,7 @@ use Rattle.transfer_unit.specs.declared.Told.{Told}
 use Rattle.transfer_unit.specs.declared.Told.the-variants.{FileReady, SectionReady, Segment, LastSegment, LastSection, Other}
 use borrow.Author.Tests.{eqb-true, ltb-false}
 use lib.Dec.{eqb, ltb}
-use mathlib.Core.Bool.{Bool, true, false, _&&_}
+use mathlib.Core.Bool.{_&&_}
 use mathlib.Core.List.{List}
 use mathlib.Core.Path.{_≡_, refl, sym, ap, subst}
 use native.Mathlib.Omega.{arith}

@@ -3,8 +3,9 @@ use Prim.Native.Nat.{ℕ, _+_, _-_, _<_}
 use Rattle.text.proofs.Firsts.{first-given, none-given}
 use Rattle.text.proofs.Tests.{by-test, and-parts}
 use Rattle.text.specs.Bytes.{part}
-use Rattle.text.specs.Refusals.{Refusal, refusal, firstHolding, First, here, later, NoneHolds, none, next}
-use Rattle.transfer.specs.Collect.{isWithin, fresh, checksum, elsewhere, inTurn, summed, met, tooLong, refusalsAs, onward, heardOf, kept, taken, dropped, takenAs, keptAs, takenOf, roomAfter}
+use Rattle.text.specs.Refusals.{Refusal, firstHolding, First, here, later, NoneHolds, none, next}
+use Rattle.transfer.specs.Collect.{isWithin, fresh, checksum, elsewhere, inTurn, summed, met, tooLong, refusalsAs}
+use Rattle.transfer.specs.Collect.{onward, heardOf, kept, taken, dropped, takenAs, keptAs, takenOf, roomAfter}
 use Rattle.transfer.specs.declared.Collector.{Collector}
 use Rattle.transfer.specs.declared.Heard.{Heard}
 use Rattle.transfer.specs.declared.Heard.the-variants.{More}
@@ -112,39 +113,30 @@ same-room file [] = refl
 same-room file (x ∷ rs) = by-test (x .holds) (λ e. rw e) (λ e. rw e (same-room file rs))
 
 module _ (c : Collector) (s file : List ℕ) (e : Bool) (other-address : e ≡ elsewhere c s) where
-  pub foreign-taken : e ≡ true → {r : Taken} → r ≡ dropped 44 0 → r ≡ takenOf c s file
-  unfolding takenOf
-  foreign-taken h q = q ∙ rw (← other-address, h, or-true (isOther (toldBy s)))
+  abbrev Answered : Taken → List ℕ → Type 0
+  Answered r room = (r ≡ takenOf c s file) × (room ≡ roomAfter c s file)
 
-  pub foreign-room : e ≡ true → file ≡ roomAfter c s file
-  unfolding roomAfter
-  foreign-room h = rw (← other-address, h, or-true (isOther (toldBy s)))
+  pub of-another : e ≡ true → {r : Taken} → r ≡ dropped 44 0 → Answered r file
+  unfolding takenOf roomAfter
+  of-another h q = (q ∙ rw (← other-address, h, or-true (isOther (toldBy s))), rw (← other-address, h, or-true (isOther (toldBy s))))
 
   module _ (t u : Told) (told : t ≡ toldBy s) (is : t ≡ u) where
     says : toldBy s ≡ u
     says = sym told ∙ is
 
-    pub nothing-taken : u ≡ Other → {r : Taken} → r ≡ dropped 44 0 → r ≡ takenOf c s file
-    unfolding takenOf
-    nothing-taken o q = q ∙ rw (says, o)
+    pub of-none : u ≡ Other → {r : Taken} → r ≡ dropped 44 0 → Answered r file
+    unfolding takenOf roomAfter
+    of-none o q = (q ∙ rw (says, o), rw (says, o))
 
-    pub nothing-room : u ≡ Other → file ≡ roomAfter c s file
-    unfolding roomAfter
-    nothing-room o = rw (says, o)
+    module _ (its-own : e ≡ false) (some : isOther u ≡ false) where
+      pub goes : {r : Taken} {room : List ℕ} → r ≡ takenAs c s file u → room ≡ keptAs c s file u → Answered r room
+      unfolding takenOf takenAs roomAfter keptAs
+      goes q k = (q ∙ rw (says, some, ← other-address, its-own), k ∙ rw (says, some, ← other-address, its-own))
 
-    module _ (here-too : e ≡ false) (some : isOther u ≡ false) where
-      pub goes-taken : {r : Taken} → r ≡ takenAs c s file u → r ≡ takenOf c s file
-      unfolding takenOf takenAs
-      goes-taken q = q ∙ rw (says, some, ← other-address, here-too)
-
-      pub goes-room : {room : List ℕ} → room ≡ keptAs c s file u → room ≡ roomAfter c s file
-      unfolding roomAfter keptAs
-      goes-room q = q ∙ rw (says, some, ← other-address, here-too)
-
-      -- a unit that brings no octets
-      pub goes-still : kept c s file u ≡ file → file ≡ roomAfter c s file
+      -- where it brings no octets
+      pub goes-still : {r : Taken} → kept c s file u ≡ file → r ≡ takenAs c s file u → Answered r file
       unfolding keptAs
-      goes-still k = goes-room (rw k (same-room file (refusalsAs c file u)))
+      goes-still k q = goes q (rw k (same-room file (refusalsAs c file u)))
 
 -- what is answered to a unit without octets, or that sums none, is answered whatever the room holds
 

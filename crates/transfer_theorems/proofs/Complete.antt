@@ -4,13 +4,15 @@ use Rattle.text.proofs.Firsts.{none-given}
 use Rattle.text.specs.Bytes.{part}
 use Rattle.text.specs.Refusals.{NoneHolds, none, next}
 use Rattle.transfer.proofs.Rooms.{filled}
-use Rattle.transfer.specs.Collect.{isFresh, fresh, checksum, elsewhere, inTurn, summed, met, tooLong, refusalsOf, onward, heardOf, kept, taken, dropped, takenOf, roomAfter}
+use Rattle.transfer.specs.Collect.{isFresh, fresh, checksum, elsewhere, inTurn, summed, met, tooLong}
+use Rattle.transfer.specs.Collect.{refusalsOf, onward, heardOf, kept, taken, dropped, takenOf, roomAfter}
 use Rattle.transfer.specs.declared.Collector.{Collector}
 use Rattle.transfer.specs.declared.Heard.{Heard}
 use Rattle.transfer.specs.declared.Heard.the-variants.{More, Whole}
 use Rattle.transfer.specs.declared.Turn.the-variants.{Between, Within}
 use Rattle.transfer_theorems.proofs.Sound.{part-more}
-use Rattle.transfer_theorems.specs.Transfers.{Run, startOf, runOf, stepOf, afterAll, answers, Says, Segments, none-yet, one-more, Sections, no-section, section, Transfer, TakenWhole}
+use Rattle.transfer_theorems.specs.Transfers.{Run, startOf, runOf, stepOf, afterAll, answers, Segments}
+use Rattle.transfer_theorems.specs.Transfers.{none-yet, one-more, Sections, no-section, section, Transfer, TakenWhole}
 use Rattle.transfer_unit.proofs.Layouts.{segment-octets}
 use Rattle.transfer_unit.specs.Units.{caOf, ioaOf, toldBy, isOther, octetsOf}
 use Rattle.transfer_unit.specs.declared.Told.{Told}
@@ -20,7 +22,7 @@ use lib.ListN.{length, take, length-append}
 use lib.Seq.{sets, length-sets}
 use mathlib.Core.Bool.{Bool, true, false, not, _&&_, _||_}
 use mathlib.Core.List.{List, [], _∷_, _++_, map, append-assoc, append-nil}
-use mathlib.Core.Path.{_≡_, refl, sym, ap, ap₂, _∙_, subst}
+use mathlib.Core.Path.{_≡_, refl, sym, ap, ap₂, _∙_}
 use native.Mathlib.Omega.{arith}
 
 -- ---- units that are all taken, and lead from a run to another

@@ -4,23 +4,22 @@ use Rattle.text.proofs.Tests.{and-parts}
 use Rattle.text.specs.Bytes.{part}
 use Rattle.transfer.proofs.Comes.{Went, Comes, refused, went, comes}
 use Rattle.transfer.proofs.Rooms.{filled}
-use Rattle.transfer.specs.Collect.{isFresh, isBetween, isWithin, fresh, checksum, elsewhere, inTurn, summed, met, tooLong, refusalsOf, onward, heardOf, kept, taken, dropped, takenOf, roomAfter}
+use Rattle.transfer.specs.Collect.{isFresh, isBetween, isWithin, fresh, checksum, elsewhere, onward, heardOf, kept}
 use Rattle.transfer.specs.declared.Collector.{Collector}
-use Rattle.transfer.specs.declared.Heard.{Heard}
 use Rattle.transfer.specs.declared.Heard.the-variants.{More, Whole, Refused}
-use Rattle.transfer.specs.declared.Taken.{Taken}
 use Rattle.transfer.specs.declared.Turn.{Turn}
 use Rattle.transfer.specs.declared.Turn.the-variants.{Fresh, Between, Within}
-use Rattle.transfer_theorems.specs.Transfers.{Run, startOf, runOf, stepOf, afterAll, Says, Segments, none-yet, one-more, Sections, no-section, section, Transfer, WholeOf}
+use Rattle.transfer_theorems.specs.Transfers.{Run, startOf, runOf, stepOf, afterAll, Says, Segments}
+use Rattle.transfer_theorems.specs.Transfers.{none-yet, one-more, Sections, no-section, section, Transfer, WholeOf}
 use Rattle.transfer_unit.proofs.Layouts.{segment-octets}
-use Rattle.transfer_unit.specs.Units.{caOf, ioaOf, toldBy, isOther, octetsOf}
+use Rattle.transfer_unit.specs.Units.{caOf, ioaOf, toldBy, octetsOf}
 use Rattle.transfer_unit.specs.declared.Told.{Told}
 use Rattle.transfer_unit.specs.declared.Told.the-variants.{FileReady, SectionReady, Segment, LastSegment, LastSection, Other}
 use borrow.Author.Tests.{eqb-true, ltb-true, ltb-false}
 use lib.Dec.{eqb, ltb}
-use lib.ListN.{length, take, drop, length-append, length-take}
+use lib.ListN.{length, take, drop, length-append}
 use lib.Seq.{sets, length-sets, take-nil, drop-append-seam}
-use mathlib.Core.Bool.{Bool, true, false, not, _&&_, _||_, false≢true}
+use mathlib.Core.Bool.{Bool, true, false, not, _&&_, false≢true}
 use mathlib.Core.List.{List, [], _∷_, _++_, append-assoc, append-nil}
 use mathlib.Core.Path.{_≡_, refl, sym, ap, ap₂, _∙_, subst}
 use native.Mathlib.Numerals.{add-one}
@@ -186,7 +185,8 @@ module _ (c : Collector) (room s : List ℕ) (us : List (List ℕ)) (long : leng
       let d : c .due ≡ length y = omega (arith, len, b .started, b .counted) in
       let says = e ∙ ap₂ LastSegment q (sum ∙ ap checksum p) in
       let opens = b .is-opening .0 ∙ ap (SectionReady (suc (c .ended))) d in
-      let w = section (b .opening) s (b .sections) (opens, b .is-opening .1, b .is-opening .2) (b .are-segments) (omega (arith, o, b .started, b .counted)) (says, a .0, a .1) in
+      let some : 1 ≤ length y = omega (arith, o, b .started, b .counted) in
+      let w = section (b .opening) s (b .sections) (opens, b .is-opening .1, b .is-opening .2) (b .are-segments) some (says, a .0, a .1) in
       record {
         ready = b .ready;
         middle = b .middle ++ (b .opening ∷ (b .segments ++ (s ∷ [])));
@@ -287,7 +287,8 @@ module _ (x : Run) (all : List (List ℕ)) (h : Since x all) (s : List ℕ) wher
       let p = and-parts (isBetween (c .turn)) (eqb i (c .ended)) (r .0) in
       let b = paused (c .turn) (p .0) (h .standing) in
       let f = last-section c (x .room) s (h .units) (h .long) i k e (eqb-true i (c .ended) (p .1)) (ltb-true 0 (c .ended) (r .1))
-      (eqb-true k (checksum (take (c .count) (x .room))) (w .is-summed)) (eqb-true (c .count) (c .announced) (w .is-met)) (its-address c s (b .1) (w .known)) (b .0) in
+      (eqb-true k (checksum (take (c .count) (x .room))) (w .is-summed)) (eqb-true (c .count) (c .announced) (w .is-met))
+      (its-address c s (b .1) (w .known)) (b .0) in
       record {
         before = all ++ (s ∷ []);
         units = [];

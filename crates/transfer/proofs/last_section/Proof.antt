@@ -1,5 +1,4 @@
 -- Each refusal of the list, or the file is whole. (t is the place where the turn was judged, k that where the file was summed.)
-use Prim.Native.Nat.{ℕ}
 use Rattle.transfer_unit.specs.declared.Told.the-variants.{LastSection}
 use Rattle.transfer_unit.specs.declared.Told.{Told}
 use Rattle.transfer.proofs.Turns.{out-of-turn, not-summed, not-met, too-long, not-refused, agrees, differs, file-ends, file-sum}
@@ -11,7 +10,6 @@ use borrow.Author.Tests.{lt-ltb, le-ltb, eq-eqb, ne-eqb}
 use lib.Dec.{eqb, ltb}
 use lib.ListN.{take}
 use mathlib.Core.Bool.{Bool, _&&_, true}
-use mathlib.Core.List.{List}
 use mathlib.Core.Path.{_≡_, ap}
 
 abbrev start : tie.After-struct-known3 → tie.Start

@@ -46,7 +46,8 @@ sum-is k =
     section-sum (s .args .file .now) _ _ (s .args .c .start) (s .args .c .count) _ (k .before .before .rest .ensures) (k .before .front .ensures)
     (k .checksum .ensures)
 
-summed-is : (s : tie.Else2) → summed (start (judged (s .before) .before) .args .c) (start (judged (s .before) .before) .args .file .now) (says (judged (s .before) .before)) ≡ true
+summed-is : (s : tie.Else2)
+    → summed (start (judged (s .before) .before) .args .c) (start (judged (s .before) .before) .args .file .now) (says (judged (s .before) .before)) ≡ true
 summed-is s = agrees _ _ (sum-is (s .before)) (s .if2 .left)
 
 is-within-requires : tie.Need-is-within-requires

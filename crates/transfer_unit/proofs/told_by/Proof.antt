@@ -29,27 +29,32 @@ segment-requires c κs = search needs
 returns-2 : tie.Need-returns-2
 returns-2 c =
     let k = c .before .before in
-    is-file _ _ (k .before .before .is-ours .ensures) (not-false _ (k .before .if1 .left)) _ (k .octet .ensures) (c .before .match .keys1) (c .file-ready .ensures)
+    is-file _ _ (k .before .before .is-ours .ensures) (not-false _ (k .before .if1 .left))
+    _ (k .octet .ensures) (c .before .match .keys1) (c .file-ready .ensures)
 
 returns-3 : tie.Need-returns-3
 returns-3 c =
     let k = c .before .before in
-    is-section _ _ (k .before .before .is-ours .ensures) (not-false _ (k .before .if1 .left)) _ (k .octet .ensures) (c .before .match .keys2) (c .section-ready .ensures)
+    is-section _ _ (k .before .before .is-ours .ensures) (not-false _ (k .before .if1 .left))
+    _ (k .octet .ensures) (c .before .match .keys2) (c .section-ready .ensures)
 
 returns-4 : tie.Need-returns-4
 returns-4 c =
     let k = c .before .before in
-    is-last _ _ (k .before .before .is-ours .ensures) (not-false _ (k .before .if1 .left)) _ (k .octet .ensures) (c .before .match .keys3) (c .last .ensures)
+    is-last _ _ (k .before .before .is-ours .ensures) (not-false _ (k .before .if1 .left))
+    _ (k .octet .ensures) (c .before .match .keys3) (c .last .ensures)
 
 returns-5 : tie.Need-returns-5
 returns-5 c =
     let k = c .before .before in
-    is-segment _ _ (k .before .before .is-ours .ensures) (not-false _ (k .before .if1 .left)) _ (k .octet .ensures) (c .before .match .keys4) (c .segment .ensures)
+    is-segment _ _ (k .before .before .is-ours .ensures) (not-false _ (k .before .if1 .left))
+    _ (k .octet .ensures) (c .before .match .keys4) (c .segment .ensures)
 
 returns-6 : tie.Need-returns-6
 returns-6 c =
     let k = c .before in
-    is-none _ _ (k .before .before .is-ours .ensures) (not-false _ (k .before .if1 .left)) _ (k .octet .ensures) (c .match .rest)
+    is-none _ _ (k .before .before .is-ours .ensures) (not-false _ (k .before .if1 .left))
+    _ (k .octet .ensures) (c .match .rest)
 
 pub told-by-spec : {M : Type 1} → statement M
 told-by-spec =

@@ -4,7 +4,8 @@ use Rattle.transfer_unit.specs.Units.{isOther}
 use Rattle.transfer_unit.specs.declared.Told.{Told}
 use Rattle.transfer.proofs.Collector.take.Statement.{statement}
 use Rattle.transfer.proofs.Collector.take.Tie as tie
-use Rattle.transfer.proofs.Turns.{foreign-taken, foreign-room, nothing-taken, nothing-room, goes-taken, goes-room, goes-still, file-ready-any, section-ready-any, last-segment-any, last-section-any}
+use Rattle.transfer.proofs.Turns.{of-another, of-none, goes, goes-still}
+use Rattle.transfer.proofs.Turns.{file-ready-any, section-ready-any, last-segment-any, last-section-any}
 use Rattle.transfer.specs.Collect.{kept, takenAs, keptAs, takenOf, roomAfter}
 use Rattle.transfer.specs.declared.Collector.{Collector}
 use Rattle.transfer.specs.declared.Taken.{Taken}
@@ -22,15 +23,15 @@ unit t = let s = t .before .before .before in s .before .args .unit .now
 abbrev file : tie.After-told-by → List ℕ
 file t = let s = t .before .before .before in s .before .args .file .now
 
-module _ (t : tie.After-told-by) (u : Told) (e : t .told-by .result ≡ u) (some : isOther u ≡ false) where
-  comes-to : {r : Taken} → r ≡ takenAs (self t) (unit t) (file t) u → r ≡ takenOf (self t) (unit t) (file t)
-  comes-to = goes-taken (self t) (unit t) (file t) _ (t .before .before .is-elsewhere .ensures) _ u (t .told-by .ensures) e (t .before .if1 .left) some
+abbrev Answered : tie.After-told-by → Taken → List ℕ → Type 0
+Answered t r room = (r ≡ takenOf (self t) (unit t) (file t)) × (room ≡ roomAfter (self t) (unit t) (file t))
 
-  fills : {room : List ℕ} → room ≡ keptAs (self t) (unit t) (file t) u → room ≡ roomAfter (self t) (unit t) (file t)
-  fills = goes-room (self t) (unit t) (file t) _ (t .before .before .is-elsewhere .ensures) _ u (t .told-by .ensures) e (t .before .if1 .left) some
+module _ (t : tie.After-told-by) (u : Told) (e : t .told-by .result ≡ u) (some : isOther u ≡ false) {r : Taken} where
+  comes-to : {room : List ℕ} → r ≡ takenAs (self t) (unit t) (file t) u → room ≡ keptAs (self t) (unit t) (file t) u → Answered t r room
+  comes-to = goes (self t) (unit t) (file t) _ (t .before .before .is-elsewhere .ensures) _ u (t .told-by .ensures) e (t .before .if1 .left) some
 
-  stands : kept (self t) (unit t) (file t) u ≡ file t → file t ≡ roomAfter (self t) (unit t) (file t)
-  stands = goes-still (self t) (unit t) (file t) _ (t .before .before .is-elsewhere .ensures) _ u (t .told-by .ensures) e (t .before .if1 .left) some
+  stays : kept (self t) (unit t) (file t) u ≡ file t → r ≡ takenAs (self t) (unit t) (file t) u → Answered t r (file t)
+  stays = goes-still (self t) (unit t) (file t) _ (t .before .before .is-elsewhere .ensures) _ u (t .told-by .ensures) e (t .before .if1 .left) some
 
 is-elsewhere-requires : tie.Need-is-elsewhere-requires
 is-elsewhere-requires c κs = search needs
@@ -39,9 +40,7 @@ dropped-requires : tie.Need-dropped-requires
 dropped-requires c κs = search needs
 
 returns : tie.Need-returns
-returns c =
-    let a = c .before .before in
-    (foreign-taken _ _ _ _ (a .is-elsewhere .ensures) (c .before .if1 .taken) (c .dropped .ensures), foreign-room _ _ _ _ (a .is-elsewhere .ensures) (c .before .if1 .taken))
+returns c = of-another _ _ _ _ (c .before .before .is-elsewhere .ensures) (c .before .if1 .taken) (c .dropped .ensures)
 
 told-by-requires : tie.Need-told-by-requires
 told-by-requires c κs = search needs
@@ -84,45 +83,33 @@ dropped-requires-2 c κs = search needs
 
 returns-2 : tie.Need-returns-2
 returns-2 c =
-    let t = c .before .before .before .before in
-    let e = c .before .before .told .given .1 in
-    (comes-to t _ e refl (file-ready-any _ _ _ _ (c .file-ready .ensures)), stands t _ e refl refl)
+    let t = c .before .before in
+    stays (t .before .before) _ (t .told .given .1) refl refl (file-ready-any _ _ _ _ (c .file-ready .ensures))
 
 returns-3 : tie.Need-returns-3
 returns-3 c =
-    let t = c .before .before .before .before in
-    let e = c .before .before .told2 .given .1 in
-    (comes-to t _ e refl (section-ready-any _ _ _ _ _ (c .section-ready .ensures)), stands t _ e refl refl)
+    let t = c .before .before in
+    stays (t .before .before) _ (t .told2 .given .1) refl refl (section-ready-any _ _ _ _ _ (c .section-ready .ensures))
 
 returns-4 : tie.Need-returns-4
 returns-4 c =
     let t = c .before .before .before in
-    let e = t .told3 .given .1 in
-    let b = t .before .before in
-    (comes-to b _ e refl (c .segment .ensures .0), fills b _ e refl (c .segment .ensures .1))
+    comes-to (t .before .before) _ (t .told3 .given .1) refl (c .segment .ensures .0) (c .segment .ensures .1)
 
 returns-5 : tie.Need-returns-5
 returns-5 c =
     let t = c .before .before .before .before in
-    let e = t .told4 .given .1 in
-    let b = t .before .before in
-    (comes-to b _ e refl (last-segment-any _ _ _ _ _ (c .last-segment .ensures)), stands b _ e refl refl)
+    stays (t .before .before) _ (t .told4 .given .1) refl refl (last-segment-any _ _ _ _ _ (c .last-segment .ensures))
 
 returns-6 : tie.Need-returns-6
 returns-6 c =
     let t = c .before .before .before .before in
-    let e = t .told5 .given .1 in
-    let b = t .before .before in
-    (comes-to b _ e refl (last-section-any _ _ _ _ _ (c .last-section .ensures)), stands b _ e refl refl)
+    stays (t .before .before) _ (t .told5 .given .1) refl refl (last-section-any _ _ _ _ _ (c .last-section .ensures))
 
 returns-7 : tie.Need-returns-7
 returns-7 c =
     let t = c .before .before .before in
-    let a = t .before .before in
-    let e = c .before .enum-told .given .1 in (
-      nothing-taken _ _ _ _ (a .is-elsewhere .ensures) _ _ (t .told-by .ensures) e refl (c .dropped2 .ensures),
-      nothing-room _ _ _ _ (a .is-elsewhere .ensures) _ _ (t .told-by .ensures) e refl,
-    )
+    of-none _ _ _ _ (t .before .before .is-elsewhere .ensures) _ _ (t .told-by .ensures) (c .before .enum-told .given .1) refl (c .dropped2 .ensures)
 
 pub take-spec : {M : Type 1} → statement M
 take-spec =
