@@ -138,7 +138,7 @@ module _ (c : Collector) (s file : List ℕ) (e : Bool) (other-address : e ≡ e
       unfolding keptAs
       goes-still k q = goes q (rw k (same-room file (refusalsAs c file u)))
 
--- what is answered to a unit without octets, or that sums none, is answered whatever the room holds
+-- ---- what goes by neither the unit nor the room is answered so whatever these are
 
 module _ (c : Collector) (s file : List ℕ) {r : Taken} where
   pub file-ready-any : (n : ℕ) → r ≡ takenAs c s [] (FileReady n) → r ≡ takenAs c s file (FileReady n)

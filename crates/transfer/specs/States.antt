@@ -1,7 +1,7 @@
 -- A collector as 16 bytes, for a host in C that keeps it between two units. Octets count from 1: 1 the turn, 2 the sections ended, 3 and 4 the common address,
 -- 5 to 7 the information object's, 8 and 9 the file's announced length, 10 and 11 where the open section starts, 12 and 13 its announced length, 14 and 15 the
 -- octets collected, 16 zero; low octet first. All zero is a fresh collector.
-use Prim.Native.Nat.{ℕ, _+_, _*_, _/_, _%_, _≤_, _<_}
+use Prim.Native.Nat.{ℕ, _/_, _%_, _≤_, _<_}
 use Rattle.transfer.specs.declared.Collector.{Collector}
 use Rattle.transfer.specs.declared.Turn.{Turn}
 use Rattle.transfer.specs.declared.Turn.the-variants.{Fresh, Between, Within}

@@ -1,4 +1,5 @@
 -- Each refusal of the list, or the section has ended. (t is the place where the turn was judged, k that where the section was summed.)
+use Prim.Native.Nat.{ℕ, _+_, _<_}
 use Rattle.text.specs.Bytes.{part}
 use Rattle.transfer_unit.specs.declared.Told.the-variants.{LastSegment}
 use Rattle.transfer_unit.specs.declared.Told.{Told}
@@ -9,11 +10,10 @@ use Rattle.transfer.specs.Collect.{inTurn, checksum, summed}
 use borrow.Author.Needs.{needs}
 use borrow.Author.Tests.{lt-ltb, le-ltb, eq-eqb, ne-eqb}
 use lib.Dec.{ltb}
-use Prim.Native.Nat.{ℕ, _+_, _<_}
-use native.Mathlib.Omega.{arith}
 use mathlib.Core.Bool.{Bool, _&&_, true}
 use mathlib.Core.List.{List}
 use mathlib.Core.Path.{_≡_, ap₂}
+use native.Mathlib.Omega.{arith}
 
 abbrev start : tie.After-struct-known → tie.Start
 start t = t .before .before .before .before

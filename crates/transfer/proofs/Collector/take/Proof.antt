@@ -15,13 +15,13 @@ use mathlib.Core.List.{List}
 use mathlib.Core.Path.{_≡_, refl}
 
 abbrev self : tie.After-told-by → Collector
-self t = let s = t .before .before .before in s .before .args .self
+self t = t .before .before .before .before .args .self
 
 abbrev unit : tie.After-told-by → List ℕ
-unit t = let s = t .before .before .before in s .before .args .unit .now
+unit t = t .before .before .before .before .args .unit .now
 
 abbrev file : tie.After-told-by → List ℕ
-file t = let s = t .before .before .before in s .before .args .file .now
+file t = t .before .before .before .before .args .file .now
 
 abbrev Answered : tie.After-told-by → Taken → List ℕ → Type 0
 Answered t r room = (r ≡ takenOf (self t) (unit t) (file t)) × (room ≡ roomAfter (self t) (unit t) (file t))
