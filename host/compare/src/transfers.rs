@@ -39,7 +39,7 @@ fn short(dice: &mut Dice) -> Units {
 
 /// The most that a file may have, or about that; of one that is longer, mostly no more than the most is announced.
 fn long(dice: &mut Dice) -> Units {
-    let length = if dice.once_in(2) { 8_192 } else { dice.from_to(8_190, 8_196) };
+    let length = [8_191, 8_192, 8_192, 8_193, 8_193, 8_196][dice.below(6)];
     let mut units = of_file(&any_octets(length, dice), [100, 128, 254, 255], dice);
     if !dice.once_in(4) {
         let announced = units::octets(length.min(8_192));
