@@ -107,6 +107,7 @@ test-host: target/host/halimpung-read target/host/entries-test
 	@$(if $(SANITIZED),,echo 'on $(MACHINE): under an emulator, without sanitizers')
 	@$(X86) run target/host/entries-test examples
 	@host/test/program target/host/halimpung-read
+	@host/test/units target/host/halimpung-read
 	@host/test/words
 	@CC='$(CC)' CXX='$(CXX)' host/test/install '$(LIB)'
 

@@ -21,21 +21,29 @@ static bool take_message(char **words, struct message *to) {
     return take_number(words[0], &to->ca) && take_number(words[1], &to->ioa);
 }
 
+/* threes, one at least */
+static bool take_messages(char **words, int count, struct arguments *to) {
+    if (count < 3 || count % 3 != 0) return false;
+    to->count = count / 3;
+    to->messages = words;
+    for (int i = 0; i < to->count; i++) {
+        struct message one;
+        if (!take_message(words + 3 * i, &one)) return false;
+    }
+    return true;
+}
+
 bool take_arguments(int argc, char **argv, struct arguments *to) {
     int next = 1;
     to->normalise = argc > next && strcmp(argv[next], "-n") == 0;
     if (to->normalise) next++;
-    /* a plan, then threes, one at least; what looks like another option is none */
+    /* a plan, then units or messages; what looks like another option is none */
     int rest = argc - next - 1;
-    if (rest < 3 || rest % 3 != 0 || argv[next][0] == '-') return false;
+    if (rest < 2 || argv[next][0] == '-') return false;
     to->plan = argv[next];
-    to->count = rest / 3;
-    to->messages = argv + next + 1;
-    for (int i = 0; i < to->count; i++) {
-        struct message one;
-        if (!take_message(to->messages + 3 * i, &one)) return false;
-    }
-    return true;
+    char **words = argv + next + 1;
+    to->units = rest == 2 && strcmp(words[0], "--units") == 0 ? words[1] : NULL;
+    return to->units || take_messages(words, rest, to);
 }
 
 struct message message_at(const struct arguments *all, int place) {

@@ -1,4 +1,4 @@
-/* The command line: [-n] PLAN CA IOA FILE [CA IOA FILE].. */
+/* The command line: [-n] PLAN, then CA IOA FILE [CA IOA FILE].. or --units FILE */
 #ifndef ARGUMENTS_H
 #define ARGUMENTS_H
 
@@ -6,10 +6,11 @@
 #include <stdint.h>
 
 struct arguments {
-    bool normalise;   /* -n: the written form instead of the six lines */
-    const char *plan; /* the plan's file name */
-    int count;        /* how many messages */
-    char **messages;  /* their words, three each */
+    bool normalise;    /* -n: the written form instead of the six lines */
+    const char *plan;  /* the plan's file name */
+    const char *units; /* --units: the file name of a text of units, and no messages; else NULL */
+    int count;         /* how many messages */
+    char **messages;   /* their words, three each */
 };
 
 struct message {

@@ -5,7 +5,7 @@
 #include <stdio.h>
 #include <string.h>
 
-static bool unreadable(const char *name) {
+bool unreadable(const char *name) {
     fprintf(stderr, "%s: unreadable: %s\n", name, strerror(errno));
     return false;
 }

@@ -1,8 +1,9 @@
-/* far: calls the two entries for a program of another processor, which cannot link them (src/far.rs). It is x86-64 code, like the library.
+/* far: calls the entries for a program of another processor, which cannot link them (src/far.rs). It is x86-64 code, like the library.
 
-   A request stands on standard input: which entry (0 reads, 1 normalises), ca, ioa and the lengths of plan, file and out, each a number of
-   32 bits with its low byte first; then the bytes of the three. The answer goes to standard output: the entry's number, what harm the
-   call did (enum harm), and the bytes of out. Requests follow one another until the input ends. */
+   A request stands on standard input: which entry (0 reads, 1 normalises, 2 collects), ca, ioa and the lengths of three slices, each a
+   number of 32 bits with its low byte first; then the bytes of the three. They are plan, file and out; for collecting, which has no ca
+   and ioa, unit, state and file. The answer goes to standard output: the entry's number, what harm the call did (enum harm), and the bytes
+   of the slices that the entry may write. Requests follow one another until the input ends. */
 #include <stdio.h>
 #include <string.h>
 
@@ -11,8 +12,11 @@
 #include "place.h"
 #include "text.h"
 
+enum entry { READ, NORMALISE, COLLECT };
+enum { SLICES = 3 };
+
 struct request {
-    uint32_t entry, ca, ioa, plan_len, file_len, out_len;
+    uint32_t entry, ca, ioa, lengths[SLICES];
 };
 
 /* (A step past the end of a slice is a fault, and ends the program: host/test/place.h.) */
@@ -24,28 +28,38 @@ static void take(struct text *into, size_t length) {
     if (fread(into->bytes, 1, length, stdin) != length) broken("a request ends early");
 }
 
-static struct placed put(enum role role, const struct text *like) { return put_at(AT_END, role, like->bytes, like->length); }
-
 static bool holds(struct placed it, const struct text *like) { return memcmp(it.bytes, like->bytes, like->length) == 0; }
 
 static void give(const void *bytes, size_t length) {
     if (fwrite(bytes, 1, length, stdout) != length) broken("an answer cannot be written");
 }
 
+static uint32_t call(const struct request *asked, const struct placed *of) {
+    if (asked->entry == COLLECT) {
+        if (of[1].length != HALIMPUNG_COLLECT_STATE || of[2].length != HALIMPUNG_FILE_MOST) broken("state or file is of another size");
+        return halimpung_collect(of[0].bytes, of[0].length, of[1].bytes, of[2].bytes);
+    }
+    return (asked->entry == READ ? halimpung_read : halimpung_normalise)(asked->ca, asked->ioa, of[0].bytes, of[0].length, of[1].bytes,
+                                                                         of[1].length, of[2].bytes, of[2].length);
+}
+
 static void answer(const struct request *asked) {
-    static struct text plan_text, file_text, out_text;
-    take(&plan_text, asked->plan_len);
-    take(&file_text, asked->file_len);
-    take(&out_text, asked->out_len);
-    struct placed plan = put(PLAN, &plan_text), file = put(FILE_, &file_text), out = put(OUT, &out_text);
-    uint32_t number = (asked->entry == 0 ? halimpung_read : halimpung_normalise)(asked->ca, asked->ioa, plan.bytes, plan.length, file.bytes,
-                                                                                 file.length, out.bytes, out.length);
-    uint32_t harm = NO_HARM;
-    if (!holds(plan, &plan_text) || !holds(file, &file_text)) harm = INPUT_CHANGED;
-    if (!guards_whole(plan) || !guards_whole(file) || !guards_whole(out)) harm = OUTSIDE_CHANGED;
+    static struct text texts[SLICES];
+    static const enum role roles[SLICES] = { PLAN, FILE_, OUT };
+    struct placed slices[SLICES];
+    for (int i = 0; i < SLICES; i++) {
+        take(&texts[i], asked->lengths[i]);
+        slices[i] = put_at(AT_END, roles[i], texts[i].bytes, texts[i].length);
+    }
+    int written = asked->entry == COLLECT ? 1 : 2; /* the first that may be written */
+    uint32_t number = call(asked, slices), harm = NO_HARM;
+    for (int i = 0; i < SLICES; i++) {
+        if (harm == NO_HARM && i < written && !holds(slices[i], &texts[i])) harm = INPUT_CHANGED;
+        if (!guards_whole(slices[i])) harm = OUTSIDE_CHANGED;
+    }
     give(&number, sizeof number);
     give(&harm, sizeof harm);
-    give(out.bytes, out.length);
+    for (int i = written; i < SLICES; i++) give(slices[i].bytes, slices[i].length);
     if (fflush(stdout) != 0) broken("an answer cannot be written");
 }
 

@@ -1,4 +1,4 @@
-/* entries-test [EXAMPLES]: the two entries called from C, as a host would; EXAMPLES is the directory of the example files. */
+/* entries-test [EXAMPLES]: the entries called from C, as a host would; EXAMPLES is the directory of the example files. */
 #include "check.h"
 #include "tests.h"
 #include "text.h"
@@ -9,5 +9,7 @@ int main(int argc, char **argv) {
     test_refused();
     test_rooms();
     test_sizes();
+    test_collect();
+    test_dropped();
     return checked();
 }

@@ -12,8 +12,8 @@
 
 enum where { IN_HEAP, AT_END, AT_START, WHERES };
 
-/* each has pages of its own, so that the three stand side by side in a call */
-enum role { PLAN, FILE_, OUT, ROLES };
+/* each has pages of its own, so that those of a call stand side by side */
+enum role { PLAN, FILE_, OUT, UNIT, STATE, COLLECTED, ROLES };
 
 struct placed {
     enum where where;

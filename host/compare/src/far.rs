@@ -1,6 +1,7 @@
-//! The two entries for a machine that cannot link them: the library is x86-64 code, so a program of that kind calls it
+//! The entries for a machine that cannot link them: the library is x86-64 code, so a program of that kind calls it
 //! (`../far.c`, which says what goes over the pipes), started once by way of tools/x86.
 
+use crate::collecting::{MOST, STATE};
 use std::io::{Error, Read, Result, Write};
 use std::process::{Child, ChildStdin, ChildStdout, Command, Stdio};
 use std::sync::{Mutex, OnceLock};
@@ -12,17 +13,21 @@ pub const NO_ANSWER: u32 = u32::MAX;
 const ROOT: &str = concat!(env!("CARGO_MANIFEST_DIR"), "/../..");
 
 pub fn read(ca: u32, ioa: u32, plan: &[u8], file: &[u8], out: &mut [u8]) -> u32 {
-    call(0, [ca, ioa], plan, file, out)
+    call(request(0, [ca, ioa], [plan, file, out]), &mut [out])
 }
 
 pub fn normalise(ca: u32, ioa: u32, plan: &[u8], file: &[u8], out: &mut [u8]) -> u32 {
-    call(1, [ca, ioa], plan, file, out)
+    call(request(1, [ca, ioa], [plan, file, out]), &mut [out])
 }
 
-fn call(entry: u32, address: [u32; 2], plan: &[u8], file: &[u8], out: &mut [u8]) -> u32 {
+pub fn collect(unit: &[u8], state: &mut [u8; STATE], file: &mut [u8; MOST]) -> u32 {
+    call(request(2, [0, 0], [unit, &state[..], &file[..]]), &mut [&mut state[..], &mut file[..]])
+}
+
+fn call(request: Vec<u8>, written: &mut [&mut [u8]]) -> u32 {
     static PROGRAM: OnceLock<Mutex<Program>> = OnceLock::new();
     let mut program = PROGRAM.get_or_init(|| Mutex::new(started())).lock().expect("no call panics");
-    program.far.call(entry, address, plan, file, out).unwrap_or_else(|error| {
+    program.far.call(&request, written).unwrap_or_else(|error| {
         eprintln!("far side: {error}");
         NO_ANSWER
     })
@@ -48,13 +53,15 @@ struct Far<To, From> {
 }
 
 impl<To: Write, From: Read> Far<To, From> {
-    fn call(&mut self, entry: u32, address: [u32; 2], plan: &[u8], file: &[u8], out: &mut [u8]) -> Result<u32> {
-        self.to.write_all(&request(entry, address, [plan, file, out]))?;
+    fn call(&mut self, request: &[u8], written: &mut [&mut [u8]]) -> Result<u32> {
+        self.to.write_all(request)?;
         let [answer, harm] = [self.number()?, self.number()?];
-        self.from.read_exact(out)?;
+        for slice in written {
+            self.from.read_exact(slice)?;
+        }
         match harm {
             0 => Ok(answer),
-            1 => Err(Error::other("the library changed plan or file")),
+            1 => Err(Error::other("the library changed what it may only read")),
             _ => Err(Error::other("the library changed a byte outside of its slices")),
         }
     }
@@ -81,7 +88,8 @@ mod tests {
 
     fn asked(answer: &[u8]) -> (Vec<u8>, Result<u32>, [u8; 2]) {
         let (mut sent, mut out) = (Vec::new(), *b"ab");
-        let result = Far { to: &mut sent, from: answer }.call(1, [7, 300], b"plan", b"f", &mut out);
+        let request = request(1, [7, 300], [b"plan", b"f", &out]);
+        let result = Far { to: &mut sent, from: answer }.call(&request, &mut [&mut out]);
         (sent, result, out)
     }
 
@@ -90,6 +98,14 @@ mod tests {
         let (sent, result, out) = asked(b"\x01\0\0\0\0\0\0\0xb");
         assert_eq!(sent, b"\x01\0\0\0\x07\0\0\0\x2c\x01\0\0\x04\0\0\0\x01\0\0\0\x02\0\0\0planfab");
         assert_eq!((result.unwrap(), out), (1, *b"xb"));
+    }
+
+    #[test]
+    fn two_outputs_are_taken_one_after_the_other() {
+        let (mut state, mut file) = (*b"ab", *b"cde");
+        let answer = b"\0\0\x28\0\0\0\0\0ABCDE";
+        let result = Far { to: Vec::new(), from: &answer[..] }.call(b"", &mut [&mut state[..], &mut file[..]]);
+        assert_eq!((result.unwrap(), state, file), (40 << 16, *b"AB", *b"CDE"));
     }
 
     #[test]

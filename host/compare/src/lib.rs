@@ -6,6 +6,8 @@
 //! record as it is), [`values`] and [`together`] (other values, the summary row mended),
 //! [`damage`] and [`random`], and at last [`spellings`] (the accents and short settings of
 //! request A1); the plans from [`plans`]. Each choice is a throw of [`dice`].
+//! For collecting, [`transfers`] makes a run of [`units`] from a number, [`collecting`]
+//! gives it to both sides, and [`units_met`] counts what became of the units.
 //! The library is called by [`ours`], which links it on x86-64 and is [`far`] elsewhere.
 //! With the feature `pace`, for times, it is linked everywhere (elsewhere it is code without its proofs), and `pace` is the
 //! reference's side of the book's calls.
@@ -13,6 +15,7 @@
 
 pub mod body;
 pub mod check;
+pub mod collecting;
 pub mod damage;
 pub mod dice;
 pub mod far;
@@ -32,11 +35,14 @@ pub mod spellings;
 mod spellings_met;
 pub mod tally;
 pub mod together;
+pub mod transfers;
+pub mod units;
+pub mod units_met;
 pub mod values;
 pub mod words;
 
 #[cfg(not(any(target_arch = "x86_64", feature = "pace")))]
 pub use far as ours;
 
-/// One of the two entries, on either side.
+/// Reading or normalising, on either side.
 pub type Entry = fn(u32, u32, &[u8], &[u8], &mut [u8]) -> u32;

@@ -1,7 +1,9 @@
-//! The two C entries of host/include/halimpung.h, as calls on slices, and that of crates/bench_book. The only `unsafe` code
-//! here: a slice of Rust is what the header asks for (never null, of its length; `out` is lent alone, so it overlaps no
-//! input).
+//! The C entries of host/include/halimpung.h, as calls on slices, and that of crates/bench_book. The only `unsafe` code
+//! here: a slice of Rust is what the header asks for (never null, of its length; what is written is lent alone, so it
+//! overlaps nothing else).
 #![allow(unsafe_code)]
+
+use crate::collecting::{MOST, STATE};
 
 #[rustfmt::skip]
 extern "C" {
@@ -11,6 +13,7 @@ extern "C" {
     fn halimpung_normalise(
         ca: u32, ioa: u32, plan: *const u8, plan_len: usize, file: *const u8, file_len: usize, out: *mut u8, out_len: usize,
     ) -> u32;
+    fn halimpung_collect(unit: *const u8, unit_len: usize, state: *mut u8, file: *mut u8) -> u32;
 }
 
 pub fn read(ca: u32, ioa: u32, plan: &[u8], file: &[u8], out: &mut [u8]) -> u32 {
@@ -23,6 +26,10 @@ pub fn normalise(ca: u32, ioa: u32, plan: &[u8], file: &[u8], out: &mut [u8]) ->
     unsafe {
         halimpung_normalise(ca, ioa, plan.as_ptr(), plan.len(), file.as_ptr(), file.len(), out.as_mut_ptr(), out.len())
     }
+}
+
+pub fn collect(unit: &[u8], state: &mut [u8; STATE], file: &mut [u8; MOST]) -> u32 {
+    unsafe { halimpung_collect(unit.as_ptr(), unit.len(), state.as_mut_ptr(), file.as_mut_ptr()) }
 }
 
 #[cfg(feature = "pace")]

@@ -1,5 +1,5 @@
-//! What libFuzzer calls: one input to one entry, on both sides. The reference is instrumented, so its branches guide the search; the library is
-//! not, and is judged by its answers and by every byte of its output.
+//! What libFuzzer calls: one input to one entry, on both sides, or a run of units to both collectors. The reference is instrumented, so its
+//! branches guide the search; the library is not, and is judged by its answers and by every byte of its output.
 
 use halimpung_compare::check::check;
 use halimpung_compare::dice::Dice;
@@ -7,7 +7,8 @@ use halimpung_compare::input::{Input, Room, MOST_ROOM};
 use halimpung_compare::lines::{join, split};
 use halimpung_compare::samples::{Sample, SAMPLES};
 use halimpung_compare::spellings::{self, ACCENT, LABELS};
-use halimpung_compare::{ours, Entry};
+use halimpung_compare::units::Units;
+use halimpung_compare::{collecting, ours, transfers, Entry};
 use halimpung_reference::{normalise_entry, read_entry};
 
 /// The byte between plan and file where an input has both.
@@ -15,6 +16,11 @@ pub const BETWEEN: u8 = 0xff;
 
 /// The first byte of an input that has a plan of its own.
 pub const OWN_PLAN: u8 = 0x80;
+
+/// The first byte, or any above it, of an input that is a run of units, and what stands between two of them: no length, since a byte that is
+/// put in or taken out would then spoil all units behind it.
+pub const UNITS: u8 = 0xc0;
+pub const BETWEEN_UNITS: [u8; 2] = [0xfe, 0xed];
 
 const ADDRESS: (u32, u32) = (7, 300);
 
@@ -50,6 +56,48 @@ fn room_of(byte: u8) -> Room {
     }
 }
 
+fn units(data: &[u8]) -> Units {
+    let mut units = vec![Vec::new()];
+    let mut rest = data;
+    while let Some((&first, after)) = rest.split_first() {
+        if let Some(after) = rest.strip_prefix(&BETWEEN_UNITS) {
+            units.push(Vec::new());
+            rest = after;
+        } else {
+            units.last_mut().expect("one at least").push(first);
+            rest = after;
+        }
+    }
+    units
+}
+
+fn joined(units: &Units) -> Vec<u8> {
+    [&[UNITS], &units.join(&BETWEEN_UNITS[..])[..]].concat()
+}
+
+/// How the two sides differ, if they do.
+fn difference(data: &[u8]) -> Option<String> {
+    if let [UNITS..=u8::MAX, rest @ ..] = data {
+        let units = units(rest);
+        let collecting::Difference { unit, ours, theirs, byte } = collecting::check(ours::collect, &units).err()?;
+        return Some(format!(
+            "ours {ours}, reference {theirs}, first byte that differs {byte:?}, unit {} of {units:02x?}",
+            unit + 1
+        ));
+    }
+    let (input, ours, theirs) = input(data)?;
+    let difference = check(ours, theirs, &input).err()?;
+    Some(format!(
+        "ours {}, reference {}, room {}, first byte that differs {:?}\nplan {:?}\nfile {:?}",
+        difference.ours,
+        difference.theirs,
+        difference.room,
+        difference.byte,
+        String::from_utf8_lossy(&input.plan),
+        String::from_utf8_lossy(&input.file)
+    ))
+}
+
 /// An input that both sides answer differently ends the process, and libFuzzer keeps it.
 ///
 /// # Safety
@@ -57,16 +105,9 @@ fn room_of(byte: u8) -> Room {
 #[no_mangle]
 pub unsafe extern "C" fn LLVMFuzzerTestOneInput(data: *const u8, size: usize) -> i32 {
     let data = if size == 0 { &[] } else { std::slice::from_raw_parts(data, size) };
-    if let Some((input, ours, theirs)) = input(data) {
-        if let Err(difference) = check(ours, theirs, &input) {
-            eprintln!(
-                "ours {}, reference {}, room {}, first byte that differs {:?}",
-                difference.ours, difference.theirs, difference.room, difference.byte
-            );
-            eprintln!("plan {:?}", String::from_utf8_lossy(&input.plan));
-            eprintln!("file {:?}", String::from_utf8_lossy(&input.file));
-            std::process::abort();
-        }
+    if let Some(report) = difference(data) {
+        eprintln!("{report}");
+        std::process::abort();
     }
     0
 }
@@ -127,7 +168,12 @@ pub fn spelled_seeds() -> Vec<Vec<u8>> {
     seeds
 }
 
-/// Words to put in: each line's label and value of the samples, in both spellings, and the plan's keys.
+/// Runs of units, as the comparison makes them, that are not too long for an input.
+pub fn unit_seeds() -> Vec<Vec<u8>> {
+    (0..120).map(|number| joined(&transfers::run(0, number))).filter(|seed| seed.len() <= 9_000).collect()
+}
+
+/// Words to put in: each line's label and value of the samples, in both spellings, the plan's keys, and the octets that units begin with.
 pub fn words() -> Vec<Vec<u8>> {
     let mut words: Vec<Vec<u8>> = ["ca=", "ioa=", "unit=", "type=", "+++++", "\r\n"].map(Vec::from).to_vec();
     for sample in &SAMPLES {
@@ -136,6 +182,8 @@ pub fn words() -> Vec<Vec<u8>> {
     words.extend(["VMAX", "VMIN", "V MIN"].map(Vec::from));
     words.extend(LABELS.map(<[u8]>::to_vec));
     words.push(vec![ACCENT]);
+    words.extend([120, 121, 123, 125].map(|kind| vec![kind, 1, 13, 0, 7, 0, 45, 1, 0, 1, 0]));
+    words.push(BETWEEN_UNITS.to_vec());
     words.retain(|word| !word.is_empty() && word.len() <= 60);
     words.sort();
     words.dedup();
@@ -145,6 +193,7 @@ pub fn words() -> Vec<Vec<u8>> {
 #[cfg(test)]
 mod tests {
     use super::*;
+    use halimpung_reference::{Collector, Heard, Refusal};
 
     /// By the reference alone: ten samples, two of them in second spellings too, three inputs each.
     #[test]
@@ -160,6 +209,30 @@ mod tests {
         let spelled = spelled_seeds();
         for number in [0, 3, 5, 10] {
             assert!(spelled.iter().filter(accented).any(|seed| answer(seed) >> 16 == number), "none answers {number}");
+        }
+    }
+
+    #[test]
+    fn unit_seeds_are_runs_of_units() {
+        let seeds = unit_seeds();
+        assert!(seeds.len() > 100);
+        let mut answers = Vec::new();
+        for seed in seeds {
+            let run = units(&seed[1..]);
+            assert_eq!(joined(&run), seed);
+            let mut collector = Collector::default();
+            answers.extend(run.iter().map(|unit| collector.take(unit)));
+        }
+        for number in [44, 40, 41, 42, 43] {
+            assert!(answers.contains(&Heard::Refused(Refusal::plain(number))), "none answers {number}");
+        }
+        assert!(answers.iter().filter(|answer| matches!(answer, Heard::Whole { .. })).count() > 50);
+    }
+
+    #[test]
+    fn every_seed_is_answered_alike() {
+        for seed in [seeds(), spelled_seeds(), unit_seeds()].concat() {
+            assert_eq!(difference(&seed), None);
         }
     }
 

@@ -1,16 +1,20 @@
 //! Messages of Annex A.34 Rev. 10, read, written and booked as document 01 says,
-//! with request A1 of document 02 (accented labels and the short VMAX).
+//! with requests A1 (accented labels and the short VMAX) and A2 (files from their
+//! segments) of document 02.
 //!
 //! The path of a file: [`plan`] gives the type and unit of the address, [`lines`]
 //! walks the file once and finds where each value lies, [`fields`] turns the
 //! values into a [`record`], [`rules`] judges the record, [`reader`] puts these
-//! in the order of the refusal numbers. [`writer`] goes the other way.
+//! in the order of the refusal numbers. [`writer`] goes the other way. Before all
+//! of these, [`collect`] makes a file of the units in which it came.
 //!
 //! Nothing on that path allocates: values stay slices of the file until they are
-//! typed, and a record has fixed room for its texts.
+//! typed, and a record has fixed room for its texts. A collector does: it keeps
+//! the octets that came.
 #![forbid(unsafe_code)]
 
 pub mod book;
+pub mod collect;
 pub mod dates;
 pub mod entries;
 pub mod fields;
@@ -34,6 +38,7 @@ pub mod words;
 pub mod writer;
 
 pub use book::{Book, Order};
+pub use collect::{Collector, Heard};
 pub use entries::{normalise_entry, read_entry};
 pub use normaliser::normalise;
 pub use program::program;

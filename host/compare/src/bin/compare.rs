@@ -1,31 +1,42 @@
 //! Compares the proved entries with the reference's: `compare [COUNT [SEED [FIRST]]]`. A difference is printed whole and ends the run
-//! with status 1; `compare 1 SEED NUMBER` makes that input again.
+//! with status 1; `compare 1 SEED NUMBER` makes that input again. Every fourth number has a run of units besides.
 
 use halimpung_compare::check::{check, Difference};
 use halimpung_compare::input::{input, Input};
 use halimpung_compare::tally::Tally;
-use halimpung_compare::{far, ours, Entry};
+use halimpung_compare::transfers::run;
+use halimpung_compare::units::Units;
+use halimpung_compare::units_met::UnitsTally;
+use halimpung_compare::{collecting, far, ours, Entry};
 use halimpung_reference::{normalise_entry, read_entry};
 use std::process::ExitCode;
 
 const ENTRIES: [(&str, Entry, Entry); 2] =
     [("read", ours::read, read_entry), ("normalise", ours::normalise, normalise_entry)];
 
+/// A run of units has a dozen calls and more, so there are fewer of them than of inputs.
+const RUNS: u64 = 4;
+
 fn main() -> ExitCode {
     let [count, seed, first] = [200_000, 1, 0].into_iter().zip(1..).map(argument).collect::<Vec<u64>>()[..] else {
         unreachable!("three arguments");
     };
     println!("seed {seed}, {count} inputs from number {first}");
-    let mut tally = Tally::default();
+    let (mut tally, mut units_tally) = (Tally::default(), UnitsTally::default());
     for number in first..first + count {
-        if let Err(report) = compare(&input(seed, number), &mut tally) {
+        let mut result = compare(&input(seed, number), &mut tally);
+        if number % RUNS == 0 {
+            result = result.and_then(|()| collect(&run(seed, number), &mut units_tally));
+        }
+        if let Err(report) = result {
             println!("DIFFERENCE at seed {seed}, number {number}\n{report}");
             return ExitCode::FAILURE;
         }
     }
-    println!("{count} inputs, both entries each: no difference");
+    println!("{count} inputs, read and normalised, and a run of units for one in {RUNS}: no difference");
     tally.print();
-    let missing = tally.missing(count);
+    units_tally.print();
+    let missing = [tally.missing(count), units_tally.missing(count)].concat();
     if !missing.is_empty() {
         println!("never met: {}", missing.join(", "));
         return ExitCode::FAILURE;
@@ -43,6 +54,24 @@ fn compare(input: &Input, tally: &mut Tally) -> Result<(), String> {
         let answer = check(ours, theirs, input).map_err(|difference| report(name, input, &difference))?;
         tally.add(input, answer);
     }
+    Ok(())
+}
+
+/// A difference has the units up to it in the form of the case runner's requests.
+fn collect(units: &Units, tally: &mut UnitsTally) -> Result<(), String> {
+    let words = collecting::check(ours::collect, units).map_err(|difference| {
+        let collecting::Difference { unit, ours, theirs, byte } = difference;
+        let given: Vec<String> = units[..=unit].iter().map(|unit| hex(unit)).collect();
+        format!(
+            "entry collect, unit {}\ncollect {}\nours {}\nreference {}\nfirst byte that differs: {}",
+            unit + 1,
+            given.join(","),
+            said(ours),
+            said(theirs),
+            byte.as_deref().unwrap_or("none"),
+        )
+    })?;
+    tally.add(&words);
     Ok(())
 }
 
@@ -69,6 +98,10 @@ fn said(answer: u32) -> String {
     }
 }
 
+/// `-` for no bytes.
 fn hex(bytes: &[u8]) -> String {
+    if bytes.is_empty() {
+        return "-".into();
+    }
     bytes.iter().map(|byte| format!("{byte:02x}")).collect()
 }

@@ -10,7 +10,7 @@ fn main() -> std::io::Result<()> {
         std::process::exit(2);
     };
     fs::create_dir_all(folder)?;
-    let seeds = [halimpung_fuzz::seeds(), halimpung_fuzz::spelled_seeds()].concat();
+    let seeds = [halimpung_fuzz::seeds(), halimpung_fuzz::spelled_seeds(), halimpung_fuzz::unit_seeds()].concat();
     for (number, seed) in seeds.iter().enumerate() {
         fs::write(Path::new(folder).join(format!("seed-{number:03}")), seed)?;
     }

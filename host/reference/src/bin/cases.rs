@@ -49,6 +49,7 @@ fn answer(words: &[&str]) -> Option<String> {
             }
         }
         ["book", unit, calls] => book(&bytes(unit)?, calls)?,
+        ["collect", units] => collected(units)?,
         _ => return None,
     })
 }
@@ -108,6 +109,22 @@ fn book(unit: &[u8], calls: &str) -> Option<String> {
         });
     }
     Some(answers.join(" "))
+}
+
+/// A `-` alone is no unit at all; among others it is one without octets.
+fn collected(units: &str) -> Option<String> {
+    let mut collector = Collector::default();
+    let units = units.split(',').filter(|_| units != "-");
+    let answers: Option<Vec<String>> = units.map(|unit| Some(heard(collector.take(&bytes(unit)?)))).collect();
+    Some(answers?.join(" "))
+}
+
+fn heard(heard: Heard) -> String {
+    match heard {
+        Heard::More => numbers(Ok(())),
+        Heard::Whole { octets, .. } => format!("F:{}", hex(&octets)),
+        Heard::Refused(refusal) => numbers(Err(refusal)),
+    }
 }
 
 fn numbers(answer: Result<(), Refusal>) -> String {
