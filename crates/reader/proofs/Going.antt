@@ -22,7 +22,7 @@ use Rattle.layout.specs.FieldNumbers.{gradientsField}
 use Rattle.record.specs.Records.{cell}
 use Rattle.record.specs.declared.Cell.{Cell}
 use Rattle.record_rules.specs.Rules.{rulesOf, lowest}
-use Rattle.text.proofs.Tests.{by-test}
+use Rattle.text.proofs.Tests.{by-test, by-eq}
 use Rattle.text.specs.Bytes.{same}
 use Rattle.value.specs.Kinds.{valueOf}
 use Rattle.value.specs.declared.Got.{Got}
@@ -45,6 +45,20 @@ pub record Going (l : Layout) (file : List ℕ) (row : Span) (places : List Span
   pub detail-is : r .detail ≡ 0
   pub head : Head l file places n k (r .cells)
 
+-- and with the first field that has no value, 0 where there is none yet: then the loop is over, and the reading is refused for it
+pub record Turned (c i : ℕ) (plan file : List ℕ) (l : Layout) (row : Span) (places : List Span) (gs : List Triple) (n k bad : ℕ) (r : Reading) : Type 0 where
+  pub going : bad ≡ 0 → Going l file row places gs n k r
+  pub over : (bad ≡ 0 → ⊥) → k ≡ n
+  pub told : (bad ≡ 0 → ⊥) → (y : Reading) → y ≡ unread 7 bad → y ≡ readingOf c i plan file
+
+pub still : {c i : ℕ} {plan file : List ℕ} {l : Layout} {row : Span} {places : List Span} {gs : List Triple} {n k bad : ℕ} {r : Reading}
+    → Turned c i plan file l row places gs n k bad r → k < n → bad ≡ 0
+still {bad = bad} t h = by-eq bad 0 (λ e. e) (λ e. absurd (omega (arith, t .over e)))
+
+pub running : {c i : ℕ} {plan file : List ℕ} {l : Layout} {row : Span} {places : List Span} {gs : List Triple} {n k bad : ℕ} {r : Reading}
+    → Turned c i plan file l row places gs n k bad r → k < n → Going l file row places gs n k r
+running t h = t .going (still t h)
+
 -- a reading with another number and detail, and with other cells
 abbrev pub numbered : ℕ → ℕ → Reading → Reading
 numbered n d r = record { number = n; detail = d; layout = r .layout; row = r .row; cells = r .cells; gradients = r .gradients; places = r .places }
@@ -59,6 +73,11 @@ module _ (c i : ℕ) (plan file : List ℕ) (x : Located) (h : Locates c i plan 
   abbrev col : List (List ℕ)
   col = columnAt (x .layout) file (x .places)
 
+  -- the verdict on the values at these places
+  abbrev judgedBy : ℕ → List ℕ → List Span → Early
+  judgedBy broken unit ps =
+      verdict broken (same unit (textAt (columnAt (x .layout) file ps) 2)) (same (partOf file (x .row)) (rowOf (x .layout) (columnAt (x .layout) file ps)))
+
   triples : r .gradients ≡ triplesOf (x .layout) col
   unfolding triplesOf
   triples = going .triples-are ∙ ap (λ (y : GradientsRead). y .list .values) gs
@@ -68,12 +87,14 @@ module _ (c i : ℕ) (plan file : List ℕ) (x : Located) (h : Locates c i plan 
   filling b f = record { ordered = h .stands z .ordered; inside = h .stands z .inside; placed = h .stands z .placed; filled = f; triples = triples }
 
   -- the next field
-  module _ (more : k < n) (v : Got) (read : v ≡ valueWith (x .layout) (k + 1) (g .good) (g .list .count) (partOf file (spanAt (x .places) (k + 1)))) where
+  module _ (more : k < n) (v : Got) (read : v ≡ valueWith (x .layout) (k + 1) (g .good) (g .list .count) (partOf file (spanAt (r .places) (k + 1)))) where
     in-size : k < sizeOf (x .layout)
     in-size = omega (arith, more, going .head .n-is)
 
     its-value : v ≡ valueOf (kindAt (x .layout) (k + 1)) (partOf file (spanAt (x .places) (k + 1)))
-    its-value = field-value (x .layout) file (x .places) k (going .head .placed) in-size g gs v read
+    its-value =
+        field-value (x .layout) file (x .places) k (going .head .placed) in-size g gs v
+        (read ∙ ap (λ (ps : List Span). valueWith (x .layout) (k + 1) (g .good) (g .list .count) (partOf file (spanAt ps (k + 1)))) (going .places-are))
 
     pub stopped : v ≡ Bad → {y : Reading} → y ≡ unread 7 (k + 1) → y ≡ readingOf c i plan file
     stopped e y-is =
@@ -108,18 +129,20 @@ module _ (c i : ℕ) (plan file : List ℕ) (x : Located) (h : Locates c i plan 
         }
 
   -- all of them are read: the verdict
-  module _ (done : n ≤ k) (broken : ℕ) (q : broken ≡ lowest (rulesOf (x .layout) (r .cells) (g .list .values))) (unit : List ℕ) (u : unit ≡ take (x .size) (x .unit))
-      (e : Early) (v : e ≡ verdict broken (same unit (textAt col 2)) (same (partOf file (x .row)) (rowOf (x .layout) col))) where
+  module _ (done : n ≤ k) (broken : ℕ) (q : broken ≡ lowest (rulesOf (x .layout) (r .cells) (r .gradients))) (unit : List ℕ) (u : unit ≡ take (x .size) (x .unit))
+      (e : Early) (judges : e ≡ judgedBy broken unit (r .places)) where
+    v : e ≡ judgedBy broken unit (x .places)
+    v = judges ∙ ap (judgedBy broken unit) (going .places-are)
+
     verdict-values : Values (x .layout) unit file (x .row) (x .places) (numbered (e .number) (e .detail) r)
     verdict-values =
         let all : sizeOf (x .layout) ≤ k = omega (arith, done, going .head .n-is) in
         let f = finish (x .layout) col k (r .cells) (going .head .sofar) all in
-        let b = q ∙ ap (λ (t : List Triple). lowest (rulesOf (x .layout) (r .cells) t)) (sym (going .triples-are)) in
         record {
           layout-is = going .layout-is;
           row-is = going .row-is;
           places-are = going .places-are;
-          judges = by-verdict (x .layout) unit file (x .row) (x .places) 0 (r .cells) (r .gradients) (filling 0 f) refl broken b e v;
+          judges = by-verdict (x .layout) unit file (x .row) (x .places) 0 (r .cells) (r .gradients) (filling 0 f) refl broken q e v;
         }
 
     pub refused-last : (e .number ≡ 0 → ⊥) → {y : Reading} → y ≡ unread (e .number) (e .detail) → y ≡ readingOf c i plan file

@@ -243,8 +243,8 @@ fn unread(number: u8, detail: usize) -> Reading
     }
 }
 
-// A file judged at an address of a plan. The cells are filled where they are handed back, and those that a rule asks for are taken from there: an array that
-// is handed on, or a struct that is made in two places, is taken apart by the compiler, each piece by itself.
+// A file judged at an address of a plan. The cells are filled where they are handed back, and what a rule or a row asks for is taken from there, each time by a
+// variable of its own: one that lived all through would be another copy on the stack. There is one way out of a refusal, and so one reading that is empty.
 pub fn judged(ca: u32, ioa: u32, plan: &[u8], file: &[u8]) -> Reading
     ensures { λ r. ⌜ r ≡ readingOf ca ioa (now (plan .entry)) (now (file .entry)) ⌝ }
 {
@@ -264,87 +264,102 @@ pub fn judged(ca: u32, ioa: u32, plan: &[u8], file: &[u8]) -> Reading
     if x.number != 0 {
         return r;
     }
-    let g = reader_fill::gradients_of(l, file, places);
+    let located = r.places;
+    let g = reader_fill::gradients_of(l, file, located);
     let list = g.list;
-    let gradients = list.values;
-    r.gradients = gradients;
+    let values = list.values;
+    r.gradients = values;
     let n = layout::size(l);
     let mut k = 0;
+    let mut bad: usize = 0;
     while k < n {
-        let Got::Read(v) = reader_fill::value_in(l, k + 1, file, places[k + 1], g.good, list.count)
-        else {
-            r = unread(7, k + 1);
-            return r;
-        };
-        let c = Cell { value: v };
-        r.cells[k] = c;
-        k += 1;
+        let got = reader_fill::value_in(l, k + 1, file, r.places[k + 1], g.good, list.count);
+        match got {
+            Got::Read(v) => {
+                let c = Cell { value: v };
+                r.cells[k] = c;
+                k += 1;
+            }
+            Got::Bad => {
+                bad = k + 1;
+                k = n;
+            }
+        }
     }
-    let broken = match l {
-        Layout::Market => record_rules::of_market(
-            r.cells[at::START],
-            r.cells[at::END],
-            r.cells[at::ORIGIN],
-            r.cells[at::UPDATE],
-            r.cells[at::H1],
-            r.cells[at::H2],
-            r.cells[at::H3],
-            r.cells[at::H4],
-            r.cells[at::H5],
-            r.cells[at::H6],
-            r.cells[at::GRADIENTS],
-            gradients,
-        ),
-        Layout::Mfrr => record_rules::of_ramps(
-            r.cells[at::START],
-            r.cells[at::TFIN1],
-            r.cells[at::TINI2],
-            r.cells[at::TFIN2],
-        ),
-        Layout::Exclusion => record_rules::of_exclusion(
-            r.cells[at::START],
-            r.cells[at::END],
-            r.cells[at::EB_REASON],
-            r.cells[at::READMISSION],
-        ),
-        Layout::Limitation => record_rules::of_limitation(
-            r.cells[at::START],
-            r.cells[at::END],
-            r.cells[at::MAXIMUM],
-            r.cells[at::MINIMUM],
-            r.cells[at::LB_REASON],
-            r.cells[at::REINSTATEMENT],
-        ),
-        Layout::Secondary => record_rules::of_secondary(
-            r.cells[at::START],
-            r.cells[at::END],
-            r.cells[at::OPERATION],
-            r.cells[at::HALF_BANDS],
-        ),
-        Layout::VoltVar => record_rules::of_volt_var(
-            r.cells[at::START],
-            r.cells[at::END],
-            r.cells[at::STATE],
-            r.cells[at::MODE],
-            r.cells[at::REGULATION],
-            r.cells[at::VOLTAGE],
-            r.cells[at::REGULATOR],
-            r.cells[at::CHANGE],
-            r.cells[at::REACTIVE],
-        ),
-        Layout::Reserve => record_rules::of_reserve(
-            r.cells[at::START],
-            r.cells[at::END],
-            r.cells[at::POWER],
-            r.cells[at::EXTENT],
-        ),
-        _ => record_rules::of_order(r.cells[at::START], r.cells[at::END]),
-    };
-    let unit = x.unit;
-    let early = judge(l, scan::front(&unit, x.size), file, row, places, broken);
-    if early.number != 0 {
-        r = unread(early.number, early.detail);
-        return r;
+    let mut number: u8 = 7;
+    let mut detail = bad;
+    if bad == 0 {
+        let broken = match l {
+            Layout::Market => {
+                let gradients = r.gradients;
+                record_rules::of_market(
+                    r.cells[at::START],
+                    r.cells[at::END],
+                    r.cells[at::ORIGIN],
+                    r.cells[at::UPDATE],
+                    r.cells[at::H1],
+                    r.cells[at::H2],
+                    r.cells[at::H3],
+                    r.cells[at::H4],
+                    r.cells[at::H5],
+                    r.cells[at::H6],
+                    r.cells[at::GRADIENTS],
+                    gradients,
+                )
+            },
+            Layout::Mfrr => record_rules::of_ramps(
+                r.cells[at::START],
+                r.cells[at::TFIN1],
+                r.cells[at::TINI2],
+                r.cells[at::TFIN2],
+            ),
+            Layout::Exclusion => record_rules::of_exclusion(
+                r.cells[at::START],
+                r.cells[at::END],
+                r.cells[at::EB_REASON],
+                r.cells[at::READMISSION],
+            ),
+            Layout::Limitation => record_rules::of_limitation(
+                r.cells[at::START],
+                r.cells[at::END],
+                r.cells[at::MAXIMUM],
+                r.cells[at::MINIMUM],
+                r.cells[at::LB_REASON],
+                r.cells[at::REINSTATEMENT],
+            ),
+            Layout::Secondary => record_rules::of_secondary(
+                r.cells[at::START],
+                r.cells[at::END],
+                r.cells[at::OPERATION],
+                r.cells[at::HALF_BANDS],
+            ),
+            Layout::VoltVar => record_rules::of_volt_var(
+                r.cells[at::START],
+                r.cells[at::END],
+                r.cells[at::STATE],
+                r.cells[at::MODE],
+                r.cells[at::REGULATION],
+                r.cells[at::VOLTAGE],
+                r.cells[at::REGULATOR],
+                r.cells[at::CHANGE],
+                r.cells[at::REACTIVE],
+            ),
+            Layout::Reserve => record_rules::of_reserve(
+                r.cells[at::START],
+                r.cells[at::END],
+                r.cells[at::POWER],
+                r.cells[at::EXTENT],
+            ),
+            _ => record_rules::of_order(r.cells[at::START], r.cells[at::END]),
+        };
+        let unit = x.unit;
+        let stand = r.places;
+        let early = judge(l, scan::front(&unit, x.size), file, row, stand, broken);
+        number = early.number;
+        detail = early.detail;
+    }
+    if number != 0 {
+        r = unread(number, detail);
     }
     r
 }
