@@ -5,11 +5,11 @@ use Rattle.text_lines.specs.Order.{Perm}
 use Rattle.text_lines.specs.Entries.{again}
 use Rattle.value_name.specs.declared.MessageType.{MessageType}
 use Rattle.plan.specs.declared.Sought.{Sought}
-use Rattle.reader.proofs.Firsts.{NoneHolds, none, next, none-given, accepted-none, numbers}
+use Rattle.reader.proofs.Firsts.{none-given, accepted-none, numbers}
 use Rattle.reader.specs.Messages.{given, rowIn, entriesIn}
 use Rattle.reader.specs.Reader.{Sound, recordIn, messageOf, unitIn, planned, answerAt, readOf}
 use Rattle.reader.specs.Refusals.{refused, answer, accepted as taken}
-use Rattle.text.specs.Refusals.{Refusal}
+use Rattle.text.specs.Refusals.{Refusal, NoneHolds, none, next}
 use Rattle.reader.specs.declared.Answer.{Answer}
 use Rattle.reader_theorems.proofs.Agreed.{Accepted, accepted}
 use Rattle.reader_theorems.proofs.Alike.{reordered, same-reading}

@@ -10,7 +10,7 @@ use Rattle.value_name.specs.declared.MessageType.{MessageType}
 use Rattle.value_name.specs.declared.MessageType.the-variants.{Cb, Rc, Mg, Eb, Lb, Sr, Vq, Ri, Qr}
 use Rattle.plan.specs.Plans.{planOf, soughtOf}
 use Rattle.plan.specs.declared.Sought.{Sought}
-use Rattle.reader.proofs.Firsts.{NoneHolds, next, accepted-none, numbers}
+use Rattle.reader.proofs.Firsts.{accepted-none, numbers}
 use Rattle.reader.proofs.Chosen.{type-in}
 use Rattle.reader.specs.Messages.{given, isKindOfCommand, layoutIn, valuesOf, columnRecord, goodOf}
 use Rattle.reader.specs.Reader.{bodyColumn, recordIn, messageOf, unitIn, planned, answerAt, readOf}
@@ -23,6 +23,7 @@ use Rattle.record.specs.Records.{recordOf}
 use Rattle.record.specs.declared.Record.{Record}
 use Rattle.writer_theorems.proofs.RoundTrip.{message-back, planned-back}
 use Rattle.text.specs.Bytes.{any}
+use Rattle.text.specs.Refusals.{NoneHolds, next}
 use Rattle.record_valid.specs.Valid.{textsOf, ValidAs}
 use Rattle.value.specs.declared.Value.{Value}
 use Rattle.writer_form.specs.Written.{fileOf}

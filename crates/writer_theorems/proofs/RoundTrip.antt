@@ -10,7 +10,7 @@ use Rattle.text_lines.specs.Spellings.{Spelling}
 use Rattle.value_name.specs.declared.MessageType.{MessageType}
 use Rattle.plan.specs.Plans.{planOf, soughtOf}
 use Rattle.plan.specs.declared.Sought.{Sought}
-use Rattle.reader.proofs.Firsts.{NoneHolds, none, next, answer-no, none-given}
+use Rattle.reader.proofs.Firsts.{answer-no, none-given}
 use Rattle.reader.specs.Messages.{given, rowIn, layoutIn, entriesIn, valuesOf, isBad, columnRecord, goodOf}
 use Rattle.reader.specs.Reader.{isThere, valued, labelled, reading, bodyColumn, recordIn, messageOf, unitIn, planned, answerAt, readOf}
 use Rattle.reader.specs.Refusals.{accepted}
@@ -22,6 +22,7 @@ use Rattle.writer_theorems.specs.Own.{Fitting, OwnAddress}
 use Rattle.record_rules.specs.Rules.{brokenIn}
 use Rattle.text.proofs.Cuts.{same-refl}
 use Rattle.text.specs.Bytes.{same, within}
+use Rattle.text.specs.Refusals.{NoneHolds, none, next}
 use Rattle.record_valid.specs.Valid.{textsOf, ValidAs, Valid}
 use Rattle.value.specs.Texts.{valueText}
 use Rattle.value.specs.declared.Value.{Value}
