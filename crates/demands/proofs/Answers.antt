@@ -6,7 +6,7 @@ use Rattle.report_brief.specs.Brief.{sixLines}
 use Rattle.demands.specs.Demand1.{isReaders, saysRoom, Leaves}
 use Rattle.gateway.specs.Entry.{lengthOr11, entryCode, outOf}
 use Rattle.plan.specs.Plans.{planOf, soughtOf}
-use Rattle.reader.proofs.Firsts.{given-first, numbers}
+use Rattle.reader.proofs.Firsts.{given-first}
 use Rattle.reader.specs.Reader.{valued, labelled, reading, recordIn, planned, answerAt, readOf}
 use Rattle.reader.specs.Refusals.{answer, IsFirst}
 use Rattle.text.specs.Refusals.{Refusal}
@@ -61,7 +61,7 @@ module _ (ca ioa : ℕ) (plan file : List ℕ) (refused : readOf ca ioa plan fil
   unfolding readOf answerAt
   refused-first =
       let s = soughtOf ca ioa (planOf plan) in
-      given-first (planned s file) (recordIn (s .message) file) (numbers s file) refused
+      given-first (planned s file) (recordIn (s .message) file) refused
 
   pub refused-file : readOf ca ioa plan file .content ≡ zeroRecord
   refused-file = ap (λ (a : Answer). a .content) (refused-first .says)

@@ -32,10 +32,11 @@ other-name s h =
     let b = eqb (octet s 3) 13 in
     let c = eqb (octet s 10) 1 in
     let d = eqb (octet s 11) 0 in
-    by-test (a && (b && (c && d)))
+    by-test (a && b && c && d)
     (λ e.
-    let p = and-parts c d (and-parts b (c && d) (and-parts a (b && (c && d)) e .1) .1) in
-    absurd (h (omega (arith, eqb-true (octet s 10) 1 (p .0), eqb-true (octet s 11) 0 (p .1)))))
+    let p = and-parts (a && b && c) d e in
+    let q = and-parts (a && b) c (p .0) in
+    absurd (h (omega (arith, eqb-true (octet s 10) 1 (q .1), eqb-true (octet s 11) 0 (p .1)))))
     (λ e. rw e)
 
 module _ (c : Collector) (s file : List ℕ) where
