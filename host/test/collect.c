@@ -45,13 +45,13 @@ static void most_sections(void) {
     expect("a 256th section", &more, section_ready(0, 1), 65536u * HALIMPUNG_COLLECT_TURN);
 }
 
-/* byte by byte; where no section is open its two numbers are not looked at */
+/* byte by byte: where no section is open, its two numbers are zero */
 static void expect_state(const struct collector *of, int after, int turn, int ended, unsigned start, unsigned due, unsigned count) {
     static const uint8_t address[] = { 7, 0, 45, 1, 0 };
     check(of->state[0] == turn && of->state[1] == ended, "after %d units: turn %d, %d ended", after, of->state[0], of->state[1]);
     check(memcmp(of->state + 2, address, sizeof address) == 0, "after %d units: another address", after);
     check(state_pair(of, 7) == GOOD_OCTETS && of->state[15] == 0, "after %d units: announced %u", after, state_pair(of, 7));
-    check(turn == 1 || (state_pair(of, 9) == start && state_pair(of, 11) == due), "after %d units: section from %u, of %u", after,
+    check(state_pair(of, 9) == start && state_pair(of, 11) == due, "after %d units: section from %u, of %u", after,
           state_pair(of, 9), state_pair(of, 11));
     check(state_pair(of, 13) == count, "after %d units: %u collected", after, state_pair(of, 13));
 }

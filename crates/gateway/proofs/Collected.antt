@@ -20,10 +20,11 @@ module _ (state unit file : List ℕ) (c : Collector) (is : c ≡ collectorIn st
       → (z ≡ collectCode (takenOf (collectorIn state) unit file .heard))
       × (next ≡ stateOf (takenOf (collectorIn state) unit file .collector))
       × (room ≡ roomAfter (collectorIn state) unit file)
-  collected next n h e z k =
-      (k ∙ ap collectCode (sym e) ∙ ap (λ (x : Taken). collectCode (x .heard)) took-it,
-      n ∙ ap (λ (x : Taken). stateOf (x .collector)) took-it,
-      took .1 ∙ ap (λ (x : Collector). roomAfter x unit file) is)
+  collected next n h e z k = (
+    k ∙ ap collectCode (sym e) ∙ ap (λ (x : Taken). collectCode (x .heard)) took-it,
+    n ∙ ap (λ (x : Taken). stateOf (x .collector)) took-it,
+    took .1 ∙ ap (λ (x : Collector). roomAfter x unit file) is,
+  )
 
   -- the length of a whole file fits
   pub few : (ca ioa n : ℕ) → t .heard ≡ Whole ca ioa n → n ≤ 8192

@@ -79,9 +79,6 @@ fn state_of(transfer: &Transfer) -> [u8; STATE] {
     state
 }
 
-/// Where no section is open, the state's two numbers of one may be any: they are taken as they came.
-const OF_SECTION: std::ops::Range<usize> = FENCE + 9..FENCE + 13;
-
 fn number(heard: &Heard) -> u32 {
     match heard {
         Heard::More => 0,
@@ -104,9 +101,6 @@ pub fn check(
         expected.note(&collector, &heard);
         let (state, file) = lent.parts();
         let (mine, theirs) = (ours(unit, state, file), number(&heard));
-        if collector.transfer.as_ref().is_some_and(|transfer| transfer.open.is_none()) {
-            expected.0[OF_SECTION].copy_from_slice(&lent.0[OF_SECTION]);
-        }
         match lent.first_difference(&expected) {
             None if mine == theirs => words.push(word(turn, unit, &heard)),
             byte => return Err(Difference { unit: place, ours: mine, theirs, byte }),

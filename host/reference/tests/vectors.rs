@@ -51,7 +51,7 @@ fn answers_as_given() {
     println!("agree, differ: {counts:?}; passed over: {passed_over} of {total}");
     assert!(counts.values().all(|count| count.1 == 0));
     assert!(passed_over * 10 <= total, "{passed_over} of {total} passed over");
-    for kind in ["read", "norm", "cread", "cnorm", "prog", "book"] {
+    for kind in ["read", "norm", "cread", "cnorm", "prog", "book", "collect"] {
         assert!(counts.contains_key(kind), "no case of {kind}");
     }
 }
