@@ -180,7 +180,7 @@ mod tests {
         assert_eq!(seen(8, |_, _, file| file[0] = b'a'), Some((8, Some("file 0".into()))));
         // the two numbers of a section, within one and between
         assert_eq!(seen(2, |_, state, _| state[11] = 9), Some((2, Some("state 11".into()))));
-        assert_eq!(seen(4, |_, state, _| state[11] = 9), None);
+        assert_eq!(seen(4, |_, state, _| state[11] = 9), Some((4, Some("state 11".into()))));
     }
 
     #[test]
