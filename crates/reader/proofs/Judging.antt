@@ -78,8 +78,9 @@ module _ (l : Layout) (file : List ℕ) (places : List Span) (p : Placed (sizeOf
   unit-text : partOf file (spanAt places 2) ≡ textAt (columnAt l file places) 2
   unit-text = let h : sizeOf l < length places = omega (arith, few l, p .long) in sym (column-at (sizeOf l) 2 file places (omega arith) two-few h)
 
-  pub unit-same : (unit : List ℕ) (b : Bool) → b ≡ same unit (partOf file (spanAt places 2)) → b ≡ same unit (textAt (columnAt l file places) 2)
-  unit-same unit b e = e ∙ ap (same unit) unit-text
+  pub unit-same : (unit front : List ℕ) → front ≡ unit → (b : Bool) → b ≡ same front (partOf file (spanAt places 2))
+      → b ≡ same unit (textAt (columnAt l file places) 2)
+  unit-same unit front f b e = e ∙ ap (λ (t : List ℕ). same t (partOf file (spanAt places 2))) f ∙ ap (same unit) unit-text
 
 -- ---- the ways out of `judge`
 

@@ -21,7 +21,7 @@ ghost use Rattle.reader.specs.Readings.{unread, readingOf};
 ghost use Rattle.reader.specs.State.{nowhere, placedAs, columnAt, Walks, Locates, verdict, concluded, isMfrr};
 ghost use Rattle.text.specs.Bytes.{same};
 ghost use lib.Count.{ones};
-ghost use lib.ListN.{length};
+ghost use lib.ListN.{length, take};
 ghost use mathlib.Core.Path.{_≡_};
 
 // A refusal's number and detail with the all-zero record, or the number 0 with the record. (An enum may hold no array.)
@@ -197,11 +197,19 @@ fn is_at(text: &[u8], file: &[u8], p: Span) -> bool
     scan::same(text, &file[from..to])
 }
 
-// Refusals 8 to 10: the lowest broken rule, the unit, the row.
-fn judge(l: Layout, unit: &[u8], file: &[u8], row: Span, places: [Span; 27], broken: u8) -> Early
+// Refusals 8 to 10: the lowest broken rule, the unit, which is the plan's where it is the first `size` bytes of its room, the row.
+fn judge(
+    l: Layout,
+    unit: [u8; 16],
+    size: usize,
+    file: &[u8],
+    row: Span,
+    places: [Span; 27],
+    broken: u8,
+) -> Early
     requires { ⌜ (row .from ≤ row .to) × (row .to ≤ length (now file)) × Placed (sizeOf l) (now file) places ⌝ }
     ensures { λ r. ⌜ r ≡ verdict broken
-        (same (now (unit .entry)) (textAt (columnAt l (now (file .entry)) places) unitNo))
+        (same (take size unit) (textAt (columnAt l (now (file .entry)) places) unitNo))
         (same (partOf (now (file .entry)) row) (rowOf l (columnAt l (now (file .entry)) places))) ⌝ }
 {
     if broken != 0 {
@@ -210,7 +218,7 @@ fn judge(l: Layout, unit: &[u8], file: &[u8], row: Span, places: [Span; 27], bro
             detail: broken as usize,
         };
     }
-    if !is_at(unit, file, places[fields::UNIT]) {
+    if !is_at(scan::front(&unit, size), file, places[fields::UNIT]) {
         return Early {
             number: 9,
             detail: 0,
@@ -354,7 +362,7 @@ pub fn judged(ca: u32, ioa: u32, plan: &[u8], file: &[u8]) -> Reading
         };
         let unit = x.unit;
         let stand = r.places;
-        let early = judge(l, scan::front(&unit, x.size), file, row, stand, broken);
+        let early = judge(l, unit, x.size, file, row, stand, broken);
         number = early.number;
         detail = early.detail;
     }

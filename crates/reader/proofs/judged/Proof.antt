@@ -48,8 +48,8 @@ abbrev bad : tie.After-enum-told Inv-loop μ-loop → tie.After-value-in Inv-loo
 bad c = c .before .before
 
 -- all fields were read, and the lowest broken rule found
-abbrev ruled : tie.After-front Inv-loop μ-loop → tie.At-match2-came Inv-loop μ-loop
-ruled c = c .before .before .before .before
+abbrev ruled : tie.After-stand Inv-loop μ-loop → tie.At-match2-came Inv-loop μ-loop
+ruled c = c .before .before
 
 -- ---- what is known there
 
@@ -62,10 +62,6 @@ at-k c = omega (arith, in-size c, few (located (c .before) .locate .result .layo
 
 room-at : (c : tie.In-loop Inv-loop μ-loop) → length (c .before .loop .r .cells) ≡ 26
 room-at c = running (c .before .loop .inv) (c .loop-test .taken) .head .room
-
--- the unit has its room
-unit-room : (c : tie.After-locate Inv-loop μ-loop) → length (c .locate .result .unit) ≡ 16
-unit-room c = search needs
 
 -- by the layout: the rules that it has, on the cells that they ask for
 broken-is : (c : tie.At-match2-came Inv-loop μ-loop)
@@ -160,8 +156,8 @@ last-refused c =
     (λ w.
     let m : tie.At-match2-came Inv-loop μ-loop = record { before = record { before = j .before; if2 = w .0 }; match2 = w .1 } in
     refused-last _ _ _ _ _ (located l .locate .ensures) (one g .if1 .left) _ (g .gradients-of .ensures) _ _ _ (l .loop .inv .going (w .0 .taken))
-    (j .before .loop-test .left) _ (broken-is m) _ (w .5 .ensures) _ (w .6 .ensures) (λ z. c .before .if3 .taken (w .7 ∙ z))
-    (c .unread .ensures ∙ ap₂ unread (w .7) (w .8)))
+    (j .before .loop-test .left) _ (broken-is m) _ refl _ (w .4 .ensures) (λ z. c .before .if3 .taken (w .5 ∙ z))
+    (c .unread .ensures ∙ ap₂ unread (w .5) (w .6)))
     (λ w. l .loop .inv .told (w .0 .left) _ (c .unread .ensures ∙ ap₂ unread (w .1) (w .2)))
     (j .if2 .came)
 
@@ -174,7 +170,7 @@ judged c =
     (λ w.
     let m : tie.At-match2-came Inv-loop μ-loop = record { before = record { before = j .before; if2 = w .0 }; match2 = w .1 } in
     all-read _ _ _ _ _ (located l .locate .ensures) (one g .if1 .left) _ (g .gradients-of .ensures) _ _ _ (l .loop .inv .going (w .0 .taken))
-    (j .before .loop-test .left) _ (broken-is m) _ (w .5 .ensures) _ (w .6 .ensures) (sym (w .7) ∙ c .if3 .left))
+    (j .before .loop-test .left) _ (broken-is m) _ refl _ (w .4 .ensures) (sym (w .5) ∙ c .if3 .left))
     (λ w. absurd (omega (arith, w .1, c .if3 .left)))
     (j .if2 .came)
 
@@ -263,8 +259,6 @@ judged-spec =
     (λ c κs. search needs)
     (λ c. search needs)
     (λ c. search needs)
-    (λ c κs. search needs)
-    (λ c. let m = c .before .before .before in sym (unit-room (located (m .before .before .before))))
     (λ c κs. search needs)
     judge-requires
     (λ c κs. search needs)
