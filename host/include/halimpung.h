@@ -22,7 +22,7 @@
    Threads and stack
    - The library has no variables, so calls may run at the same time on any threads, if no other thread writes to what they read, or
      touches what they write, meanwhile. No locks are taken and no signals are used.
-   - A call takes no heap and a bounded stack: 4,528 bytes were measured for reading and for normalising, 92 for collecting (tools/stack.c). Leave 6 KiB;
+   - A call takes no heap and a bounded stack: 4,496 bytes were measured for reading and for normalising, 92 for collecting (tools/stack.c). Leave 6 KiB;
      12 KiB where the loader binds symbols lazily: it looks memcpy up on the caller's stack, and the first call was measured at 8,408.
    - The code is x86-64 (System V calling convention) and calls memcpy and memset, nothing else. */
 #ifndef HALIMPUNG_H
