@@ -20,7 +20,7 @@ use Rattle.book_source.proofs.Comes.{instants-fit}
 use Rattle.book_lists.specs.Keyed.{keep, insert, greatest, Ascending}
 use Rattle.layout.specs.Layouts.{isCommand, isRevocation}
 use Rattle.layout.specs.declared.Layout.{Layout}
-use Rattle.book_ledger.specs.Calls.{Call, command, revoke, close, unfit}
+use Rattle.book_ledger.specs.Calls.{Call, command, revoke, close, deedOf, unfit}
 use Rattle.book_ledger.specs.Ledger.{answer, effect}
 use Rattle.book_order.specs.Messages.{orderOf, strikeOf}
 use Rattle.book_order.specs.Orders.{number, nameOf, named, live, pastEnd, strikeAt, already}
@@ -119,7 +119,7 @@ module _ (b : Book) (count : ℕ) (h : Holding b count) where
 
   -- a call that makes a book with these orders
   makes : (k : Call) (f : ℕ) (l m : List Order) (next : Book) → answer k (shelf b) ≡ 0 → next ≡ withOrders b f l → l ≡ packed m
-      → record { unit = shelf b .unit; floor = f; orders = m } ≡ effect k (shelf b) → outcome 0 next ≡ outcomeOf k b
+      → record { unit = shelf b .unit; floor = f; orders = m } ≡ effect (deedOf k) (shelf b) → outcome 0 next ≡ outcomeOf k b
   makes k f l m next a e p q =
       ap (outcome 0) e ∙ done k b l f (h .formed) a (with-book b f l m (h .size .wide) (h .formed) p ∙ ap bookOf q)
 

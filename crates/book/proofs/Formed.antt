@@ -9,7 +9,7 @@ use Rattle.book.specs.declared.InForce.the-variants.{Refused}
 use Rattle.book_lists.specs.Keyed.{keep}
 use Rattle.layout.proofs.Markets.{market-is}
 use Rattle.layout.specs.Layouts.{isMarket}
-use Rattle.book_ledger.specs.Calls.{Call, ask}
+use Rattle.book_ledger.specs.Calls.{Call, ask, deedOf}
 use Rattle.book_ledger.specs.Ledger.{answer, effect, inForce}
 use Rattle.text.proofs.Zeros.{zero-tells}
 use Rattle.value_name.specs.Names.{isUnit}
@@ -108,7 +108,7 @@ pub refused : (k : Call) (b : Book) (n : ℕ) → length (b .orders) ≡ 96 → 
 unfolding callNumber nextOf
 refused k b n h u e a z = rw (e, a, z) (ap (outcome n) (shelf-book b h u e))
 
-pub done : (k : Call) (b : Book) (l : List Order) (f : ℕ) → formedBook b ≡ true → answer k (shelf b) ≡ 0 → withOrders b f l ≡ bookOf (effect k (shelf b))
+pub done : (k : Call) (b : Book) (l : List Order) (f : ℕ) → formedBook b ≡ true → answer k (shelf b) ≡ 0 → withOrders b f l ≡ bookOf (effect (deedOf k) (shelf b))
     → outcome 0 (withOrders b f l) ≡ outcomeOf k b
 unfolding callNumber nextOf
 done k b l f e a q = rw (e, a) (ap (outcome 0) q)

@@ -7,7 +7,7 @@ use Rattle.book_lists.proofs.Sorting.{keep-insert, greatest-keep}
 use Rattle.book_lists.specs.Keyed.{Ascending}
 use Rattle.book_ledger.proofs.Strikes.{same-refl, apart, strike-named, strike-other, strike-dead, takes, accepted-step, step-keeps, step-unit, run-unit, ascending-step, ascending-from, ascending-run, run-append, answers-append}
 use Rattle.book_ledger.proofs.Without.{other, without, other-strike, unnamed, Alike, Unnamed, unnamed-on, sim-run}
-use Rattle.book_ledger.specs.Calls.{Call, command, revoke, close, ask, names}
+use Rattle.book_ledger.specs.Calls.{Call, command, revoke, close, ask, deedOf, names}
 use Rattle.book_ledger.specs.Demand.{whole, leftOut, found, taken, met, struck, end, itsName, Revoked, LeftOut}
 use Rattle.book_ledger.specs.Ledger.{Ledger, fresh, answer, effect, step, inForce, ledgers, run, answers}
 use Rattle.book_order.specs.Messages.{orderOf, strikeOf}
@@ -32,8 +32,8 @@ dead-strike n s h o d e t =
     let w : named (s .name) o ≡ false = untold (itself (named (s .name) o)) (λ f. true≢false (sym g ∙ apart (s .name) n h o f)) in
     ap (live t) (strike-other s o w) ∙ d g t
 
-dead-effect : (n : Name) (k : Call) (b : Ledger) → names n (b .unit) k ≡ false → answer k b ≡ 0 → All (Dead n) (b .orders)
-    → All (Dead n) ((effect k b) .orders)
+dead-effect : (n : Name) (k : Call) (b : Ledger) → names (b .unit) n k ≡ false → answer k b ≡ 0 → All (Dead n) (b .orders)
+    → All (Dead n) ((effect (deedOf k) b) .orders)
 dead-effect n (command r) b h a d =
     all-insert (Dead n) number (orderOf r) (b .orders)
     (λ e. absurd (true≢false (sym e ∙ unnamed isCommand (b .unit) r _ (named n (orderOf r)) a h))) d
@@ -90,31 +90,31 @@ revocation-dead r n b e a =
 
 module _ (unit : List ℕ) (before between after : List Call) (c v : Record) where
   -- the whole run's: those, and 0 to the command and 0 to the revocation
-  pub whole-answers : Revoked ledgers (fresh unit) unit before between after c v
-      → answers (whole ledgers (fresh unit) unit before between after c v) (fresh unit)
+  pub whole-answers : Revoked ledgers (fresh unit) (names unit) before between after c v
+      → answers (whole ledgers (fresh unit) (names unit) before between after c v) (fresh unit)
       ≡ answers before (fresh unit)
-      ++ (0 ∷ (answers between (taken ledgers (fresh unit) unit before between after c v) ++ (0 ∷ answers after (struck ledgers (fresh unit) unit before between after c v))))
+      ++ (0 ∷ (answers between (taken ledgers (fresh unit) (names unit) before between after c v) ++ (0 ∷ answers after (struck ledgers (fresh unit) (names unit) before between after c v))))
   whole-answers q =
       rw (
         answers-append before (command c ∷ (between ++ (revoke v ∷ after))) (fresh unit),
-        answers-append between (revoke v ∷ after) (taken ledgers (fresh unit) unit before between after c v),
+        answers-append between (revoke v ∷ after) (taken ledgers (fresh unit) (names unit) before between after c v),
         q .was-revoked,
         q .was-taken,
       )
 
-  whole-end : run (whole ledgers (fresh unit) unit before between after c v) (fresh unit) ≡ end ledgers (fresh unit) unit before between after c v
+  whole-end : run (whole ledgers (fresh unit) (names unit) before between after c v) (fresh unit) ≡ end ledgers (fresh unit) (names unit) before between after c v
   whole-end =
       run-append before (command c ∷ (between ++ (revoke v ∷ after))) (fresh unit)
-      ∙ run-append between (revoke v ∷ after) (taken ledgers (fresh unit) unit before between after c v)
+      ∙ run-append between (revoke v ∷ after) (taken ledgers (fresh unit) (names unit) before between after c v)
 
-  pub removal : Revoked ledgers (fresh unit) unit before between after c v → LeftOut ledgers (fresh unit) unit before between after c v
+  pub removal : Revoked ledgers (fresh unit) (names unit) before between after c v → LeftOut ledgers (fresh unit) (names unit) before between after c v
   removal q =
-      let n : Name = itsName ledgers (fresh unit) unit before between after c v in
-      let b₀ : Ledger = found ledgers (fresh unit) unit before between after c v in
-      let b₁ : Ledger = taken ledgers (fresh unit) unit before between after c v in
-      let b₂ : Ledger = met ledgers (fresh unit) unit before between after c v in
-      let b₃ : Ledger = struck ledgers (fresh unit) unit before between after c v in
-      let b₄ : Ledger = end ledgers (fresh unit) unit before between after c v in
+      let n : Name = itsName ledgers (fresh unit) (names unit) before between after c v in
+      let b₀ : Ledger = found ledgers (fresh unit) (names unit) before between after c v in
+      let b₁ : Ledger = taken ledgers (fresh unit) (names unit) before between after c v in
+      let b₂ : Ledger = met ledgers (fresh unit) (names unit) before between after c v in
+      let b₃ : Ledger = struck ledgers (fresh unit) (names unit) before between after c v in
+      let b₄ : Ledger = end ledgers (fresh unit) (names unit) before between after c v in
       let s₁ : Ascending number (b₁ .orders) = ascending-step (command c) b₀ (ascending-run unit before) in
       let s₃ : Ascending number (b₃ .orders) = ascending-step (revoke v) b₂ (ascending-from between b₁ s₁) in
       let u₁ : b₁ .unit ≡ unit = step-unit (command c) b₀ ∙ run-unit before (fresh unit) in
@@ -125,7 +125,7 @@ module _ (unit : List ℕ) (before between after : List Call) (c v : Record) whe
       let m : Alike n between b₁ = sim-run n between b₁ s₁ h₁ (q .room-between) in
       let e₃ : run between b₀ ≡ without n b₃ = ap (run between) (sym e₁) ∙ m .same-end ∙ sym (revocation-removed v n b₂ (q .by-name) (q .was-revoked)) in
       let p : Alike n after b₃ = sim-run n after b₃ s₃ h₃ (q .room-after) in
-      let e₄ : run (leftOut ledgers (fresh unit) unit before between after c v) (fresh unit) ≡ without n b₄ =
+      let e₄ : run (leftOut ledgers (fresh unit) (names unit) before between after c v) (fresh unit) ≡ without n b₄ =
       run-append before (between ++ after) (fresh unit) ∙ run-append between after b₀ ∙ ap (run after) e₃ ∙ p .same-end in
       let d : All (Dead n) (b₄ .orders) = dead-run n after b₃ h₃ (revocation-dead v n b₂ (q .by-name) (q .was-revoked)) in
       record {

@@ -5,7 +5,7 @@ use Rattle.book_lists.proofs.Sorting.{ascending-keep, ascending-insert, ascendi
 use Rattle.book_lists.specs.Keyed.{Ascending}
 use Rattle.layout.specs.Layouts.{isCommand}
 use Rattle.layout.specs.declared.Layout.{Layout}
-use Rattle.book_ledger.specs.Calls.{Call, command, revoke, close, ask, fitFor}
+use Rattle.book_ledger.specs.Calls.{Call, command, Deed, hold, strike, shut, look, deedOf, fitFor}
 use Rattle.book_ledger.specs.Ledger.{Ledger, fresh, answer, effect, step, run, answers}
 use Rattle.book_order.specs.Messages.{orderOf, strikeOf}
 use Rattle.book_order.specs.Orders.{Name, nameOf, sameName, named, number, live, pastEnd, Strike, strikeAt, already}
@@ -104,36 +104,36 @@ takes r b a =
 
 -- ---- calls
 
-pub accepted-step : (k : Call) (b : Ledger) → answer k b ≡ 0 → step k b ≡ effect k b
+pub accepted-step : (k : Call) (b : Ledger) → answer k b ≡ 0 → step k b ≡ effect (deedOf k) b
 accepted-step k b a = rw a
 
 -- what an accepted call keeps, every call keeps
-pub step-keeps : (P : Ledger → Type 0) (k : Call) (b : Ledger) → (answer k b ≡ 0 → P b → P (effect k b)) → P b → P (step k b)
+pub step-keeps : (P : Ledger → Type 0) (k : Call) (b : Ledger) → (answer k b ≡ 0 → P b → P (effect (deedOf k) b)) → P b → P (step k b)
 step-keeps P k b h p = by-test (eqb (answer k b) 0) (λ e. rw e (h (eqb-true (answer k b) 0 e) p)) (λ e. rw e p)
 
 -- the unit stays
-effect-unit : (k : Call) (b : Ledger) → (effect k b) .unit ≡ b .unit
-effect-unit (command r) b = refl
-effect-unit (revoke r) b = refl
-effect-unit (close t) b = refl
-effect-unit (ask t) b = refl
+effect-unit : (d : Deed) (b : Ledger) → (effect d b) .unit ≡ b .unit
+effect-unit (hold o) b = refl
+effect-unit (strike s) b = refl
+effect-unit (shut t) b = refl
+effect-unit (look t) b = refl
 
 pub step-unit : (k : Call) (b : Ledger) → (step k b) .unit ≡ b .unit
-step-unit k b = step-keeps (λ c. c .unit ≡ b .unit) k b (λ a p. effect-unit k b) refl
+step-unit k b = step-keeps (λ c. c .unit ≡ b .unit) k b (λ a p. effect-unit (deedOf k) b) refl
 
 pub run-unit : (ks : List Call) (b : Ledger) → (run ks b) .unit ≡ b .unit
 run-unit [] b = refl
 run-unit (k ∷ ks) b = run-unit ks (step k b) ∙ step-unit k b
 
 -- the orders stay in order
-ascending-effect : (k : Call) (b : Ledger) → Ascending number (b .orders) → Ascending number ((effect k b) .orders)
-ascending-effect (command r) b s = ascending-insert number (orderOf r) (b .orders) s
-ascending-effect (revoke r) b s = ascending-map number (strikeAt (strikeOf r)) (strike-key (strikeOf r)) (b .orders) s
-ascending-effect (close t) b s = ascending-keep number (pastEnd t) (b .orders) s
-ascending-effect (ask t) b s = s
+ascending-effect : (d : Deed) (b : Ledger) → Ascending number (b .orders) → Ascending number ((effect d b) .orders)
+ascending-effect (hold o) b s = ascending-insert number o (b .orders) s
+ascending-effect (strike x) b s = ascending-map number (strikeAt x) (strike-key x) (b .orders) s
+ascending-effect (shut t) b s = ascending-keep number (pastEnd t) (b .orders) s
+ascending-effect (look t) b s = s
 
 pub ascending-step : (k : Call) (b : Ledger) → Ascending number (b .orders) → Ascending number ((step k b) .orders)
-ascending-step k b s = step-keeps (λ c. Ascending number (c .orders)) k b (λ a. ascending-effect k b) s
+ascending-step k b s = step-keeps (λ c. Ascending number (c .orders)) k b (λ a. ascending-effect (deedOf k) b) s
 
 pub ascending-from : (ks : List Call) (b : Ledger) → Ascending number (b .orders) → Ascending number ((run ks b) .orders)
 ascending-from [] b s = s

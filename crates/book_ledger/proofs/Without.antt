@@ -8,9 +8,9 @@ use Rattle.book_lists.specs.Keyed.{keep, Ascending}
 use Rattle.layout.specs.Layouts.{isCommand, isRevocation}
 use Rattle.layout.specs.declared.Layout.{Layout}
 use Rattle.book_ledger.proofs.Strikes.{apart, strike-named, already-named, ladder, fit, step-unit, ascending-step}
-use Rattle.book_ledger.specs.Calls.{Call, command, revoke, close, ask, fitFor, names}
+use Rattle.book_ledger.specs.Calls.{Call, command, revoke, close, ask, deedOf, fitFor, names}
 use Rattle.book_ledger.specs.Demand.{wantsPlace}
-use Rattle.book_ledger.specs.Ledger.{Ledger, answer, effect, step, run, answers}
+use Rattle.book_ledger.specs.Ledger.{Ledger, isFull, answerIn, answer, effect, step, run, answers}
 use Rattle.book_order.specs.Messages.{orderOf, strikeOf}
 use Rattle.book_order.specs.Orders.{Name, nameOf, sameName, named, number, pastEnd, Strike, strikeAt, already}
 use Rattle.book_order.specs.declared.Order.{Order}
@@ -57,40 +57,48 @@ rungs false b c x y e h = refl
 
 -- ---- one call that does not name n and is not refused for want of a place: the same answer, and the books stay so related
 
-pub sim-answer : (n : Name) (k : Call) (b : Ledger) → names n (b .unit) k ≡ false → wantsPlace (answer k b) ≡ false
-    → answer k (without n b) ≡ answer k b
-sim-answer n (command r) b h e =
+-- whatever says that no place is left, f of the one book and g of the other: leaving orders out makes room
+pub sim-in : (f g : Bool) → (f ≡ false → g ≡ false) → (n : Name) (k : Call) (b : Ledger) → names (b .unit) n k ≡ false → wantsPlace (answerIn f k b) ≡ false
+    → answerIn g k (without n b) ≡ answerIn f k b
+sim-in f g w n (command r) b h e =
     let m : Name = nameOf (orderOf r) in
-    rungs (isValid r) (isCommand (r .layout)) (same (unitOf r) (b .unit)) _ _ e (λ f e₀.
-    rw (any-keep (named m) (other n) (named-other m n (rw f at h)) (b .orders))
+    rungs (isValid r) (isCommand (r .layout)) (same (unitOf r) (b .unit)) _ _ e (λ i e₀.
+    rw (any-keep (named m) (other n) (named-other m n (rw i at h)) (b .orders))
     (rung (leb (orderOf r .end) (b .floor)) 23 _ _ e₀ (λ e₁.
     rung (any (named m) (b .orders)) 22 _ _ e₁ (λ e₂.
-    last-rung (leb 96 (length (b .orders))) (leb 96 (length (keep (other n) (b .orders))))
-    (λ w. lt-leb 96 (length (keep (other n) (b .orders))) (omega (arith, leb-false 96 (length (b .orders)) w, length-keep (other n) (b .orders)))) e₂))))
-sim-answer n (revoke r) b h e =
+    last-rung f g w e₂))))
+sim-in f g w n (revoke r) b h e =
     let s : Strike = strikeOf r in
-    rungs (isValid r) (isRevocation (r .layout)) (same (unitOf r) (b .unit)) _ _ e (λ f e₀.
+    rungs (isValid r) (isRevocation (r .layout)) (same (unitOf r) (b .unit)) _ _ e (λ i e₀.
     rw (
-      any-keep (named (s .name)) (other n) (named-other (s .name) n (rw f at h)) (b .orders),
-      any-keep (already s) (other n) (λ o t. named-other (s .name) n (rw f at h) o (already-named s o t)) (b .orders),
+      any-keep (named (s .name)) (other n) (named-other (s .name) n (rw i at h)) (b .orders),
+      any-keep (already s) (other n) (λ o t. named-other (s .name) n (rw i at h) o (already-named s o t)) (b .orders),
     ))
-sim-answer n (close t) b h e = refl
-sim-answer n (ask t) b h e = refl
+sim-in f g w n (close t) b h e = refl
+sim-in f g w n (ask t) b h e = refl
+
+-- of ninety-six places
+pub room-left : (n : Name) (b : Ledger) → isFull b ≡ false → isFull (without n b) ≡ false
+room-left n b w = lt-leb 96 (length (keep (other n) (b .orders))) (omega (arith, leb-false 96 (length (b .orders)) w, length-keep (other n) (b .orders)))
+
+pub sim-answer : (n : Name) (k : Call) (b : Ledger) → names (b .unit) n k ≡ false → wantsPlace (answer k b) ≡ false
+    → answer k (without n b) ≡ answer k b
+sim-answer n k b h e = sim-in (isFull b) (isFull (without n b)) (room-left n b) n k b h e
 
 -- an accepted message that does not name n is of another name
 pub unnamed : (right : Layout → Bool) (unit : List ℕ) (r : Record) (x : ℕ) (t : Bool) → ladder (isValid r) (right (r .layout)) (same (unitOf r) unit) x ≡ 0
     → fitFor right unit r && t ≡ false → t ≡ false
 unnamed right unit r x t a h = rw (fit right unit r x a .0) at h
 
-sim-effect : (n : Name) (k : Call) (b : Ledger) → Ascending number (b .orders) → names n (b .unit) k ≡ false → answer k b ≡ 0
-    → effect k (without n b) ≡ without n (effect k b)
+sim-effect : (n : Name) (k : Call) (b : Ledger) → Ascending number (b .orders) → names (b .unit) n k ≡ false → answer k b ≡ 0
+    → effect (deedOf k) (without n b) ≡ without n (effect (deedOf k) b)
 sim-effect n (command r) b s h a =
     rw (keep-insert number (other n) (orderOf r) (b .orders) s, unnamed isCommand (b .unit) r _ (named n (orderOf r)) a h)
 sim-effect n (revoke r) b s h a = rw (keep-map (other n) (strikeAt (strikeOf r)) (other-strike n (strikeOf r)) (b .orders))
 sim-effect n (close t) b s h a = rw (keep-comm (other n) (pastEnd t) (b .orders))
 sim-effect n (ask t) b s h a = refl
 
-pub sim-step : (n : Name) (k : Call) (b : Ledger) → Ascending number (b .orders) → names n (b .unit) k ≡ false → wantsPlace (answer k b) ≡ false
+pub sim-step : (n : Name) (k : Call) (b : Ledger) → Ascending number (b .orders) → names (b .unit) n k ≡ false → wantsPlace (answer k b) ≡ false
     → step k (without n b) ≡ without n (step k b)
 sim-step n k b s h e =
     rw (sim-answer n k b h e)
@@ -105,12 +113,12 @@ pub record Alike (n : Name) (ks : List Call) (b : Ledger) : Type 0 where
 
 -- no call of a list names n; nor after one of them
 abbrev pub Unnamed : Name → List Call → Ledger → Type 0
-Unnamed n ks b = any (names n (b .unit)) ks ≡ false
+Unnamed n ks b = any (names (b .unit) n) ks ≡ false
 
-pub unnamed-on : (n : Name) (k : Call) (ks : List Call) (b : Ledger) → Unnamed n (k ∷ ks) b → (names n (b .unit) k ≡ false) × Unnamed n ks (step k b)
+pub unnamed-on : (n : Name) (k : Call) (ks : List Call) (b : Ledger) → Unnamed n (k ∷ ks) b → (names (b .unit) n k ≡ false) × Unnamed n ks (step k b)
 unfolding any
 unnamed-on n k ks b h =
-    let p = or-parts (names n (b .unit) k) (any (names n (b .unit)) ks) h in
+    let p = or-parts (names (b .unit) n k) (any (names (b .unit) n) ks) h in
     (p .0, rw (step-unit k b) (p .1))
 
 pub sim-run : (n : Name) (ks : List Call) (b : Ledger) → Ascending number (b .orders) → Unnamed n ks b → any wantsPlace (answers ks b) ≡ false

@@ -5,7 +5,8 @@ use Rattle.report_brief.specs.Brief.{unitOf}
 use Rattle.layout.specs.Layouts.{isCommand, isRevocation}
 use Rattle.layout.specs.declared.Layout.{Layout}
 use Rattle.book_order.specs.Messages.{orderOf, strikeOf}
-use Rattle.book_order.specs.Orders.{Name, sameName, nameOf}
+use Rattle.book_order.specs.Orders.{Name, sameName, nameOf, Strike}
+use Rattle.book_order.specs.declared.Order.{Order}
 use Rattle.record.specs.declared.Record.{Record}
 use Rattle.text.specs.Bytes.{same}
 use Rattle.text.specs.Refusals.{Refusal, refusal}
@@ -28,9 +29,29 @@ unfit right unit r rest = refusal 12 0 (not (isValid r)) ∷ refusal 29 0 (not (
 abbrev pub fitFor : (Layout → Bool) → List ℕ → Record → Bool
 fitFor right unit r = isValid r && (right (r .layout) && same (unitOf r) unit)
 
+-- what a call does to the book, once its message is fit: an order is held, one is struck, the time up to t is shut, what is in force at t is looked up
+pub data Deed : Type 0 where
+  hold : Order → Deed
+  strike : Strike → Deed
+  shut : ℕ → Deed
+  look : ℕ → Deed
+
+abbrev pub deedOf : Call → Deed
+deedOf (command r) = hold (orderOf r)
+deedOf (revoke r) = strike (strikeOf r)
+deedOf (close t) = shut t
+deedOf (ask t) = look t
+
+-- the refusals for a call's message alone, and then the rest
+abbrev pub unfitOf : List ℕ → Call → List Refusal → List Refusal
+unfitOf unit (command r) rest = unfit isCommand unit r rest
+unfitOf unit (revoke r) rest = unfit isRevocation unit r rest
+unfitOf unit (close t) rest = rest
+unfitOf unit (ask t) rest = rest
+
 -- whether a call on a book for the unit names an order by this name. (A message refused for itself names none)
-abbrev pub names : Name → List ℕ → Call → Bool
-names n unit (command r) = fitFor isCommand unit r && sameName (nameOf (orderOf r)) n
-names n unit (revoke r) = fitFor isRevocation unit r && sameName (strikeOf r .name) n
-names n unit (close t) = false
-names n unit (ask t) = false
+abbrev pub names : List ℕ → Name → Call → Bool
+names unit n (command r) = fitFor isCommand unit r && sameName (nameOf (orderOf r)) n
+names unit n (revoke r) = fitFor isRevocation unit r && sameName (strikeOf r .name) n
+names unit n (close t) = false
+names unit n (ask t) = false

@@ -1,7 +1,6 @@
 -- Demand 3's second half, in its words, of any keeper: a run in which a command was taken and later revoked, no other call after the command named its
 -- number, and none after it was refused for want of a place; the same run with that command and that revocation left out; and what is the same of them.
 use Prim.Native.Nat.{ℕ, _≤_}
-use Rattle.book_ledger.specs.Calls.{Call, command, revoke, names}
 use Rattle.book_ledger.specs.Keepers.{Keeper, run, answers}
 use Rattle.book_order.specs.Messages.{orderOf, strikeOf}
 use Rattle.book_order.specs.Orders.{Name, nameOf}
@@ -16,13 +15,14 @@ use mathlib.Core.Path.{_≡_}
 abbrev pub wantsPlace : ℕ → Bool
 wantsPlace a = eqb a 24
 
--- a keeper for a unit; calls `before` from where it starts, the command of record c, calls `between`, the revocation of record v, calls `after`
-module _ (m : Keeper) (start : m .State) (unit : List ℕ) (before between after : List Call) (c v : Record) where
-  abbrev pub whole : List Call
-  whole = before ++ (command c ∷ (between ++ (revoke v ∷ after)))
+-- a keeper, and which of its calls name an order; calls `before` from where it starts, the command of record c, calls `between`, the revocation of
+-- record v, calls `after`
+module _ (m : Keeper) (start : m .State) (names : Name → m .Call → Bool) (before between after : List (m .Call)) (c v : Record) where
+  abbrev pub whole : List (m .Call)
+  whole = before ++ (m .command c ∷ (between ++ (m .revoke v ∷ after)))
 
   -- the same run with the command and the revocation left out
-  abbrev pub leftOut : List Call
+  abbrev pub leftOut : List (m .Call)
   leftOut = before ++ (between ++ after)
 
   -- the states of the whole run: where the command finds it and leaves it, where the revocation finds it and leaves it, and at the end
@@ -30,13 +30,13 @@ module _ (m : Keeper) (start : m .State) (unit : List ℕ) (before between after
   found = run m before start
 
   abbrev pub taken : m .State
-  taken = m .step (command c) found
+  taken = m .step (m .command c) found
 
   abbrev pub met : m .State
   met = run m between taken
 
   abbrev pub struck : m .State
-  struck = m .step (revoke v) met
+  struck = m .step (m .revoke v) met
 
   abbrev pub end : m .State
   end = run m after struck
@@ -46,11 +46,11 @@ module _ (m : Keeper) (start : m .State) (unit : List ℕ) (before between after
 
   -- what is asked of the whole run
   pub record Revoked : Type 0 where
-    pub was-taken : m .answer (command c) found ≡ 0
-    pub was-revoked : m .answer (revoke v) met ≡ 0
+    pub was-taken : m .answer (m .command c) found ≡ 0
+    pub was-revoked : m .answer (m .revoke v) met ≡ 0
     pub by-name : strikeOf v .name ≡ itsName
-    pub unnamed-between : any (names itsName unit) between ≡ false
-    pub unnamed-after : any (names itsName unit) after ≡ false
+    pub unnamed-between : any (names itsName) between ≡ false
+    pub unnamed-after : any (names itsName) after ≡ false
     pub room-between : any wantsPlace (answers m between taken) ≡ false
     pub room-after : any wantsPlace (answers m after struck) ≡ false
 

@@ -1,17 +1,15 @@
 -- The book as document 01 has it: its unit, its floor and the held orders by ascending number; each call's answer, and what it does.
 use Prim.Native.Nat.{ℕ}
-use Rattle.layout.specs.Layouts.{isCommand, isRevocation}
 use Rattle.book_lists.specs.Keyed.{keep, insert, greatest}
-use Rattle.book_ledger.specs.Calls.{Call, command, revoke, close, ask, unfit}
+use Rattle.book_ledger.specs.Calls.{Call, command, revoke, Deed, hold, strike, shut, look, deedOf, unfitOf}
 use Rattle.book_ledger.specs.Keepers.{Keeper, run as runOf, answers as answersOf, accepted as acceptedOf}
-use Rattle.book_order.specs.Messages.{orderOf, strikeOf}
 use Rattle.book_order.specs.Orders.{number, nameOf, named, live, pastEnd, strikeAt, already}
 use Rattle.book_order.specs.declared.Order.{Order}
 use Rattle.text.specs.Bytes.{any}
-use Rattle.text.specs.Refusals.{refusal, firstNumber}
+use Rattle.text.specs.Refusals.{Refusal, refusal, firstNumber}
 use lib.Dec.{eqb, leb, ltb}
 use lib.ListN.{length}
-use mathlib.Core.Bool.{not, cond}
+use mathlib.Core.Bool.{Bool, not, cond}
 use mathlib.Core.List.{List, [], _∷_, map}
 
 pub record Ledger : Type 0 where
@@ -23,35 +21,37 @@ pub record Ledger : Type 0 where
 abbrev pub fresh : List ℕ → Ledger
 fresh unit = record { unit = unit; floor = 0; orders = [] }
 
--- THE DEFINITION: a call's answer, 0 where it is accepted, and else the refusal's number
--- command: 12, 29, 21, 23 its end is at or below the floor, 22 its number is held, 24 ninety-six are held
--- revocation: 12, 29, 21, 25 its number is not held, 26 the order is struck already
--- close: 27 below the floor; in force: 28 below the floor
-abbrev pub answer : Call → Ledger → ℕ
-answer (command r) b =
-    firstNumber (unfit isCommand (b .unit) r
-    (refusal 23 0 (leb (orderOf r .end) (b .floor))
-    ∷ refusal 22 0 (any (named (nameOf (orderOf r))) (b .orders))
-    ∷ refusal 24 0 (leb 96 (length (b .orders)))
-    ∷ []))
-answer (revoke r) b =
-    firstNumber (unfit isRevocation (b .unit) r
-    (refusal 25 0 (not (any (named (strikeOf r .name)) (b .orders)))
-    ∷ refusal 26 0 (any (already (strikeOf r)) (b .orders))
-    ∷ []))
-answer (close t) b = firstNumber (refusal 27 0 (ltb t (b .floor)) ∷ [])
-answer (ask t) b = firstNumber (refusal 28 0 (ltb t (b .floor)) ∷ [])
+-- what a deed is refused for; `full` says that no place is left
+-- hold: 23 its end is at or below the floor, 22 its number is held, 24 no place is left
+-- strike: 25 its number is not held, 26 the order is struck already
+-- shut: 27 below the floor; look: 28 below the floor
+abbrev pub rungsOf : Bool → Deed → Ledger → List Refusal
+rungsOf full (hold o) b = refusal 23 0 (leb (o .end) (b .floor)) ∷ refusal 22 0 (any (named (nameOf o)) (b .orders)) ∷ refusal 24 0 (full) ∷ []
+rungsOf full (strike s) b = refusal 25 0 (not (any (named (s .name)) (b .orders))) ∷ refusal 26 0 (any (already s) (b .orders)) ∷ []
+rungsOf full (shut t) b = refusal 27 0 (ltb t (b .floor)) ∷ []
+rungsOf full (look t) b = refusal 28 0 (ltb t (b .floor)) ∷ []
 
--- what an accepted call does: the order is held; it is struck; the floor is t and orders with end ≤ t go; nothing
-abbrev pub effect : Call → Ledger → Ledger
-effect (command r) b = record { unit = b .unit; floor = b .floor; orders = insert number (orderOf r) (b .orders) }
-effect (revoke r) b = record { unit = b .unit; floor = b .floor; orders = map (strikeAt (strikeOf r)) (b .orders) }
-effect (close t) b = record { unit = b .unit; floor = t; orders = keep (pastEnd t) (b .orders) }
-effect (ask t) b = b
+-- ninety-six are held
+abbrev pub isFull : Ledger → Bool
+isFull b = leb 96 (length (b .orders))
+
+-- THE DEFINITION: a call's answer, 0 where it is accepted, and else the refusal's number: 12, 29, 21 for the message alone, and then the deed's
+abbrev pub answerIn : Bool → Call → Ledger → ℕ
+answerIn full k b = firstNumber (unfitOf (b .unit) k (rungsOf full (deedOf k) b))
+
+abbrev pub answer : Call → Ledger → ℕ
+answer k b = answerIn (isFull b) k b
+
+-- what an accepted deed does: the order is held; it is struck; the floor is t and orders with end ≤ t go; nothing
+abbrev pub effect : Deed → Ledger → Ledger
+effect (hold o) b = record { unit = b .unit; floor = b .floor; orders = insert number o (b .orders) }
+effect (strike s) b = record { unit = b .unit; floor = b .floor; orders = map (strikeAt s) (b .orders) }
+effect (shut t) b = record { unit = b .unit; floor = t; orders = keep (pastEnd t) (b .orders) }
+effect (look t) b = b
 
 -- a refusal changes nothing
 abbrev pub step : Call → Ledger → Ledger
-step k b = cond (eqb (answer k b) 0) (effect k b) b
+step k b = cond (eqb (answer k b) 0) (effect (deedOf k) b) b
 
 -- the order in force at t, of those not struck with start ≤ t < end the greatest number: one more than that, or 0 for none
 abbrev pub inForce : ℕ → Ledger → ℕ
@@ -62,6 +62,9 @@ abbrev pub ledgers : Keeper
 ledgers =
     record {
       State = Ledger;
+      Call = Call;
+      command = command;
+      revoke = revoke;
       answer = answer;
       step = step;
       floor = λ (b : Ledger). b .floor;

@@ -8,7 +8,7 @@ use Rattle.book_lists.proofs.Keeping.{length-keep}
 use Rattle.book_lists.proofs.Sorting.{length-insert}
 use Rattle.book_lists.specs.Keyed.{keep, insert}
 use Rattle.book_ledger.proofs.Strikes.{strike-key, strike-end, takes, step-keeps}
-use Rattle.book_ledger.specs.Calls.{Call, command, revoke, close, ask, fitFor}
+use Rattle.book_ledger.specs.Calls.{Call, command, revoke, close, ask, deedOf, fitFor}
 use Rattle.book_ledger.specs.Ledger.{Ledger, fresh, answer, effect, step}
 use Rattle.value_name.specs.Names.{isUnit}
 use Rattle.book_order.specs.Messages.{orderOf, strikeOf}
@@ -100,7 +100,7 @@ pub record Fits (b : Ledger) : Type 0 where
 pub fits-fresh : (unit : List ℕ) → isUnit unit ≡ true → Fits (fresh unit)
 fits-fresh unit e = record { unit-good = e; orders-fit = tt; room = omega arith }
 
-fits-effect : (k : Call) (b : Ledger) → answer k b ≡ 0 → Fits b → Fits (effect k b)
+fits-effect : (k : Call) (b : Ledger) → answer k b ≡ 0 → Fits b → Fits (effect (deedOf k) b)
 fits-effect (command r) b a g =
     let p = takes r b a in
     let o : Order = orderOf r in

@@ -6,7 +6,8 @@ use Rattle.book.specs.Places.{shelf, zeroBook, formedUnit, formedBook}
 use Rattle.book.specs.declared.Book.{Book}
 use Rattle.book_ledger.proofs.Agreement.{same-answer, same-in-force}
 use Rattle.book_ledger.proofs.Removal.{removal as ledger-removal, whole-answers as ledger-answers}
-use Rattle.book_ledger.specs.Calls.{Call, command, revoke, ask}
+use Rattle.book_ledger.specs.Calls.{Call, command, revoke, ask, deedOf, names}
+use Rattle.book_order.specs.Orders.{Name}
 use Rattle.book_ledger.specs.Demand.{wantsPlace, whole, leftOut, found as foundAt, taken, met, struck, otherAnswers, Revoked, LeftOut}
 use Rattle.book_ledger.specs.History.{ledgerOf}
 use Rattle.book_ledger.specs.Keepers.{run, answers}
@@ -23,7 +24,7 @@ use borrow.Author.Tests.{eqb-false, ne-eqb}
 use lib.Dec.{eqb}
 use lib.ListN.{length}
 use mathlib.Core.Bool.{true, false, cond}
-use mathlib.Core.List.{List, [], _∷_, _++_}
+use mathlib.Core.List.{List, [], _∷_, _++_, map}
 use mathlib.Core.Path.{_≡_, refl, sym, ap, _∙_}
 use native.Mathlib.Omega.{arith}
 
@@ -40,10 +41,10 @@ kept unit ks e =
     let calls = sym (same-accepted ks start) in
     record {
       formed = carries-formed now;
-      answers-so = λ k. same-code now k ∙ same-answer unit ks k ∙ ap (λ (h : List Call). answer k (ledgerOf unit h)) calls;
+      answers-so = λ k. same-code now k ∙ same-answer unit ks k ∙ ap (λ (h : List Call). answer k (ledgerOf unit (map deedOf h))) calls;
       in-force-so = λ t h.
           same-asked now t (omega (arith, same-floor now))
-          ∙ ap found (same-in-force unit ks t ∙ ap (λ (l : List Call). inForce t (ledgerOf unit l)) calls);
+          ∙ ap found (same-in-force unit ks t ∙ ap (λ (l : List Call). inForce t (ledgerOf unit (map deedOf l))) calls);
     }
 
 -- ---- for a bad unit the book is all zero, and every call refuses it
@@ -90,7 +91,7 @@ asked-refusal t b = asked-says (callNumber (ask t) b) (inForce t (shelf b))
 -- ---- the second half: a command that was taken and later revoked may be left out, with its revocation
 
 module _ (unit : List ℕ) (before between after : List Call) (c v : Record) where
-  module _ (q : Revoked books (bookFor unit) unit before between after c v) where
+  module _ (q : Revoked books (bookFor unit) (names unit) before between after c v) where
     -- no command is taken for a bad unit, so the ledger's run starts with the book's
     start : Carries (bookFor unit) (fresh unit)
     start =
@@ -98,19 +99,19 @@ module _ (unit : List ℕ) (before between after : List Call) (c v : Record) whe
         (λ e. absurd (eqb-false 20 0 refl (sym (unkept unit e before (command c) .0) ∙ q .was-taken))))
 
     -- where the ledger's run is at each book that the demand names
-    at-command : Carries (foundAt books (bookFor unit) unit before between after c v) (foundAt ledgers (fresh unit) unit before between after c v)
+    at-command : Carries (foundAt books (bookFor unit) (names unit) before between after c v) (foundAt ledgers (fresh unit) (names unit) before between after c v)
     at-command = carries-run before start
 
-    past-command : Carries (taken books (bookFor unit) unit before between after c v) (taken ledgers (fresh unit) unit before between after c v)
+    past-command : Carries (taken books (bookFor unit) (names unit) before between after c v) (taken ledgers (fresh unit) (names unit) before between after c v)
     past-command = carries-step at-command (command c)
 
-    at-revocation : Carries (met books (bookFor unit) unit before between after c v) (met ledgers (fresh unit) unit before between after c v)
+    at-revocation : Carries (met books (bookFor unit) (names unit) before between after c v) (met ledgers (fresh unit) (names unit) before between after c v)
     at-revocation = carries-run between past-command
 
-    past-revocation : Carries (struck books (bookFor unit) unit before between after c v) (struck ledgers (fresh unit) unit before between after c v)
+    past-revocation : Carries (struck books (bookFor unit) (names unit) before between after c v) (struck ledgers (fresh unit) (names unit) before between after c v)
     past-revocation = carries-step at-revocation (revoke v)
 
-    revoked : Revoked ledgers (fresh unit) unit before between after c v
+    revoked : Revoked ledgers (fresh unit) (names unit) before between after c v
     revoked =
         record {
           was-taken = sym (same-code at-command (command c)) ∙ q .was-taken;
@@ -122,15 +123,15 @@ module _ (unit : List ℕ) (before between after : List Call) (c v : Record) whe
           room-after = ap (any wantsPlace) (sym (same-answers after past-revocation)) ∙ q .room-after;
         }
 
-  pub removal : Revoked books (bookFor unit) unit before between after c v → LeftOut books (bookFor unit) unit before between after c v
+  pub removal : Revoked books (bookFor unit) (names unit) before between after c v → LeftOut books (bookFor unit) (names unit) before between after c v
   removal q =
       let d = ledger-removal unit before between after c v (revoked q) in
-      let short = carries-run (leftOut books (bookFor unit) unit before between after c v) (start q) in
-      let long = carries-run (whole books (bookFor unit) unit before between after c v) (start q) in
-      let others : otherAnswers books (bookFor unit) unit before between after c v ≡ otherAnswers ledgers (fresh unit) unit before between after c v =
+      let short = carries-run (leftOut books (bookFor unit) (names unit) before between after c v) (start q) in
+      let long = carries-run (whole books (bookFor unit) (names unit) before between after c v) (start q) in
+      let others : otherAnswers books (bookFor unit) (names unit) before between after c v ≡ otherAnswers ledgers (fresh unit) (names unit) before between after c v =
       λ i. same-answers before (start q) i ++ (same-answers between (past-command q) i ++ same-answers after (past-revocation q) i) in
       record {
-        same-answers = same-answers (leftOut books (bookFor unit) unit before between after c v) (start q) ∙ d .same-answers ∙ sym others;
+        same-answers = same-answers (leftOut books (bookFor unit) (names unit) before between after c v) (start q) ∙ d .same-answers ∙ sym others;
         same-floor = same-floor short ∙ d .same-floor ∙ sym (same-floor long);
         same-in-force = λ t h.
             let open' = rw (same-floor long) at h in
@@ -138,13 +139,13 @@ module _ (unit : List ℕ) (before between after : List Call) (c v : Record) whe
       }
 
   -- the whole run's answers: those, and 0 to the command and 0 to the revocation
-  pub whole-answers : Revoked books (bookFor unit) unit before between after c v
-      → answers books (whole books (bookFor unit) unit before between after c v) (bookFor unit)
+  pub whole-answers : Revoked books (bookFor unit) (names unit) before between after c v
+      → answers books (whole books (bookFor unit) (names unit) before between after c v) (bookFor unit)
       ≡ answers books before (bookFor unit)
-      ++ (0 ∷ (answers books between (taken books (bookFor unit) unit before between after c v) ++ (0 ∷ answers books after (struck books (bookFor unit) unit before between after c v))))
+      ++ (0 ∷ (answers books between (taken books (bookFor unit) (names unit) before between after c v) ++ (0 ∷ answers books after (struck books (bookFor unit) (names unit) before between after c v))))
   whole-answers q =
       rw (same-answers before (start q), same-answers between (past-command q), same-answers after (past-revocation q))
-      (same-answers (whole books (bookFor unit) unit before between after c v) (start q) ∙ ledger-answers unit before between after c v (revoked q))
+      (same-answers (whole books (bookFor unit) (names unit) before between after c v) (start q) ∙ ledger-answers unit before between after c v (revoked q))
 
 -- ---- a refused call hands the same book back
 

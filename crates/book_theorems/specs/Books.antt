@@ -4,12 +4,12 @@ use Rattle.book.specs.Answers.{callNumber, nextOf, freshOf, found, askedOf}
 use Rattle.book.specs.Places.{formedBook}
 use Rattle.book.specs.declared.Book.{Book}
 use Rattle.book.specs.declared.InForce.{InForce}
-use Rattle.book_ledger.specs.Calls.{Call}
+use Rattle.book_ledger.specs.Calls.{Call, command, revoke, Deed, deedOf}
 use Rattle.book_ledger.specs.History.{ledgerOf}
 use Rattle.book_ledger.specs.Keepers.{Keeper, run, accepted}
 use Rattle.book_ledger.specs.Ledger.{answer, inForce}
 use mathlib.Core.Bool.{true}
-use mathlib.Core.List.{List}
+use mathlib.Core.List.{List, map}
 use mathlib.Core.Path.{_≡_}
 
 -- books, as keepers: what the book's own calls answer and hand back
@@ -17,6 +17,9 @@ abbrev pub books : Keeper
 books =
     record {
       State = Book;
+      Call = Call;
+      command = command;
+      revoke = revoke;
       answer = callNumber;
       step = nextOf;
       floor = λ (b : Book). b .floor;
@@ -32,9 +35,9 @@ module _ (unit : List ℕ) (ks : List Call) where
   abbrev pub after : Book
   after = run books ks (bookFor unit)
 
-  -- the calls of them that the book accepted
-  abbrev pub history : List Call
-  history = accepted books ks (bookFor unit)
+  -- what those of them that the book accepted did
+  abbrev pub history : List Deed
+  history = map deedOf (accepted books ks (bookFor unit))
 
   -- the book is well formed; every call is refused exactly where it is by what those calls define; and so is the order in force at every instant not
   -- yet closed

@@ -4,7 +4,7 @@ use Prim.Native.Nat.{ℕ, _≤_}
 use Rattle.book.specs.Answers.{callNumber, ofInForce, foundNumber, askedOf, freshOf}
 use Rattle.book.specs.Places.{shelf}
 use Rattle.book.specs.declared.Book.{Book}
-use Rattle.book_ledger.specs.Calls.{Call, ask}
+use Rattle.book_ledger.specs.Calls.{Call, ask, names}
 use Rattle.book_ledger.specs.Demand.{Revoked, LeftOut}
 use Rattle.book_ledger.specs.History.{ledgerOf}
 use Rattle.book_ledger.specs.Ledger.{inForce}
@@ -42,5 +42,5 @@ pub record Demand3 : Type 0 where
   -- a place. Leave out that command and that revocation: every other command, revocation and close gets the same answer, and at the end the same order is in
   -- force at every instant not yet closed."
   pub left-out : (unit : List ℕ) (before between later : List Call) (c v : Record)
-      → Revoked books (bookFor unit) unit before between later c v
-      → LeftOut books (bookFor unit) unit before between later c v
+      → Revoked books (bookFor unit) (names unit) before between later c v
+      → LeftOut books (bookFor unit) (names unit) before between later c v
