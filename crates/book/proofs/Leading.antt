@@ -1,6 +1,7 @@
 -- The orders in the first places: how many they are, that they rise by number, and what is left after them. Assumes nothing.
 use Prim.Native.Nat.{ℕ, suc, _+_, _≤_, _<_}
 use Rattle.layout.specs.Layouts.{isMarket}
+use Rattle.value_bounds.specs.Bounds.{mostNumber}
 use Rattle.book.specs.Places.{shelf, fitsAfter, formedFrom, formedUnit, formedBook}
 use Rattle.book.specs.Steps.{leading, tallyOf, orderAt}
 use Rattle.book.specs.declared.Book.{Book}
@@ -35,9 +36,9 @@ pub fits-past : (f lo : ℕ) (o : Order) → fitsAfter f lo o ≡ true → pastE
 fits-past f lo o e = lt-ltb 0 (o .end) (omega (arith, fits-facts f lo o e .1))
 
 -- and the number after its own is a number too
-pub fits-small : (f lo : ℕ) (o : Order) → fitsAfter f lo o ≡ true → o .number ≤ 9999999999
+pub fits-small : (f lo : ℕ) (o : Order) → fitsAfter f lo o ≡ true → o .number ≤ mostNumber
 unfolding couldCome
-fits-small f lo o e = leb-true (o .number) 9999999999 (and-parts (leb (o .number) 9999999999) _ (fits-facts f lo o e .2) .0)
+fits-small f lo o e = leb-true (o .number) mostNumber (and-parts (leb (o .number) mostNumber) _ (fits-facts f lo o e .2) .0)
 
 -- an empty place has the end 0
 pub empty-end : (o : Order) → isEmpty o ≡ true → o .end ≡ 0

@@ -1,7 +1,8 @@
 -- An order's tests, as the code joins them, are what the definitions say of it. Assumes nothing.
 use Prim.Native.Nat.{ℕ, _-_}
 use Rattle.book_order.proofs.Joined.{three, five, seven}
-use Rattle.book_order.specs.Orders.{live, isZero, isEmpty, isInstant, isAmount, fitsLayout, couldCome}
+use Rattle.book_order.specs.Orders.{live, isZero, isEmpty, fitsLayout, couldCome}
+use Rattle.value_bounds.specs.Bounds.{mostNumber, isInstant, isAmount}
 use Rattle.book_order.specs.declared.Order.{Order}
 use Rattle.layout.specs.Layouts.{isMarket}
 use Rattle.text.proofs.Zeros.{zero-bits}
@@ -28,12 +29,12 @@ module _ (o : Order) (f : SFits w32 (o .first)) (s : SFits w32 (o .second)) wher
   -- `a` and `b` say whether start and end are instants, `v` whether the first variation is an amount, `l` whether the rest fits the layout
   pub come-is : (a b v l : Bool) → a ≡ isInstant (o .start) → b ≡ isInstant (o .end) → v ≡ isAmount (toZ w32 (ofZ w32 (o .first)))
       → l ≡ fitsLayout (o .layout) (o .end - o .start) (toZ w32 (ofZ w32 (o .second)))
-      → (((leb (o .number) 9999999999 && a) && b) && v) && l ≡ couldCome o
+      → (((leb (o .number) mostNumber && a) && b) && v) && l ≡ couldCome o
   unfolding couldCome
   come-is a b v l p q r t =
       rw (p, q, r, t, toZ-ofZ w32 (o .first) f, toZ-ofZ w32 (o .second) s)
       (five
-      (leb (o .number) 9999999999)
+      (leb (o .number) mostNumber)
       (isInstant (o .start))
       (isInstant (o .end))
       (isAmount (o .first))

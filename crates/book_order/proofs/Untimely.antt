@@ -2,7 +2,8 @@
 use Prim.Native.Nat.{_-_, _<_}
 use Rattle.layout.specs.declared.Layout.{Layout}
 use Rattle.layout.specs.declared.Layout.the-variants.{Market, Mfrr, Revocation, Generic, Exclusion, Limitation, Secondary, VoltVar, Rejection, Reserve}
-use Rattle.book_order.specs.Orders.{isInstant, isAmount, fitsLayout, couldCome}
+use Rattle.book_order.specs.Orders.{fitsLayout, couldCome}
+use Rattle.value_bounds.specs.Bounds.{mostNumber, isInstant, isAmount}
 use Rattle.book_order.specs.declared.Order.{Order}
 use lib.Dec.{leb}
 use lib.IntN.{ℤ}
@@ -34,4 +35,4 @@ unfolding couldCome
 ends-first o h =
     let none : o .end - o .start ≡ 0 = omega (arith, h) in
     rw (none, no-time (o .layout) (o .second))
-    (last-fails (leb (o .number) 9999999999) (isInstant (o .start)) (isInstant (o .end)) (isAmount (o .first)))
+    (last-fails (leb (o .number) mostNumber) (isInstant (o .start)) (isInstant (o .end)) (isAmount (o .first)))

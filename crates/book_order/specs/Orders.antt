@@ -4,10 +4,9 @@ use Rattle.layout.specs.Layouts.{isMarket}
 use Rattle.layout.specs.declared.Layout.{Layout}
 use Rattle.layout.specs.declared.Layout.the-variants.{Market, Mfrr, Revocation, Generic, Exclusion, Limitation, Secondary, VoltVar, Rejection, Reserve}
 use Rattle.book_order.specs.declared.Order.{Order}
-use Rattle.text.specs.Bytes.{within}
+use Rattle.value_bounds.specs.Bounds.{mostNumber, isInstant, isAmount}
 use lib.Dec.{eqb, leb, ltb}
-use lib.IntN.{ℤ, pos, negsuc, natAbs}
-use lib.Signed.{leZ}
+use lib.IntN.{ℤ, pos, natAbs}
 use mathlib.Core.Bool.{Bool, true, false, not, _&&_, cond}
 
 -- ---- by what an order is named, and the key by which orders stand
@@ -78,14 +77,6 @@ isEmpty o =
 
 -- ---- what some valid CB record gives (crate book_source: exactly these)
 
--- the instants that dates give: 01-01-2001 00:00:00 L to 31-12-2099 23:59:59 S
-abbrev pub isInstant : ℕ → Bool
-isInstant t = within 31615200 3155756399 t
-
--- six digits and three, in thousandths
-abbrev pub isAmount : ℤ → Bool
-isAmount v = leZ (negsuc 999999998) v && leZ v (pos 999999999)
-
 -- market: start before end, and two variations; mFRR: start and end are apart by two ramps of a second, and there is one variation
 abbrev pub fitsLayout : Layout → ℕ → ℤ → Bool
 fitsLayout Market apart second = ltb 0 apart && isAmount second
@@ -102,6 +93,6 @@ fitsLayout Reserve apart second = false
 -- THE DEFINITION: number, layout, instants and variations are together what some valid CB record gives
 unfoldable pub couldCome : Order → Bool
 couldCome o =
-    leb (o .number) 9999999999
+    leb (o .number) mostNumber
     && (isInstant (o .start)
     && (isInstant (o .end) && (isAmount (o .first) && fitsLayout (o .layout) (o .end - o .start) (o .second))))

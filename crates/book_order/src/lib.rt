@@ -7,7 +7,7 @@ ghost use Prim.Native.Nat.{_≤_};
 ghost use Rattle.value_ask.specs.Values.{instantIn};
 ghost use Rattle.report_brief.specs.Brief.{startOf, endOf};
 ghost use Rattle.book_order.specs.Messages.{firstVariation, secondVariation, orderOf, strikeOf};
-ghost use Rattle.book_order.specs.Orders.{live, isEmpty, isInstant, isAmount, fitsLayout, couldCome};
+ghost use Rattle.book_order.specs.Orders.{live, isEmpty, fitsLayout, couldCome};
 ghost use mathlib.Core.Path.{_≡_};
 
 // Start and end are instants, the variations thousandths of a megawatt. Of mFRR: TINI1 and TFIN2, its one variation and 0.
@@ -101,23 +101,11 @@ pub fn is_empty(o: Order) -> bool
         & !o.struck
 }
 
-fn is_instant(t: u32) -> bool
-    ensures { λ r. ⌜ r ≡ isInstant t ⌝ }
-{
-    (31615200 <= t) & (t <= 3155756399)
-}
-
-fn is_amount(v: i32) -> bool
-    ensures { λ r. ⌜ r ≡ isAmount v ⌝ }
-{
-    (-999999999 <= v) & (v <= 999999999)
-}
-
 fn fits_layout(l: Layout, apart: u32, second: i32) -> bool
     ensures { λ r. ⌜ r ≡ fitsLayout l apart second ⌝ }
 {
     match l {
-        Layout::Market => (0 < apart) & is_amount(second),
+        Layout::Market => (0 < apart) & value_bounds::is_amount(second),
         Layout::Mfrr => (1 < apart) & (second == 0),
         _ => false,
     }
@@ -131,9 +119,9 @@ pub fn could_come(o: Order) -> bool
         return false;
     }
     let l = o.layout;
-    (o.number <= 9999999999)
-        & is_instant(o.start)
-        & is_instant(o.end)
-        & is_amount(o.first)
+    (o.number <= value_bounds::MOST_NUMBER)
+        & value_bounds::is_instant(o.start)
+        & value_bounds::is_instant(o.end)
+        & value_bounds::is_amount(o.first)
         & fits_layout(l, o.end - o.start, o.second)
 }

@@ -1,9 +1,10 @@
 -- The test of an order as bounds, for each of the two layouts that a command has. Assumes nothing.
 use Prim.Native.Nat.{ℕ, _-_, _≤_, _<_}
+use Rattle.value_bounds.specs.Bounds.{isAmount, firstInstant, lastInstant, mostNumber}
 use Rattle.layout.specs.Layouts.{isCommand}
 use Rattle.layout.specs.declared.Layout.{Layout}
 use Rattle.layout.specs.declared.Layout.the-variants.{Market, Mfrr, Revocation, Generic, Exclusion, Limitation, Secondary, VoltVar, Rejection, Reserve}
-use Rattle.book_order.specs.Orders.{isAmount, fitsLayout, couldCome}
+use Rattle.book_order.specs.Orders.{fitsLayout, couldCome}
 use Rattle.book_order.specs.declared.Order.{Order}
 use Rattle.text.proofs.Tests.{told, Tells, leb-tells, ltb-tells, itself, _and_, within-tells}
 use Rattle.text.proofs.Zeros.{zero-tells}
@@ -50,20 +51,20 @@ mfrr-tells apart w = ltb-tells 1 apart and zero-tells w
 -- ---- the order
 
 pub record Bounds (o : Order) : Type 0 where
-  pub number-to : o .number ≤ 9999999999
-  pub start-from : 31615200 ≤ o .start
-  pub start-to : o .start ≤ 3155756399
-  pub end-from : 31615200 ≤ o .end
-  pub end-to : o .end ≤ 3155756399
+  pub number-to : o .number ≤ mostNumber
+  pub start-from : firstInstant ≤ o .start
+  pub start-to : o .start ≤ lastInstant
+  pub end-from : firstInstant ≤ o .end
+  pub end-to : o .end ≤ lastInstant
   pub first-amount : isAmount (o .first) ≡ true
   pub fits : fitsLayout (o .layout) (o .end - o .start) (o .second) ≡ true
 
 pub come-tells : (o : Order) → Tells (couldCome o) (Bounds o)
 unfolding couldCome
 come-tells o =
-    let instant = within-tells 31615200 3155756399 in
+    let instant = within-tells firstInstant lastInstant in
     told
-    (leb-tells (o .number) 9999999999 and (instant (o .start) and (instant (o .end) and (itself (isAmount (o .first)) and itself (fitsLayout (o .layout) (o .end - o .start) (o .second))))))
+    (leb-tells (o .number) mostNumber and (instant (o .start) and (instant (o .end) and (itself (isAmount (o .first)) and itself (fitsLayout (o .layout) (o .end - o .start) (o .second))))))
     (λ p.
     record {
       number-to = p .0;

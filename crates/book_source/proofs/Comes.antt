@@ -1,5 +1,6 @@
 -- The order of a valid command passes the test, so its instants fit 32 bits. Assumes nothing.
 use Prim.Native.Nat.{ℕ, _-_, _≤_}
+use Rattle.value_bounds.specs.Bounds.{isAmount}
 use Rattle.value_ask.specs.Values.{instantIn, amountIn}
 use Rattle.layout.specs.Layouts.{isCommand}
 use Rattle.layout.specs.FieldNumbers.{endField}
@@ -10,7 +11,7 @@ use Rattle.book_source.proofs.Places.{number-at, start-at, end-at, mark
 use Rattle.layout.specs.declared.Layout.{Layout}
 use Rattle.layout.specs.declared.Layout.the-variants.{Market, Mfrr}
 use Rattle.book_order.specs.Messages.{firstVariation, secondVariation, orderOf}
-use Rattle.book_order.specs.Orders.{isAmount, fitsLayout, couldCome}
+use Rattle.book_order.specs.Orders.{fitsLayout, couldCome}
 use Rattle.record.specs.Records.{fieldOf}
 use Rattle.record.specs.declared.Record.{Record}
 use Rattle.record_rules.proofs.Steps.{broken-here}

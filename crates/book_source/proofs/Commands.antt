@@ -1,9 +1,10 @@
 -- A command of either layout with any number, dates and variations, and nothing else to choose: valid where these are, as antt computes.
 -- Assumes nothing.
 use Prim.Native.Nat.{ℕ}
+use Rattle.value_bounds.specs.Bounds.{isAmount}
 use Rattle.value_date.specs.Date.{isReal, instantOf}
 use Rattle.value_date.specs.declared.Date.{Date}
-use Rattle.value_fits.specs.Fits.{isAmong, inRange, isRanged, isNoTriple, areTriples, isNamed, fits, holds}
+use Rattle.value_fits.specs.Fits.{isAmong, isRanged, isNoTriple, areTriples, isNamed, fits, holds}
 use Rattle.layout.specs.Fields.{command, technical, market, mfrr}
 use Rattle.layout.specs.Layouts.{fieldsOf, kindsOf}
 use Rattle.layout.specs.declared.Layout.{Layout}
@@ -11,7 +12,6 @@ use Rattle.layout.specs.declared.Layout.the-variants.{Market, Mfrr}
 use Rattle.value_list.specs.Forms.{noTriple}
 use Rattle.value_list.specs.declared.Triple.{Triple}
 use Rattle.value_name.specs.Names.{isUnit}
-use Rattle.book_order.specs.Orders.{isAmount}
 use Rattle.record.specs.Records.{cellsOf, fieldOf}
 use Rattle.record.specs.declared.Record.{Record}
 use Rattle.record_rules.specs.Rules.{inOrder, ramps, updated, profiled, rises, sloped, rulesOf, lowest, brokenIn}
@@ -60,10 +60,10 @@ mfrrCommand n s u e v =
 
 module _ (n : ℕ) (s e : Date) (v : ℤ) (low : ltb n 10000000000 ≡ true) (starts : isReal s ≡ true) (ends : isReal e ≡ true) (first : isAmount v ≡ true) where
   pub market-valid : (w : ℤ) → isAmount w ≡ true → ltb (instantOf s) (instantOf e) ≡ true → isValid (marketCommand n s e v w) ≡ true
-  unfolding isValid isSized holdsAll areClear noTriples holds fits isAmong inRange isRanged isNoTriple areTriples isNamed isUnit all kindsOf fieldsOf market command technical valuesIn cellsOf fieldOf brokenIn lowest rulesOf inOrder updated profiled sloped rises
+  unfolding isValid isSized holdsAll areClear noTriples holds fits isAmong isAmount isRanged isNoTriple areTriples isNamed isUnit all kindsOf fieldsOf market command technical valuesIn cellsOf fieldOf brokenIn lowest rulesOf inOrder updated profiled sloped rises
   market-valid w second before = rw (low, starts, ends, first, second, before)
 
   pub mfrr-valid : (u : Date) → isReal u ≡ true → ltb (instantOf s) (instantOf u) ≡ true → ltb (instantOf u) (instantOf e) ≡ true
       → isValid (mfrrCommand n s u e v) ≡ true
-  unfolding isValid isSized holdsAll areClear noTriples holds fits isAmong inRange isNoTriple isNamed isUnit all kindsOf fieldsOf mfrr valuesIn cellsOf fieldOf brokenIn lowest rulesOf ramps
+  unfolding isValid isSized holdsAll areClear noTriples holds fits isAmong isAmount isNoTriple isNamed isUnit all kindsOf fieldsOf mfrr valuesIn cellsOf fieldOf brokenIn lowest rulesOf ramps
   mfrr-valid u up rise fall = rw (low, starts, ends, first, up, rise, le-leb (instantOf u) (instantOf u) (omega arith), fall)

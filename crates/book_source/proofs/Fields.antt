@@ -1,12 +1,11 @@
 -- What the fields of a valid record hold that may not be blank: a number, an instant, an amount. Assumes nothing.
 use Prim.Native.Nat.{ℕ, _≤_, _<_}
+use Rattle.value_bounds.specs.Bounds.{isAmount, firstInstant, lastInstant, mostNumber}
 use Rattle.value_ask.specs.Values.{isFilled, numberIn, instantIn, amountIn}
 use Rattle.value_fits.proofs.Ranges.{range-tells}
-use Rattle.value_fits.specs.Fits.{inRange}
 use Rattle.value_instants.proofs.Reach.{bounded}
 use Rattle.layout.specs.Layouts.{kindsOf, noKind, typeOf}
 use Rattle.value_name.specs.declared.MessageType.{MessageType}
-use Rattle.book_order.specs.Orders.{isAmount}
 use Rattle.record.proofs.Fields.{value-at}
 use Rattle.record.proofs.Places.{Owed}
 use Rattle.record.specs.Records.{fieldOf, roomsOf}
@@ -29,20 +28,20 @@ use native.Mathlib.Omega.{arith}
 -- a value that is a date
 pub record Dated (v : Value) : Type 0 where
   pub is-filled : isFilled v ≡ true
-  pub from : 31615200 ≤ instantIn v
-  pub to : instantIn v ≤ 3155756399
+  pub from : firstInstant ≤ instantIn v
+  pub to : instantIn v ≤ lastInstant
 
 -- ---- one value
 
 module _ {t : MessageType} {r : Rooms} where
-  number-held : {v : Value} → Fits t r (IsId t) v → numberIn v ≤ 9999999999
+  number-held : {v : Value} → Fits t r (IsId t) v → numberIn v ≤ mostNumber
   number-held (id h) = omega arith
 
   date-held : {v : Value} → Fits t r IsWhen v → Dated v
   date-held (when {d} e) = let b = bounded d e in record { is-filled = refl; from = b .0; to = b .1 }
 
   amount-held : {v : Value} → Fits t r IsAmount v → isAmount (amountIn v) ≡ true
-  unfolding inRange
+  unfolding isAmount
   amount-held (amount {v} h) = range-tells v .1 h
 
   -- a kind that lets no blank stand
@@ -61,7 +60,7 @@ module _ (r : Record) (w : Valid r) where
       rw (w .valid .cells-are, o .at .field-is, value-at (w .values) j h)
       (owed (getD (kindsOf (r .layout)) j noKind) (o .at .shape-is) (o .owed) (hold-at hold j (o .at .inside)))
 
-  pub number-in : {k : ℕ} → Owed (r .layout) (IsId (typeOf (r .layout))) k → numberIn (fieldOf (r .cells) k) ≤ 9999999999
+  pub number-in : {k : ℕ} → Owed (r .layout) (IsId (typeOf (r .layout))) k → numberIn (fieldOf (r .cells) k) ≤ mostNumber
   number-in o = number-held (field-held o)
 
   pub date-in : {k : ℕ} → Owed (r .layout) IsWhen k → Dated (fieldOf (r .cells) k)

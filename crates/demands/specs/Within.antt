@@ -11,6 +11,7 @@ use Rattle.text.specs.Shapes.{Answers, Lends, OneOutput, OneResult, OneText, Wr
 use Rattle.reader_accent.proofs as reader_accent
 use Rattle.reader_line.proofs as reader_line
 use Rattle.reader_fill.proofs as reader_fill
+use Rattle.value_bounds.proofs as value_bounds
 use Rattle.value_fits.proofs as value_fits
 use Rattle.text_keyline.proofs as text_keyline
 use Rattle.layout_kind.proofs as layout_kind
@@ -147,6 +148,9 @@ pub record Within : Type 0 where
   pub reader-line-line-of : OneResult reader_line.line_of.ended reader_line.line_of.Reads.Learnt
   -- reader_walk
   pub reader-walk-walk : OneResult reader_walk.walk.ended reader_walk.walk.Reads.Learnt
+  -- value_bounds
+  pub value-bounds-is-instant : Answers value_bounds.is_instant.ended value_bounds.is_instant.Reads.Asked value_bounds.is_instant.Reads.Learnt
+  pub value-bounds-is-amount : Answers value_bounds.is_amount.ended value_bounds.is_amount.Reads.Asked value_bounds.is_amount.Reads.Learnt
   -- value_fits
   pub value-fits-holds : Answers value_fits.holds.ended value_fits.holds.Reads.Asked value_fits.holds.Reads.Learnt
   pub value-fits-triples-are-none : Answers value_fits.triples.are_none.ended value_fits.triples.are_none.Reads.Asked value_fits.triples.are_none.Reads.Learnt

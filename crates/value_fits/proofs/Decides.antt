@@ -6,7 +6,8 @@ use Rattle.value_date.specs.Date.{isReal}
 use Rattle.value_fits.proofs.ByNumber.{shapeAt, type-back, shape-is}
 use Rattle.value_fits.proofs.Gradients.{triples-tell}
 use Rattle.value_fits.proofs.Ranges.{range-tells, listed-tells}
-use Rattle.value_fits.specs.Fits.{typeNumber, shapeNumber, isAmong, areListed, numbersMost, isKept, isNamed, inRange, areTriples, fits, holds}
+use Rattle.value_bounds.specs.Bounds.{isAmount}
+use Rattle.value_fits.specs.Fits.{typeNumber, shapeNumber, isAmong, areListed, numbersMost, isKept, isNamed, areTriples, fits, holds}
 use Rattle.value_list.specs.declared.Numbers.{Numbers as Few}
 use Rattle.value_name.specs.Names.{isUnit}
 use Rattle.value_name.specs.declared.MessageType.{MessageType}
@@ -111,17 +112,17 @@ module _ (t : MessageType) (r : Rooms) where
       (λ h. subst (λ (u : Shape). Fits t r u (Id n)) (sym (type-back t .1)) (id (ltb-true n (10 ^ 10) h)))
   to-fits s (UnitOf n) e = by-shape s 1 (UnitOf n) (isNamed (r .unit) n) refl e (λ h. let p = named-tells (r .unit) n .0 h in unit (p .0) (p .1))
   to-fits s (When d) e = by-shape s 2 (When d) (isReal d) refl e when
-  to-fits s (Amount v) e = by-shape s 3 (Amount v) (inRange v) refl e (λ h. amount (range-tells v .0 h))
+  to-fits s (Amount v) e = by-shape s 3 (Amount v) (isAmount v) refl e (λ h. amount (range-tells v .0 h))
   to-fits s (Count n) e = by-shape s 4 (Count n) (ltb n (10 ^ 10)) refl e (λ h. count (ltb-true n (10 ^ 10) h))
   to-fits s (Reason n) e = by-shape s 5 (Reason n) (isKept 128 (r .reason) n) refl e (λ h. reason (kept-tells 128 (r .reason) n .0 h))
   to-fits s (Note n) e = by-shape s 6 (Note n) (isKept 256 (r .note) n) refl e (λ h. note (kept-tells 256 (r .note) n .0 h))
   to-fits s (Word w) e = to-word s w e
   to-fits s (Numbers x) e = to-numbers s x e
   to-fits s (Triples n) e = by-shape s 10 (Triples n) (areTriples (r .gradients) n) refl e (λ h. triples (triples-tell (r .gradients) n .0 h))
-  to-fits s (Voltage v) e = by-shape s 11 (Voltage v) (inRange (v .0)) refl e (λ h. in-kv (range-tells (v .0) .0 h))
-  to-fits s (Regulator v) e = by-shape s 12 (Regulator v) (inRange (v .0)) refl e (λ h. in-rat (range-tells (v .0) .0 h))
-  to-fits s (Change v) e = by-shape s 13 (Change v) (inRange (v .0)) refl e (λ h. in-change (range-tells (v .0) .0 h))
-  to-fits s (Reactive v) e = by-shape s 14 (Reactive v) (inRange (v .0)) refl e (λ h. in-mvar (range-tells (v .0) .0 h))
+  to-fits s (Voltage v) e = by-shape s 11 (Voltage v) (isAmount (v .0)) refl e (λ h. in-kv (range-tells (v .0) .0 h))
+  to-fits s (Regulator v) e = by-shape s 12 (Regulator v) (isAmount (v .0)) refl e (λ h. in-rat (range-tells (v .0) .0 h))
+  to-fits s (Change v) e = by-shape s 13 (Change v) (isAmount (v .0)) refl e (λ h. in-change (range-tells (v .0) .0 h))
+  to-fits s (Reactive v) e = by-shape s 14 (Reactive v) (isAmount (v .0)) refl e (λ h. in-mvar (range-tells (v .0) .0 h))
 
   from-fits : (s : Shape) (v : Value) → Fits t r s v → fits t r s v ≡ true
   unfolding fits isAmong

@@ -1,6 +1,7 @@
 -- Numbers that can be written, and lists of up to four: what their tests tell. Assumes nothing.
-use Prim.Native.Nat.{ℕ, _≤_}
-use Rattle.value_fits.specs.Fits.{inRange, isSpare, areListed}
+use Prim.Native.Nat.{ℕ, _-_, _≤_}
+use Rattle.value_bounds.specs.Bounds.{mostAmount, isAmount}
+use Rattle.value_fits.specs.Fits.{isSpare, areListed}
 use Rattle.value_list.specs.Forms.{InRange, ValidNumbers, numbersOf}
 use Rattle.value_list.specs.declared.Numbers.{Numbers as Few}
 use Rattle.text.proofs.Tests.{told, Tells, leb-tells, eqb-tells, itself, _and_, by-le}
@@ -17,11 +18,11 @@ use native.Mathlib.Omega.{arith}
 
 -- ---- one number
 
-pub range-tells : (v : ℤ) → Tells (inRange v) (InRange v)
-unfolding inRange
-range-tells (pos n) = told (leb-tells n 999999999) (λ h. omega (arith, h)) (λ h. omega (arith, h))
+pub range-tells : (v : ℤ) → Tells (isAmount v) (InRange v)
+unfolding isAmount
+range-tells (pos n) = told (leb-tells n mostAmount) (λ h. omega (arith, h)) (λ h. omega (arith, h))
 range-tells (negsuc n) =
-    told (leb-tells n 999999998 and itself true) (λ h. omega (arith, h .0)) (λ h. (omega (arith, h), refl))
+    told (leb-tells n (mostAmount - 1) and itself true) (λ h. omega (arith, h .0)) (λ h. (omega (arith, h), refl))
 
 -- ---- lists of up to four
 

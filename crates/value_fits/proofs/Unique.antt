@@ -7,7 +7,6 @@ use Rattle.text.proofs.Determined.{equation}
 use Rattle.text.specs.Shapes.{Answers}
 
 pub record Within : Type 0 where
-  pub numbers-in-range : Answers numbers.in_range.ended numbers.in_range.Reads.Asked numbers.in_range.Reads.Learnt
   pub numbers-are-listed : Answers numbers.are_listed.ended numbers.are_listed.Reads.Asked numbers.are_listed.Reads.Learnt
   pub shapes-type-number : Answers shapes.type_number.ended shapes.type_number.Reads.Asked shapes.type_number.Reads.Learnt
   pub shapes-number : Answers shapes.number.ended shapes.number.Reads.Asked shapes.number.Reads.Learnt
@@ -19,7 +18,6 @@ pub record Within : Type 0 where
 pub within : Within
 within =
     record {
-      numbers-in-range = (λ κs a. tt, λ κs a. equation _);
       numbers-are-listed = (λ κs a. tt, λ κs a. equation _);
       shapes-type-number = (λ κs a. tt, λ κs a. equation _);
       shapes-number = (λ κs a. tt, λ κs a. equation _);

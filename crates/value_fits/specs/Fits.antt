@@ -1,6 +1,7 @@
 -- Whether a kind may hold a value, as a test: the crate's theorem says that it holds exactly where value/specs/Valid.antt's `Holds` does. A value is
 -- asked whether its shape has the number that it wants, so that no question has a line for each value and each shape.
 use Prim.Native.Nat.{ℕ, _^_}
+use Rattle.value_bounds.specs.Bounds.{isAmount}
 use Rattle.value_ask.specs.Values.{isFilled}
 use Rattle.value_date.specs.Date.{isReal}
 use Rattle.value_list.specs.declared.Numbers.{Numbers as Few}
@@ -17,9 +18,8 @@ use Rattle.value.specs.declared.Value.{Value}
 use Rattle.value.specs.declared.Value.the-variants.{Blank, Id, Unit, When, Amount, Count, Reason, Note, Word, List as Numbers, Triples, Voltage, Regulator, Change, Reactive}
 use Rattle.value_word.specs.Names.{wVMax, wVMin, wQZero, wMaxSottoeccitazione, wFinoAPmax}
 use lib.Dec.{eqb, leb, ltb}
-use lib.IntN.{ℤ, pos, negsuc, natAbs}
+use lib.IntN.{ℤ, natAbs}
 use lib.ListN.{length, take, drop}
-use lib.Signed.{leZ}
 use mathlib.Core.Bool.{Bool, false, not, _&&_, _||_}
 use mathlib.Core.List.{List}
 
@@ -110,14 +110,11 @@ numbersMost IsReactive = 0
 unfoldable pub isAmong : Shape → ℕ → Bool
 isAmong s w = leb 1 (firstWord s) && leb (firstWord s) w && leb w (lastWord s) && leb (lastWord s) wFinoAPmax
 
--- ---- numbers that can be written: six digits before the point and three after it
-
-unfoldable pub inRange : ℤ → Bool
-inRange v = leZ (negsuc 999999998) v && leZ v (pos 999999999)
+-- ---- lists of up to four
 
 -- a number at the place i of a list of `count`: zero where the list has ended
 unfoldable pub isSpare : ℕ → ℕ → ℤ → Bool
-isSpare count i v = inRange v && (ltb i count || eqb (natAbs v) 0)
+isSpare count i v = isAmount v && (ltb i count || eqb (natAbs v) 0)
 
 unfoldable pub areListed : ℕ → Few → Bool
 areListed count x =
@@ -127,7 +124,7 @@ areListed count x =
 -- ---- triples in their room of sixteen
 
 unfoldable pub isRanged : Triple → Bool
-isRanged x = inRange (x .low) && inRange (x .high) && inRange (x .gradient)
+isRanged x = isAmount (x .low) && isAmount (x .high) && isAmount (x .gradient)
 
 unfoldable pub isNoTriple : Triple → Bool
 isNoTriple x = eqb (natAbs (x .low)) 0 && eqb (natAbs (x .high)) 0 && eqb (natAbs (x .gradient)) 0
@@ -150,17 +147,17 @@ fits t r s Blank = false
 fits t r s (Id n) = eqb (shapeNumber s) (typeNumber t) && ltb n (10 ^ 10)
 fits t r s (Unit n) = eqb (shapeNumber s) 1 && isNamed (r .unit) n
 fits t r s (When d) = eqb (shapeNumber s) 2 && isReal d
-fits t r s (Amount v) = eqb (shapeNumber s) 3 && inRange v
+fits t r s (Amount v) = eqb (shapeNumber s) 3 && isAmount v
 fits t r s (Count n) = eqb (shapeNumber s) 4 && ltb n (10 ^ 10)
 fits t r s (Reason n) = eqb (shapeNumber s) 5 && isKept 128 (r .reason) n
 fits t r s (Note n) = eqb (shapeNumber s) 6 && isKept 256 (r .note) n
 fits t r s (Word w) = isAmong s w
 fits t r s (Numbers x) = areListed (numbersMost s) x
 fits t r s (Triples n) = eqb (shapeNumber s) 10 && areTriples (r .gradients) n
-fits t r s (Voltage v) = eqb (shapeNumber s) 11 && inRange (v .0)
-fits t r s (Regulator v) = eqb (shapeNumber s) 12 && inRange (v .0)
-fits t r s (Change v) = eqb (shapeNumber s) 13 && inRange (v .0)
-fits t r s (Reactive v) = eqb (shapeNumber s) 14 && inRange (v .0)
+fits t r s (Voltage v) = eqb (shapeNumber s) 11 && isAmount (v .0)
+fits t r s (Regulator v) = eqb (shapeNumber s) 12 && isAmount (v .0)
+fits t r s (Change v) = eqb (shapeNumber s) 13 && isAmount (v .0)
+fits t r s (Reactive v) = eqb (shapeNumber s) 14 && isAmount (v .0)
 
 -- THE DEFINITION: a blank where the kind lets one stand, or else what fits its shape
 unfoldable pub holds : MessageType → Rooms → Kind → Value → Bool

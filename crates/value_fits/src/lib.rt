@@ -31,17 +31,17 @@ fn fits(
         Value::Id(x) => (n == shapes::type_number(t)) & (x < 10000000000),
         Value::Unit(x) => (n == 1) & texts::is_unit(unit, x),
         Value::When(d) => (n == 2) & value_date::is_real(d),
-        Value::Amount(x) => (n == 3) & numbers::in_range(x),
+        Value::Amount(x) => (n == 3) & value_bounds::is_amount(x),
         Value::Count(x) => (n == 4) & (x < 10000000000),
         Value::Reason(x) => (n == 5) & texts::is_kept(reason, 128, x),
         Value::Note(x) => (n == 6) & texts::is_kept(note, 256, x),
         Value::Word(x) => shapes::is_among(s, x),
         Value::List(x) => numbers::are_listed(x, shapes::count(s)),
         Value::Triples(x) => (n == 10) & triples::are_listed(gradients, x),
-        Value::Voltage(x) => (n == 11) & numbers::in_range(x.0),
-        Value::Regulator(x) => (n == 12) & numbers::in_range(x.0),
-        Value::Change(x) => (n == 13) & numbers::in_range(x.0),
-        Value::Reactive(x) => (n == 14) & numbers::in_range(x.0),
+        Value::Voltage(x) => (n == 11) & value_bounds::is_amount(x.0),
+        Value::Regulator(x) => (n == 12) & value_bounds::is_amount(x.0),
+        Value::Change(x) => (n == 13) & value_bounds::is_amount(x.0),
+        Value::Reactive(x) => (n == 14) & value_bounds::is_amount(x.0),
     }
 }
 

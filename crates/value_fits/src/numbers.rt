@@ -1,20 +1,13 @@
-// Numbers that can be written, and lists of up to four.
+// Lists of up to four numbers.
 use value_list::Numbers;
-ghost use Rattle.value_fits.specs.Fits.{inRange, isSpare, areListed};
+ghost use Rattle.value_fits.specs.Fits.{isSpare, areListed};
 ghost use mathlib.Core.Path.{_≡_};
-
-// Six digits before the point and three after it.
-pub fn in_range(v: i32) -> bool
-    ensures { λ r. ⌜ r ≡ inRange v ⌝ }
-{
-    (-999999999 <= v) & (v <= 999999999)
-}
 
 // The place i of a list of `count` numbers: it can be written, and is zero where the list has ended.
 fn is_spare(count: u8, i: u8, v: i32) -> bool
     ensures { λ r. ⌜ r ≡ isSpare count i v ⌝ }
 {
-    in_range(v) & ((i < count) | (v == 0))
+    value_bounds::is_amount(v) & ((i < count) | (v == 0))
 }
 
 pub fn are_listed(x: Numbers, count: u8) -> bool

@@ -10,7 +10,7 @@ ghost use mathlib.Core.Path.{_≡_};
 fn is_ranged(x: Triple) -> bool
     ensures { λ r. ⌜ r ≡ isRanged x ⌝ }
 {
-    numbers::in_range(x.low) & numbers::in_range(x.high) & numbers::in_range(x.gradient)
+    value_bounds::is_amount(x.low) & value_bounds::is_amount(x.high) & value_bounds::is_amount(x.gradient)
 }
 
 fn is_no_triple(x: Triple) -> bool

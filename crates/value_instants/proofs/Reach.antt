@@ -1,6 +1,7 @@
 -- Which instants the real dates give: all from 31,615,200 to 3,155,756,399, and no others.
 -- Assumes nothing.
 use Prim.Native.Nat.{ℕ, suc, _+_, _-_, _*_, _/_, _%_, _≤_, _<_}
+use Rattle.value_bounds.specs.Bounds.{firstInstant, lastInstant}
 use Rattle.value_date.proofs.Laws.{real-tells, days-more, ahead-low, ahead-least}
 use Rattle.value_date.specs.Date.{daysIn, isReal, Real, daysOf, passed, hoursAhead, clockOf, instantOf}
 use Rattle.value_date.specs.declared.Date.{Date}
@@ -51,10 +52,10 @@ module _ (d : Date) (r : Real d) where
   unfolding instantOf clockOf
   clock-is = omega (arith, ahead-low (d .legal))
 
-  pub bounded-real : (31615200 ≤ instantOf d) × (instantOf d ≤ 3155756399)
+  pub bounded-real : (firstInstant ≤ instantOf d) × (instantOf d ≤ lastInstant)
   bounded-real = omega (arith, clock-is, day-from, day-to, second-low, ahead-low (d .legal), ahead-least (d .legal))
 
-pub bounded : (d : Date) → isReal d ≡ true → (31615200 ≤ instantOf d) × (instantOf d ≤ 3155756399)
+pub bounded : (d : Date) → isReal d ≡ true → (firstInstant ≤ instantOf d) × (instantOf d ≤ lastInstant)
 bounded d e = bounded-real d (real-tells d .0 e)
 
 -- ---- the date that clocks show
@@ -119,7 +120,7 @@ module _ (u : ℕ) (l : Bool) (from : 31622400 ≤ u) (to : u < 3155760000) wher
       record { date = clockDate u l; passes = real-tells (clockDate u l) .1 clock-real; gives = omega (arith, clock-clock, ap hoursAhead clock-legal) }
 
 -- the L of the first hour that only L reaches, and S after it
-pub reached : (t : ℕ) → 31615200 ≤ t → t ≤ 3155756399 → Gives isReal t
+pub reached : (t : ℕ) → firstInstant ≤ t → t ≤ lastInstant → Gives isReal t
 reached t from to =
     by-le 31618800 t
     (λ h. rw (add-sub-cancel t 3600) at (clock-reached (t + 3600) false (omega arith) (omega arith)))
@@ -165,5 +166,5 @@ real-injective d e r q l i =
     sym (clock-back d r) ∙ (λ j. clockDate (i j + hoursAhead (l j)) (l j)) ∙ clock-back e q
 
 -- the instants that real dates give, exactly: what no real date gives is outside these
-pub real-exactly : (t : ℕ) → Gives isReal t ↔ ((31615200 ≤ t) × (t ≤ 3155756399))
+pub real-exactly : (t : ℕ) → Gives isReal t ↔ ((firstInstant ≤ t) × (t ≤ lastInstant))
 real-exactly t = (λ g. rw (g .gives) at (bounded (g .date) (g .passes)), λ h. reached t (h .0) (h .1))

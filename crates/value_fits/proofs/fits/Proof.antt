@@ -33,8 +33,8 @@ is-real-requires c κs = search needs
 enum-known-v-4 : tie.Need-enum-known-v-4
 enum-known-v-4 c = search needs
 
-in-range-requires : tie.Need-in-range-requires
-in-range-requires c κs = search needs
+is-amount-requires : tie.Need-is-amount-requires
+is-amount-requires c κs = search needs
 
 enum-known-v-5 : tie.Need-enum-known-v-5
 enum-known-v-5 c = search needs
@@ -75,26 +75,26 @@ are-listed-requires-2 c κs = search needs
 enum-known-v-11 : tie.Need-enum-known-v-11
 enum-known-v-11 c = search needs
 
-in-range-requires-2 : tie.Need-in-range-requires-2
-in-range-requires-2 c κs = search needs
+is-amount-requires-2 : tie.Need-is-amount-requires-2
+is-amount-requires-2 c κs = search needs
 
 enum-known-v-12 : tie.Need-enum-known-v-12
 enum-known-v-12 c = search needs
 
-in-range-requires-3 : tie.Need-in-range-requires-3
-in-range-requires-3 c κs = search needs
+is-amount-requires-3 : tie.Need-is-amount-requires-3
+is-amount-requires-3 c κs = search needs
 
 enum-known-v-13 : tie.Need-enum-known-v-13
 enum-known-v-13 c = search needs
 
-in-range-requires-4 : tie.Need-in-range-requires-4
-in-range-requires-4 c κs = search needs
+is-amount-requires-4 : tie.Need-is-amount-requires-4
+is-amount-requires-4 c κs = search needs
 
 enum-known-v-14 : tie.Need-enum-known-v-14
 enum-known-v-14 c = search needs
 
-in-range-requires-5 : tie.Need-in-range-requires-5
-in-range-requires-5 c κs = search needs
+is-amount-requires-5 : tie.Need-is-amount-requires-5
+is-amount-requires-5 c κs = search needs
 
 returns : tie.Need-returns
 unfolding fits
@@ -117,7 +117,7 @@ unfolding fits
 returns-5 c =
     let at-v4 = c .before .before in
     let at-number = at-v4 .before .before in
-    rw (at-v4 .v4 .given .1, at-number .number .ensures, c .in-range .ensures, toZ-ofZ w32 (at-v4 .v4 .given .0 .0) (search needs))
+    rw (at-v4 .v4 .given .1, at-number .number .ensures, c .is-amount .ensures, toZ-ofZ w32 (at-v4 .v4 .given .0 .0) (search needs))
 
 returns-6 : tie.Need-returns-6
 unfolding fits
@@ -148,28 +148,28 @@ unfolding fits
 returns-12 c =
     let at-v11 = c .before .before .before in
     let at-number = at-v11 .before .before in
-    rw (at-v11 .v11 .given .1, at-number .number .ensures, c .in-range2 .ensures, toZ-ofZ w32 (at-v11 .v11 .given .0 .0 .0) (search needs))
+    rw (at-v11 .v11 .given .1, at-number .number .ensures, c .is-amount2 .ensures, toZ-ofZ w32 (at-v11 .v11 .given .0 .0 .0) (search needs))
 
 returns-13 : tie.Need-returns-13
 unfolding fits
 returns-13 c =
     let at-v12 = c .before .before .before in
     let at-number = at-v12 .before .before in
-    rw (at-v12 .v12 .given .1, at-number .number .ensures, c .in-range3 .ensures, toZ-ofZ w32 (at-v12 .v12 .given .0 .0 .0) (search needs))
+    rw (at-v12 .v12 .given .1, at-number .number .ensures, c .is-amount3 .ensures, toZ-ofZ w32 (at-v12 .v12 .given .0 .0 .0) (search needs))
 
 returns-14 : tie.Need-returns-14
 unfolding fits
 returns-14 c =
     let at-v13 = c .before .before .before in
     let at-number = at-v13 .before .before in
-    rw (at-v13 .v13 .given .1, at-number .number .ensures, c .in-range4 .ensures, toZ-ofZ w32 (at-v13 .v13 .given .0 .0 .0) (search needs))
+    rw (at-v13 .v13 .given .1, at-number .number .ensures, c .is-amount4 .ensures, toZ-ofZ w32 (at-v13 .v13 .given .0 .0 .0) (search needs))
 
 returns-15 : tie.Need-returns-15
 unfolding fits
 returns-15 c =
     let at-v14 = c .before .before .before in
     let at-number = at-v14 .before .before in
-    rw (at-v14 .v14 .given .1, at-number .number .ensures, c .in-range5 .ensures, toZ-ofZ w32 (at-v14 .v14 .given .0 .0 .0) (search needs))
+    rw (at-v14 .v14 .given .1, at-number .number .ensures, c .is-amount5 .ensures, toZ-ofZ w32 (at-v14 .v14 .given .0 .0 .0) (search needs))
 
 pub fits-spec : {M : Type 1} → statement M
 fits-spec =
@@ -184,7 +184,7 @@ fits-spec =
     enum-known-v-3
     is-real-requires
     enum-known-v-4
-    in-range-requires
+    is-amount-requires
     enum-known-v-5
     enum-known-v-6
     is-kept-requires
@@ -198,13 +198,13 @@ fits-spec =
     enum-known-v-10
     are-listed-requires-2
     enum-known-v-11
-    in-range-requires-2
+    is-amount-requires-2
     enum-known-v-12
-    in-range-requires-3
+    is-amount-requires-3
     enum-known-v-13
-    in-range-requires-4
+    is-amount-requires-4
     enum-known-v-14
-    in-range-requires-5
+    is-amount-requires-5
     returns
     returns-2
     returns-3

@@ -7,12 +7,12 @@ use borrow.Author.Needs.{needs}
 use mir.Syntax.{w32}
 use mir.ValLaws.{toZ-ofZ}
 
-in-range-requires : tie.Need-in-range-requires
-in-range-requires c κs = search needs
+is-amount-requires : tie.Need-is-amount-requires
+is-amount-requires c κs = search needs
 
 returns : tie.Need-returns
 unfolding isSpare
-returns c = let v = c .before .args .v in rw (c .in-range .ensures, toZ-ofZ w32 v (search needs), zero-bits v (search needs))
+returns c = let v = c .before .args .v in rw (c .is-amount .ensures, toZ-ofZ w32 v (search needs), zero-bits v (search needs))
 
 pub is-spare-spec : {M : Type 1} → statement M
-is-spare-spec = tie.close (tie.spec in-range-requires returns)
+is-spare-spec = tie.close (tie.spec is-amount-requires returns)

@@ -6,14 +6,14 @@ use borrow.Author.Needs.{needs}
 use mir.Syntax.{w32}
 use mir.ValLaws.{toZ-ofZ}
 
-in-range-requires : tie.Need-in-range-requires
-in-range-requires c κs = search needs
+is-amount-requires : tie.Need-is-amount-requires
+is-amount-requires c κs = search needs
 
-in-range-requires-2 : tie.Need-in-range-requires-2
-in-range-requires-2 c κs = search needs
+is-amount-requires-2 : tie.Need-is-amount-requires-2
+is-amount-requires-2 c κs = search needs
 
-in-range-requires-3 : tie.Need-in-range-requires-3
-in-range-requires-3 c κs = search needs
+is-amount-requires-3 : tie.Need-is-amount-requires-3
+is-amount-requires-3 c κs = search needs
 
 returns : tie.Need-returns
 unfolding isRanged
@@ -22,9 +22,9 @@ returns c =
     let first = second .before .before in
     let x = first .before .before .args .x in
     rw (
-      first .in-range .ensures,
-      second .in-range2 .ensures,
-      c .in-range3 .ensures,
+      first .is-amount .ensures,
+      second .is-amount2 .ensures,
+      c .is-amount3 .ensures,
       toZ-ofZ w32 (x .low) (search needs),
       toZ-ofZ w32 (x .high) (search needs),
       toZ-ofZ w32 (x .gradient) (search needs),
@@ -32,4 +32,4 @@ returns c =
 
 pub is-ranged-spec : {M : Type 1} → statement M
 is-ranged-spec =
-    tie.close (tie.spec in-range-requires in-range-requires-2 in-range-requires-3 returns)
+    tie.close (tie.spec is-amount-requires is-amount-requires-2 is-amount-requires-3 returns)
