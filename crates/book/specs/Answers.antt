@@ -6,11 +6,13 @@ use Rattle.book.specs.declared.Book.{Book}
 use Rattle.book.specs.declared.InForce.{InForce}
 use Rattle.book.specs.declared.InForce.the-variants.{Refused, Nothing, Number}
 use Rattle.book.specs.declared.Outcome.{Outcome}
-use Rattle.book_ledger.specs.Calls.{Call, ask}
-use Rattle.book_ledger.specs.Ledger.{fresh, answer, step, inForce}
+use Rattle.book_ledger.specs.Calls.{Call, ask, Deed, couldAsk}
+use Rattle.book_ledger.specs.Ledger.{fresh, rungsOf, isFull, answer, effect, step, inForce}
 use Rattle.value_name.specs.Names.{isUnit}
+use Rattle.text.specs.Refusals.{refusal, firstNumber}
 use Rattle.text.specs.Said.{Said, said}
-use mathlib.Core.Bool.{cond}
+use lib.Dec.{eqb}
+use mathlib.Core.Bool.{not, cond}
 use mathlib.Core.List.{List, [], _∷_}
 
 -- a call's answer is its number and detail, and all details are 0
@@ -28,6 +30,22 @@ nextOf k b = cond (formedBook b) (bookOf (step k (shelf b))) b
 -- THE DEFINITION: command, revocation and close
 abbrev pub outcomeOf : Call → Book → Outcome
 outcomeOf k b = outcome (callNumber k b) (nextOf k b)
+
+-- ---- what a deed answers that no message brought: 20, 12 no valid message asks for it, and then the deed's own
+
+unfoldable pub deedNumber : Deed → Book → ℕ
+deedNumber d b =
+    firstNumber (refusal 20 0 (not (formedBook b)) ∷ refusal 12 0 (not (couldAsk d)) ∷ rungsOf (isFull (shelf b)) d (shelf b))
+
+-- a refused deed hands the same book back
+unfoldable pub deedNext : Deed → Book → Book
+deedNext d b = cond (eqb (deedNumber d b) 0) (bookOf (effect d (shelf b))) b
+
+-- THE DEFINITION: hold and strike
+abbrev pub deedOutcomeOf : Deed → Book → Outcome
+deedOutcomeOf d b = outcome (deedNumber d b) (deedNext d b)
+
+-- ---- a fresh book
 
 -- THE DEFINITION: a fresh book for a unit. 21, the code is bad, with the all-zero book
 unfoldable pub freshOf : List ℕ → Outcome

@@ -1,15 +1,19 @@
 // The book of commands of one unit, by value: each call takes the book and hands one back. Held orders fill the first places by ascending number; all
 // other places are zero. A caller may have built the book from anything: a malformed one is refused.
 mod fitness;
-mod places;
 
 use book_order::Order;
-use fitness::Tally;
+use book_places::Place;
 use record::Record;
 use value_name::unit;
-ghost use Rattle.book.specs.Answers.{outcome, outcomeOf, freshOf, askedOf};
-ghost use Rattle.book.specs.Places.{zeroBook};
-ghost use Rattle.book_ledger.specs.Calls.{Call};
+ghost use Prim.Native.Nat.{_≤_};
+ghost use Rattle.book.specs.Answers.{outcome, outcomeOf, deedOutcomeOf, freshOf, found, askedOf};
+ghost use Rattle.book.specs.Places.{bookWith, bookFrom, zeroBook, withOrders, tallyOf};
+ghost use Rattle.book_ledger.specs.Calls.{Call, Deed};
+ghost use Rattle.book_lists.specs.Keyed.{greatest, Ascending};
+ghost use Rattle.book_order.specs.Orders.{number, live, isBrought, strikeFor};
+ghost use lib.ListN.{take};
+ghost use mathlib.Core.Bool.{true};
 ghost use mathlib.Core.Path.{_≡_};
 
 // The unit's code stands in the first `size` bytes of its room.
@@ -40,6 +44,12 @@ pub struct Asked {
     pub book: Book,
 }
 
+// How many orders a book holds, unless it is malformed.
+pub enum Tally {
+    Malformed,
+    Holds(usize),
+}
+
 fn answered(number: u8, book: Book) -> Outcome
     ensures { λ r. ⌜ r ≡ outcome number book ⌝ }
 {
@@ -50,16 +60,30 @@ fn answered(number: u8, book: Book) -> Outcome
     }
 }
 
+// Every book is made here.
+fn make(size: usize, unit: [u8; 16], floor: u32, orders: [Order; 96]) -> Book
+    ensures { λ r. ⌜ r ≡ bookWith size unit floor orders ⌝ }
+{
+    Book {
+        size,
+        unit,
+        floor,
+        orders,
+    }
+}
+
 // The all-zero book.
 fn zero() -> Book
     ensures { λ r. ⌜ r ≡ zeroBook ⌝ }
 {
-    Book {
-        size: 0,
-        unit: [0; 16],
-        floor: 0,
-        orders: [book_order::EMPTY; 96],
-    }
+    make(0, [0; 16], 0, [book_order::EMPTY; 96])
+}
+
+// The book of a unit with a floor and orders.
+pub fn with(unit: &[u8], floor: u32, orders: [Order; 96]) -> Book
+    ensures { λ r. ⌜ r ≡ bookFrom (now (unit .entry)) floor orders ⌝ }
+{
+    make(unit.len(), text_room::keep_unit(unit), floor, orders)
 }
 
 // A fresh book for a unit: 96 empty places and the floor 0. A bad code is refused 21, and gives the all-zero book, which every call refuses.
@@ -69,23 +93,114 @@ pub fn fresh(unit: &[u8]) -> Outcome
     if !unit::is_unit(unit) {
         return answered(21, zero());
     }
-    answered(
-        0,
-        Book {
-            size: unit.len(),
-            unit: text_room::keep_unit(unit),
-            floor: 0,
-            orders: [book_order::EMPTY; 96],
-        },
-    )
+    answered(0, with(unit, 0, [book_order::EMPTY; 96]))
+}
+
+// Of the first `count` orders, which stand by ascending number, the last one that is in force at t.
+fn in_force_in(orders: [Order; 96], count: usize, t: u32) -> InForce
+    requires { ⌜ (count ≤ 96) × Ascending number (take count orders) ⌝ }
+    ensures { λ r. ⌜ r ≡ found (greatest number (live t) (take count orders)) ⌝ }
+{
+    let Place::At(i) = book_places::last_live(orders, 0, count, t) else {
+        return InForce::Nothing;
+    };
+    let o = orders[i];
+    InForce::Number(o.number)
 }
 
 impl Book {
+    // How many orders the book holds: they stand in its first places, and the others are empty.
+    pub fn tally(self) -> Tally
+        ensures { λ r. ⌜ r ≡ tallyOf self ⌝ }
+    {
+        let unit = self.unit;
+        if !fitness::is_formed_unit(self.size, &unit) {
+            return Tally::Malformed;
+        }
+        let orders = self.orders;
+        let count = book_places::count_from(orders, 0, 96, self.floor);
+        if !book_places::are_empty(orders, count) {
+            return Tally::Malformed;
+        }
+        Tally::Holds(count)
+    }
+
+    // The book with another floor and other orders.
+    fn made(self, floor: u32, orders: [Order; 96]) -> Book
+        ensures { λ r. ⌜ r ≡ withOrders self floor orders ⌝ }
+    {
+        let unit = self.unit;
+        make(self.size, unit, floor, orders)
+    }
+
+    // Holds an order that some valid CB record brings, in a book that holds `count`.
+    fn hold_in(self, count: usize, o: Order) -> Outcome
+        requires { ⌜ (tallyOf self ≡ Tally.Holds count) × (isBrought o ≡ true) ⌝ }
+        ensures { λ r. ⌜ r ≡ deedOutcomeOf (Deed.hold o) self ⌝ }
+    {
+        if o.end <= self.floor {
+            return answered(23, self);
+        }
+        let orders = self.orders;
+        let seat = book_places::seat_of(orders, 0, count, o.number);
+        if seat.held {
+            return answered(22, self);
+        }
+        if count == 96 {
+            return answered(24, self);
+        }
+        answered(0, self.made(self.floor, book_places::put_in(orders, seat.at, count, o)))
+    }
+
+    // Strikes the order that has a number of at most ten digits. It keeps its place until it is closed, so that a command sent again cannot revive it.
+    fn strike_in(self, count: usize, n: u64) -> Outcome
+        requires { ⌜ (tallyOf self ≡ Tally.Holds count) × (n ≤ mostNumber) ⌝ }
+        ensures { λ r. ⌜ r ≡ deedOutcomeOf (Deed.strike (strikeFor n)) self ⌝ }
+    {
+        let orders = self.orders;
+        let seat = book_places::seat_of(orders, 0, count, n);
+        if !seat.held {
+            return answered(25, self);
+        }
+        let at = seat.at;
+        let o = orders[at];
+        if o.struck {
+            return answered(26, self);
+        }
+        answered(0, self.made(self.floor, book_places::replace(orders, at, book_order::struck_out(o))))
+    }
+
+    // Holds an order. 12: no valid CB record brings it.
+    pub fn hold(self, o: Order) -> Outcome
+        ensures { λ r. ⌜ r ≡ deedOutcomeOf (Deed.hold o) self ⌝ }
+    {
+        let Tally::Holds(count) = self.tally() else {
+            return answered(20, self);
+        };
+        if !book_order::is_brought(o) {
+            return answered(12, self);
+        }
+        self.hold_in(count, o)
+    }
+
+    // Strikes the order that has a number. 12: no valid RC record names it.
+    pub fn strike(self, n: u64) -> Outcome
+        ensures { λ r. ⌜ r ≡ deedOutcomeOf (Deed.strike (strikeFor n)) self ⌝ }
+    {
+        let Tally::Holds(count) = self.tally() else {
+            return answered(20, self);
+        };
+        if value_bounds::MOST_NUMBER < n {
+            return answered(12, self);
+        }
+        self.strike_in(count, n)
+    }
+
     // Holds the order of a CB record.
     pub fn command(self, r: Record) -> Outcome
         ensures { λ o. ⌜ o ≡ outcomeOf (Call.command r) self ⌝ }
     {
-        let Tally::Holds(count) = fitness::count_held(self) else {
+        let Tally::Holds(count) = self.tally() else {
             return answered(20, self);
         };
         let l = r.layout;
@@ -93,26 +208,14 @@ impl Book {
         if unfit != 0 {
             return answered(unfit, self);
         }
-        let o = book_order::of_record(r);
-        if o.end <= self.floor {
-            return answered(23, self);
-        }
-        let seat = places::seat_of(self, count, o.number);
-        let at = seat.at;
-        if seat.held {
-            return answered(22, self);
-        }
-        if count == 96 {
-            return answered(24, self);
-        }
-        answered(0, places::put_in(self, at, count, o))
+        self.hold_in(count, book_order::of_record(r))
     }
 
-    // Strikes the order that an RC record names. It keeps its place until it is closed, so that a command sent again cannot revive it.
+    // Strikes the order that an RC record names.
     pub fn revoke(self, r: Record) -> Outcome
         ensures { λ o. ⌜ o ≡ outcomeOf (Call.revoke r) self ⌝ }
     {
-        let Tally::Holds(count) = fitness::count_held(self) else {
+        let Tally::Holds(count) = self.tally() else {
             return answered(20, self);
         };
         let l = r.layout;
@@ -120,36 +223,30 @@ impl Book {
         if unfit != 0 {
             return answered(unfit, self);
         }
-        let n = book_order::named_by(r);
-        let seat = places::seat_of(self, count, n);
-        let at = seat.at;
-        if !seat.held {
-            return answered(25, self);
-        }
-        if seat.struck {
-            return answered(26, self);
-        }
-        answered(0, places::strike(self, at))
+        self.strike_in(count, book_order::named_by(r))
     }
 
     // Closes the time up to t: the floor is t, and orders that end at t or before go.
     pub fn close(self, t: u32) -> Outcome
         ensures { λ o. ⌜ o ≡ outcomeOf (Call.close t) self ⌝ }
     {
-        let Tally::Holds(count) = fitness::count_held(self) else {
+        let Tally::Holds(count) = self.tally() else {
             return answered(20, self);
         };
         if t < self.floor {
             return answered(27, self);
         }
-        answered(0, places::close(self, count, t))
+        let orders = self.orders;
+        let kept = book_places::keep_past(orders, 0, count, count, t);
+        let next = kept.orders;
+        answered(0, self.made(t, next))
     }
 
     // The order in force at t.
     pub fn in_force(self, t: u32) -> Asked
         ensures { λ a. ⌜ a ≡ askedOf t self ⌝ }
     {
-        let Tally::Holds(count) = fitness::count_held(self) else {
+        let Tally::Holds(count) = self.tally() else {
             return Asked {
                 answer: InForce::Refused(20, 0),
                 book: self,
@@ -161,8 +258,9 @@ impl Book {
                 book: self,
             };
         }
+        let orders = self.orders;
         Asked {
-            answer: places::last_live(self, count, t),
+            answer: in_force_in(orders, count, t),
             book: self,
         }
     }

@@ -5,13 +5,13 @@ use Rattle.report_brief.specs.Brief.{unitOf}
 use Rattle.layout.specs.Layouts.{isCommand, isRevocation}
 use Rattle.layout.specs.declared.Layout.{Layout}
 use Rattle.book_order.specs.Messages.{orderOf, strikeOf}
-use Rattle.book_order.specs.Orders.{Name, sameName, nameOf, Strike}
+use Rattle.book_order.specs.Orders.{Name, sameName, nameOf, Strike, couldStrike, isBrought}
 use Rattle.book_order.specs.declared.Order.{Order}
 use Rattle.record.specs.declared.Record.{Record}
 use Rattle.text.specs.Bytes.{same}
 use Rattle.text.specs.Refusals.{Refusal, refusal}
 use Rattle.record_check.specs.Validity.{isValid}
-use mathlib.Core.Bool.{Bool, false, not, _&&_}
+use mathlib.Core.Bool.{Bool, true, false, not, _&&_}
 use mathlib.Core.List.{List, _∷_}
 
 -- a command and a revocation bring a record; close and the question which order is in force name an instant
@@ -41,6 +41,13 @@ deedOf (command r) = hold (orderOf r)
 deedOf (revoke r) = strike (strikeOf r)
 deedOf (close t) = shut t
 deedOf (ask t) = look t
+
+-- a deed that some valid message asks for
+abbrev pub couldAsk : Deed → Bool
+couldAsk (hold o) = isBrought o
+couldAsk (strike s) = couldStrike s
+couldAsk (shut t) = true
+couldAsk (look t) = true
 
 -- the refusals for a call's message alone, and then the rest
 abbrev pub unfitOf : List ℕ → Call → List Refusal → List Refusal

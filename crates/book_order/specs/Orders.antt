@@ -42,6 +42,14 @@ pastEnd t o = ltb t (o .end)
 pub record Strike : Type 0 where
   pub name : Name
 
+-- of the order that has this number
+abbrev pub strikeFor : ℕ → Strike
+strikeFor n = record { name = record { number = n } }
+
+-- what some valid RC record says: a number of at most ten digits
+abbrev pub couldStrike : Strike → Bool
+couldStrike s = leb (s .name .number) mostNumber
+
 abbrev pub struckOut : Order → Order
 struckOut o =
     record {
@@ -96,3 +104,7 @@ couldCome o =
     leb (o .number) mostNumber
     && (isInstant (o .start)
     && (isInstant (o .end) && (isAmount (o .first) && fitsLayout (o .layout) (o .end - o .start) (o .second))))
+
+-- what a valid CB record brings: no order is struck when it comes
+unfoldable pub isBrought : Order → Bool
+isBrought o = couldCome o && not (o .struck)

@@ -7,7 +7,7 @@ ghost use Prim.Native.Nat.{_≤_};
 ghost use Rattle.value_ask.specs.Values.{instantIn};
 ghost use Rattle.report_brief.specs.Brief.{startOf, endOf};
 ghost use Rattle.book_order.specs.Messages.{firstVariation, secondVariation, orderOf, strikeOf};
-ghost use Rattle.book_order.specs.Orders.{live, isEmpty, fitsLayout, couldCome};
+ghost use Rattle.book_order.specs.Orders.{live, struckOut, isEmpty, fitsLayout, couldCome, isBrought};
 ghost use mathlib.Core.Path.{_≡_};
 
 // Start and end are instants, the variations thousandths of a megawatt. Of mFRR: TINI1 and TFIN2, its one variation and 0.
@@ -80,6 +80,15 @@ pub fn named_by(r: Record) -> u64
     value_ask::count_in(record::field(cells, fields::SEQUENCE))
 }
 
+// The order struck.
+pub fn struck_out(o: Order) -> Order
+    ensures { λ r. ⌜ r ≡ struckOut o ⌝ }
+{
+    let mut s = o;
+    s.struck = true;
+    s
+}
+
 // Whether an order is in force at t.
 pub fn is_live(o: Order, t: u32) -> bool
     ensures { λ r. ⌜ r ≡ live t o ⌝ }
@@ -124,4 +133,11 @@ pub fn could_come(o: Order) -> bool
         & value_bounds::is_instant(o.end)
         & value_bounds::is_amount(o.first)
         & fits_layout(l, o.end - o.start, o.second)
+}
+
+// Whether some valid CB record brings the order: it is not struck.
+pub fn is_brought(o: Order) -> bool
+    ensures { λ r. ⌜ r ≡ isBrought o ⌝ }
+{
+    could_come(o) & !o.struck
 }

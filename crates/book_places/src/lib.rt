@@ -1,0 +1,148 @@
+// The 96 places of a book, as an array by value: which of them hold orders, where a number stands among those from one place up to another, and the
+// places with an order put in, replaced or let go. What holds of places whatever stands there is in book_shelf.
+use book_order::Order;
+ghost use Prim.Native.Nat.{_+_, _≤_, _<_};
+ghost use Rattle.book_order.specs.Orders.{isEmpty, live};
+ghost use Rattle.book_places.specs.Places.{fitsAfter, leading, seatIn, keptOf, placeOf};
+ghost use Rattle.book_shelf.specs.Shelf.{between, putIn, replaced, lastAt};
+ghost use Rattle.text.specs.Bytes.{all};
+ghost use lib.ListN.{drop};
+ghost use mathlib.Core.Path.{_≡_};
+
+// Where a number stands among the orders looked at, or would stand, and whether an order has it.
+pub struct Seat {
+    pub at: usize,
+    pub held: bool,
+}
+
+// The place of an order, if there is one.
+pub enum Place {
+    At(usize),
+    Nothing,
+}
+
+// The places that are left filled, and how many.
+pub struct Kept {
+    pub orders: [Order; 96],
+    pub count: usize,
+}
+
+// Whether an order may stand after numbers below `least`, in a book with this floor.
+fn fits_after(floor: u32, least: u64, o: Order) -> bool
+    ensures { λ r. ⌜ r ≡ fitsAfter floor least o ⌝ }
+{
+    (least <= o.number) & (floor < o.end) & book_order::could_come(o)
+}
+
+// How far the places from `from` on, up to `to`, hold orders by ascending number that fit a book with this floor.
+pub fn count_from(orders: [Order; 96], from: usize, to: usize, floor: u32) -> usize
+    requires { ⌜ (from ≤ to) × (to ≤ 96) ⌝ }
+    ensures { λ r. ⌜ r ≡ from + leading floor 0 (between from to orders) ⌝ }
+{
+    let mut least: u64 = 0;
+    let mut i = from;
+    while i < to {
+        let o = orders[i];
+        if !fits_after(floor, least, o) {
+            return i;
+        }
+        least = o.number + 1;
+        i += 1;
+    }
+    i
+}
+
+// The places from `from` on are empty.
+pub fn are_empty(orders: [Order; 96], from: usize) -> bool
+    ensures { λ r. ⌜ r ≡ all isEmpty (drop from orders) ⌝ }
+{
+    let mut i = from;
+    while i < 96 {
+        if !book_order::is_empty(orders[i]) {
+            return false;
+        }
+        i += 1;
+    }
+    true
+}
+
+// The seat of a number among the orders from `from` up to `to`.
+pub fn seat_of(orders: [Order; 96], from: usize, to: usize, n: u64) -> Seat
+    requires { ⌜ (from ≤ to) × (to ≤ 96) ⌝ }
+    ensures { λ r. ⌜ r ≡ seatIn n from to orders ⌝ }
+{
+    let mut i = from;
+    while i < to {
+        let o = orders[i];
+        if n <= o.number {
+            return Seat {
+                at: i,
+                held: o.number == n,
+            };
+        }
+        i += 1;
+    }
+    Seat { at: i, held: false }
+}
+
+// The places with one order more: those from `at` up to `count`, the first empty place, move up by one.
+pub fn put_in(orders: [Order; 96], at: usize, count: usize, o: Order) -> [Order; 96]
+    requires { ⌜ (at ≤ count) × (count < 96) ⌝ }
+    ensures { λ r. ⌜ r ≡ putIn at count o orders ⌝ }
+{
+    let mut next = orders;
+    let mut i = count;
+    while at < i {
+        next[i] = next[i - 1];
+        i -= 1;
+    }
+    next[at] = o;
+    next
+}
+
+// The places with another order at one of them.
+pub fn replace(orders: [Order; 96], at: usize, o: Order) -> [Order; 96]
+    requires { ⌜ at < 96 ⌝ }
+    ensures { λ r. ⌜ r ≡ replaced at o orders ⌝ }
+{
+    let mut next = orders;
+    next[at] = o;
+    next
+}
+
+// Of the first `count` orders those that do not stand from `from` up to `to`, or end past t, in the first places.
+pub fn keep_past(orders: [Order; 96], from: usize, to: usize, count: usize, t: u32) -> Kept
+    requires { ⌜ count ≤ 96 ⌝ }
+    ensures { λ r. ⌜ r ≡ keptOf from to count t orders ⌝ }
+{
+    let mut next = [book_order::EMPTY; 96];
+    let mut kept = 0;
+    let mut i = 0;
+    while i < count {
+        let o = orders[i];
+        if (i < from) | (to <= i) | (t < o.end) {
+            next[kept] = o;
+            kept += 1;
+        }
+        i += 1;
+    }
+    Kept {
+        orders: next,
+        count: kept,
+    }
+}
+
+// Of the orders from `from` up to `to` the last one that is in force at t.
+pub fn last_live(orders: [Order; 96], from: usize, to: usize, t: u32) -> Place
+    requires { ⌜ (from ≤ to) × (to ≤ 96) ⌝ }
+    ensures { λ r. ⌜ r ≡ placeOf (lastAt (live t) from (between from to orders)) ⌝ }
+{
+    let mut i = to;
+    while from < i {
+        i -= 1;
+        if book_order::is_live(orders[i], t) {
+            return Place::At(i);
+        }
+    }
+    Place::Nothing
+}

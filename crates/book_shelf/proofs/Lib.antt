@@ -1,0 +1,5 @@
+pub mod Ranks
+pub mod Placing
+pub mod Replacing
+pub mod Keeping
+pub mod Lasting

@@ -1,0 +1,1 @@
+// No code: things by ascending key in the first of some places, as definitions and laws.
