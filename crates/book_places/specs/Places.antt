@@ -11,7 +11,7 @@ use Rattle.book_shelf.specs.Shelf.{packed as packedIn, thing, between, rankOf, 
 use Rattle.text.specs.Bytes.{all}
 use lib.Dec.{leb, ltb}
 use lib.ListN.{length, take}
-use mathlib.Core.Bool.{Bool, true, not, _&&_, _||_, cond}
+use mathlib.Core.Bool.{Bool, true, _&&_, _||_, cond}
 use mathlib.Core.List.{List, [], _∷_}
 
 -- ---- places and what stands there
