@@ -7,11 +7,13 @@ use Rattle.book_places.specs.declared.Kept.{Kept}
 use Rattle.book_places.specs.declared.Place.{Place}
 use Rattle.book_places.specs.declared.Place.the-variants.{At, Nothing}
 use Rattle.book_places.specs.declared.Seat.{Seat}
+use Rattle.book_places.specs.declared.Tally.{Tally}
+use Rattle.book_places.specs.declared.Tally.the-variants.{Malformed, Holds}
 use Rattle.book_shelf.specs.Shelf.{packed as packedIn, thing, between, rankOf, isHeldAt, keepAt}
 use Rattle.text.specs.Bytes.{all}
 use lib.Dec.{leb, ltb}
 use lib.ListN.{length, take}
-use mathlib.Core.Bool.{Bool, true, not, _&&_, _||_, cond}
+use mathlib.Core.Bool.{Bool, true, _&&_, _||_, cond}
 use mathlib.Core.List.{List, [], _∷_}
 
 -- ---- places and what stands there
@@ -42,6 +44,10 @@ formedFrom f lo (o ∷ l) = cond (isEmpty o) (all isEmpty l) (fitsAfter f lo o &
 unfoldable pub leading : ℕ → ℕ → List Order → ℕ
 leading f lo [] = 0
 leading f lo (o ∷ l) = cond (fitsAfter f lo o) (suc (leading f (suc (o .number)) l)) 0
+
+-- how many orders the places of a book with the floor f hold, unless they are malformed
+unfoldable pub tallyIn : ℕ → List Order → Tally
+tallyIn f l = cond (formedFrom f 0 l) (Holds (leading f 0 l)) Malformed
 
 -- ---- the seat of the number n among the places from..to: where it stands or would stand, and whether an order has it
 

@@ -1,13 +1,17 @@
 // The 96 places of a book, as an array by value: which of them hold orders, where a number stands among those from one place up to another, and the
-// places with an order put in, replaced or let go. What holds of places whatever stands there is in book_shelf.
+// places with an order put in or let go. What holds of places whatever stands there is in book_shelf.
 use book_order::Order;
-ghost use Prim.Native.Nat.{_+_, _≤_, _<_};
-ghost use Rattle.book_order.specs.Orders.{isEmpty, live};
-ghost use Rattle.book_places.specs.Places.{fitsAfter, leading, seatIn, keptOf, placeOf};
-ghost use Rattle.book_shelf.specs.Shelf.{between, putIn, replaced, lastAt};
-ghost use Rattle.text.specs.Bytes.{all};
-ghost use lib.ListN.{drop};
+ghost use Prim.Native.Nat.{_≤_, _<_};
+ghost use Rattle.book_order.specs.Orders.{live};
+ghost use Rattle.book_places.specs.Places.{fitsAfter, tallyIn, seatIn, keptOf, placeOf};
+ghost use Rattle.book_shelf.specs.Shelf.{between, putIn, lastAt};
 ghost use mathlib.Core.Path.{_≡_};
+
+// How many orders the places hold, unless they are malformed.
+pub enum Tally {
+    Malformed,
+    Holds(usize),
+}
 
 // Where a number stands among the orders looked at, or would stand, and whether an order has it.
 pub struct Seat {
@@ -34,36 +38,29 @@ fn fits_after(floor: u32, least: u64, o: Order) -> bool
     (least <= o.number) & (floor < o.end) & book_order::could_come(o)
 }
 
-// How far the places from `from` on, up to `to`, hold orders by ascending number that fit a book with this floor.
-pub fn count_from(orders: [Order; 96], from: usize, to: usize, floor: u32) -> usize
-    requires { ⌜ (from ≤ to) × (to ≤ 96) ⌝ }
-    ensures { λ r. ⌜ r ≡ from + leading floor 0 (between from to orders) ⌝ }
+// How many of the places hold orders, by ascending number, that fit a book with this floor, if those after them are empty. One look at the places for
+// both, since each look by a function of its own copies them.
+pub fn count_held(orders: [Order; 96], floor: u32) -> Tally
+    ensures { λ r. ⌜ r ≡ tallyIn floor orders ⌝ }
 {
     let mut least: u64 = 0;
-    let mut i = from;
-    while i < to {
-        let o = orders[i];
+    let mut count = 0;
+    while count < 96 {
+        let o = orders[count];
         if !fits_after(floor, least, o) {
-            return i;
+            break;
         }
         least = o.number + 1;
-        i += 1;
+        count += 1;
     }
-    i
-}
-
-// The places from `from` on are empty.
-pub fn are_empty(orders: [Order; 96], from: usize) -> bool
-    ensures { λ r. ⌜ r ≡ all isEmpty (drop from orders) ⌝ }
-{
-    let mut i = from;
+    let mut i = count;
     while i < 96 {
         if !book_order::is_empty(orders[i]) {
-            return false;
+            return Tally::Malformed;
         }
         i += 1;
     }
-    true
+    Tally::Holds(count)
 }
 
 // The seat of a number among the orders from `from` up to `to`.
@@ -96,16 +93,6 @@ pub fn put_in(orders: [Order; 96], at: usize, count: usize, o: Order) -> [Order;
         next[i] = next[i - 1];
         i -= 1;
     }
-    next[at] = o;
-    next
-}
-
-// The places with another order at one of them.
-pub fn replace(orders: [Order; 96], at: usize, o: Order) -> [Order; 96]
-    requires { ⌜ at < 96 ⌝ }
-    ensures { λ r. ⌜ r ≡ replaced at o orders ⌝ }
-{
-    let mut next = orders;
     next[at] = o;
     next
 }

@@ -1,3 +1,4 @@
+pub mod Packing
 pub mod Ranks
 pub mod Placing
 pub mod Replacing

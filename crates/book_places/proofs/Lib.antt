@@ -1,0 +1,4 @@
+pub mod Empty
+pub mod Leading
+pub mod Seats
+pub mod Staying
