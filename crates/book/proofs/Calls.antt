@@ -1,34 +1,36 @@
 -- Every way out of a call on a book, from what its code knows there to the answer that is defined. Assumes nothing.
 use Prim.Native.Nat.{ℕ, _≤_, _<_}
-use Rattle.book.proofs.Formed.{malformed, refused, done, with-book, asked-malformed, asked-refused, asked-done}
+use Rattle.book.proofs.Formed.{malformed, refused, by-deed, with-book, deed-malformed, deed-refused, deed-done, asked-malformed, asked-refused, asked-done}
 use Rattle.book.proofs.Holding.{Holding, holds-none}
-use Rattle.book.proofs.Leading.{ascending-rising}
-use Rattle.book.proofs.Placing.{put-packed, strike-packed}
-use Rattle.book.proofs.Ranks.{seat-inside, held-seat, struck-seat}
-use Rattle.book.proofs.fitness.Tally.{the-type}
-use Rattle.book.specs.Answers.{outcome, outcomeOf, found, askedOf}
-use Rattle.book.specs.Places.{packed, bookOf, shelf}
-use Rattle.book.specs.Steps.{tallyOf, unfitOf, seatOf, putIn, withOrders, struckIn}
+use Rattle.book.specs.Answers.{outcome, outcomeOf, deedOutcomeOf, found, askedOf}
+use Rattle.book.specs.Places.{withOrders, bookOf, shelf, tallyOf, unfitIn}
 use Rattle.book.specs.declared.Book.{Book}
 use Rattle.book.specs.declared.InForce.{InForce}
 use Rattle.book.specs.declared.InForce.the-variants.{Refused}
-use Rattle.book.specs.declared.fitness.Tally.{Tally}
-use Rattle.book.specs.declared.places.Seat.{Seat}
-use Rattle.value_ask.specs.Values.{instantIn}
-use Rattle.report_brief.specs.Brief.{unitOf, startOf, endOf}
-use Rattle.book_source.proofs.Comes.{instants-fit}
+use Rattle.book_ledger.specs.Calls.{Call, command, revoke, close, Deed, hold, strike, shut, deedOf, unfit, couldAsk}
+use Rattle.book_ledger.specs.Ledger.{answer, effect, rungsOf, isFull}
 use Rattle.book_lists.specs.Keyed.{keep, insert, greatest, Ascending}
+use Rattle.book_order.specs.Messages.{orderOf, strikeOf}
+use Rattle.book_order.specs.Orders.{Strike, number, nameOf, named, live, pastEnd, strikeFor, couldStrike, struckOut, strikeAt, already, couldCome, isBrought}
+use Rattle.book_order.specs.declared.Order.{Order}
+use Rattle.book_places.proofs.Seats.{held-seat, any-seat, put-seat, change-seat}
+use Rattle.book_places.proofs.Seats as seats
+use Rattle.book_places.proofs.Staying.{kept-all}
+use Rattle.book_places.proofs.Tally.{the-type}
+use Rattle.book_places.specs.Places.{packed, orderAt, seatIn, keptIn}
+use Rattle.book_places.specs.declared.Seat.{Seat}
+use Rattle.book_places.specs.declared.Tally.{Tally}
+use Rattle.book_shelf.proofs.Ranks.{ascending-rising}
+use Rattle.book_shelf.specs.Shelf.{putIn, replaced}
+use Rattle.book_source.proofs.Comes.{comes, instants-fit, names-fit}
 use Rattle.layout.specs.Layouts.{isCommand, isRevocation}
 use Rattle.layout.specs.declared.Layout.{Layout}
-use Rattle.book_ledger.specs.Calls.{Call, command, revoke, close, deedOf, unfit}
-use Rattle.book_ledger.specs.Ledger.{answer, effect}
-use Rattle.book_order.specs.Messages.{orderOf, strikeOf}
-use Rattle.book_order.specs.Orders.{number, nameOf, named, live, pastEnd, strikeAt, already}
-use Rattle.book_order.specs.declared.Order.{Order}
 use Rattle.record.specs.declared.Record.{Record}
+use Rattle.record_check.specs.Validity.{isValid}
+use Rattle.report_brief.specs.Brief.{unitOf, startOf, endOf}
 use Rattle.text.specs.Bytes.{any, same}
 use Rattle.text.specs.Refusals.{Refusal, refusal as row, firstNumber}
-use Rattle.record_check.specs.Validity.{isValid}
+use Rattle.value_ask.specs.Values.{instantIn}
 use borrow.Author.Tests.{le-leb, lt-leb, lt-ltb, le-ltb, ne-eqb, eqb-false}
 use denote.Enum.Declared.{tagOf}
 use lib.Dec.{eqb, leb}
@@ -39,6 +41,18 @@ use mathlib.Core.List.{List, [], _∷_, map}
 use mathlib.Core.Path.{_≡_, refl, sym, ap, _∙_}
 use native.Mathlib.Omega.{arith}
 use types.Run.{OneOf}
+
+-- ---- 20
+
+pub call-malformed : (k : Call) (b : Book) (y : Tally) → y ≡ tallyOf b → OneOf (0 ∷ []) (tagOf the-type y) → outcome 20 b ≡ outcomeOf k b
+call-malformed k b y e h = malformed k b (holds-none b y e h)
+
+pub undone-malformed : (d : Deed) (b : Book) (y : Tally) → y ≡ tallyOf b → OneOf (0 ∷ []) (tagOf the-type y) → outcome 20 b ≡ deedOutcomeOf d b
+undone-malformed d b y e h = deed-malformed d b (holds-none b y e h)
+
+pub question-malformed : (t : ℕ) (b : Book) (y : Tally) → y ≡ tallyOf b → OneOf (0 ∷ []) (tagOf the-type y)
+    → record { answer = Refused 20 0; book = b } ≡ askedOf t b
+question-malformed t b y e h = asked-malformed t b (holds-none b y e h)
 
 -- ---- what is refused for the message alone stands before all else
 
@@ -58,49 +72,36 @@ three-none false true c rest e = absurd (eqb-false 29 0 refl e)
 three-none false false true rest e = absurd (eqb-false 21 0 refl e)
 three-none false false false rest e = refl
 
-module _ (calls : Layout → Bool) (unit : List ℕ) (r : Record) (rest : List Refusal) (right : Bool) (which : right ≡ calls (r .layout)) (n : ℕ)
-    (u : n ≡ unfitOf right unit r) where
-  unfit-some : (n ≡ 0 → ⊥) → firstNumber (unfit calls unit r rest) ≡ n
-  unfolding unfitOf
-  unfit-some z = rw (← which) (three-some (not (isValid r)) (not right) (not (same (unitOf r) unit)) rest (λ e. z (u ∙ e)) ∙ sym u)
+module _ (calls : Layout → Bool) (unit : List ℕ) (r : Record) (right : Bool) (which : right ≡ calls (r .layout)) (n : ℕ) (u : n ≡ unfitIn right unit r) where
+  unfit-some : (rest : List Refusal) → (n ≡ 0 → ⊥) → firstNumber (unfit calls unit r rest) ≡ n
+  unfolding unfitIn
+  unfit-some rest z = rw (← which) (three-some (not (isValid r)) (not right) (not (same (unitOf r) unit)) rest (λ e. z (u ∙ e)) ∙ sym u)
 
-  unfit-none : n ≡ 0 → firstNumber (unfit calls unit r rest) ≡ firstNumber rest
-  unfolding unfitOf
-  unfit-none z = rw (← which) (three-none (not (isValid r)) (not right) (not (same (unitOf r) unit)) rest (sym u ∙ z))
+  unfit-none : (rest : List Refusal) → n ≡ 0 → firstNumber (unfit calls unit r rest) ≡ firstNumber rest
+  unfolding unfitIn
+  unfit-none rest z = rw (← which) (three-none (not (isValid r)) (not right) (not (same (unitOf r) unit)) rest (sym u ∙ z))
 
--- a message that is not refused for itself is valid, and of the right layout
-fit-both : (right : Bool) (unit : List ℕ) (r : Record) (n : ℕ) → n ≡ unfitOf right unit r → n ≡ 0 → (isValid r ≡ true) × (right ≡ true)
-unfolding unfitOf
-fit-both right unit r n u z = both (isValid r) right (sym u ∙ z)
-  where
-    both : (v w : Bool) → firstNumber (three (not v) (not w) (not (same (unitOf r) unit)) []) ≡ 0 → (v ≡ true) × (w ≡ true)
-    both true true e = (refl, refl)
-    both true false e = absurd (eqb-false 29 0 refl e)
-    both false w e = absurd (eqb-false 12 0 refl e)
+  -- a message that is not refused for itself is valid, and of the call's layout
+  fit-both : n ≡ 0 → (isValid r ≡ true) × (calls (r .layout) ≡ true)
+  unfolding unfitIn
+  fit-both z = let p = both (isValid r) right (sym u ∙ z) in (p .0, sym which ∙ p .1)
+    where
+      both : (v w : Bool) → firstNumber (three (not v) (not w) (not (same (unitOf r) unit)) []) ≡ 0 → (v ≡ true) × (w ≡ true)
+      both true true e = (refl, refl)
+      both true false e = absurd (eqb-false 29 0 refl e)
+      both false w e = absurd (eqb-false 12 0 refl e)
 
--- so that a command's instants fit
-pub command-instants : (r : Record) (right : Bool) → right ≡ isCommand (r .layout) → (unit : List ℕ) (n : ℕ) → n ≡ unfitOf right unit r → n ≡ 0
-    → (instantIn (startOf r) ≤ 4294967295) × (instantIn (endOf r) ≤ 4294967295)
-command-instants r right which unit n u z =
-    let f = fit-both right unit r n u z in
-    instants-fit r (f .0) (sym which ∙ f .1)
+-- so that a command's instants fit, and both are calls for what some valid message brings
+module _ (unit : List ℕ) (r : Record) (right : Bool) (n : ℕ) (u : n ≡ unfitIn right unit r) (z : n ≡ 0) where
+  pub command-instants : right ≡ isCommand (r .layout) → (instantIn (startOf r) ≤ 4294967295) × (instantIn (endOf r) ≤ 4294967295)
+  command-instants which = let f = fit-both isCommand unit r right which n u z in instants-fit r (f .0) (f .1)
 
--- ---- what follows it: 23, 22 and 24 of a command, 25 and 26 of a revocation
+  pub command-brings : right ≡ isCommand (r .layout) → isBrought (orderOf r) ≡ true
+  unfolding isBrought orderOf
+  command-brings which = let f = fit-both isCommand unit r right which n u z in rw (comes r (f .0) (f .1))
 
-abbrev others : Order → ℕ → List Order → List Refusal
-others o f l = row 23 0 (leb (o .end) f) ∷ row 22 0 (any (named (nameOf o)) l) ∷ row 24 0 (leb 96 (length l)) ∷ []
-
-abbrev unheld : Record → List Order → List Refusal
-unheld r l = row 25 0 (not (any (named (strikeOf r .name)) l)) ∷ row 26 0 (any (already (strikeOf r)) l) ∷ []
-
--- ---- 20
-
-pub call-malformed : (k : Call) (b : Book) (y : Tally) → y ≡ tallyOf b → OneOf (0 ∷ []) (tagOf the-type y) → outcome 20 b ≡ outcomeOf k b
-call-malformed k b y e h = malformed k b (holds-none b y e h)
-
-pub question-malformed : (t : ℕ) (b : Book) (y : Tally) → y ≡ tallyOf b → OneOf (0 ∷ []) (tagOf the-type y)
-    → record { answer = Refused 20 0; book = b } ≡ askedOf t b
-question-malformed t b y e h = asked-malformed t b (holds-none b y e h)
+  pub revocation-names : right ≡ isRevocation (r .layout) → couldStrike (strikeOf r) ≡ true
+  revocation-names which = let f = fit-both isRevocation unit r right which n u z in names-fit r (f .0) (f .1)
 
 module _ (b : Book) (count : ℕ) (h : Holding b count) where
   fits : count ≤ length (b .orders)
@@ -108,120 +109,100 @@ module _ (b : Book) (count : ℕ) (h : Holding b count) where
 
   -- the places that are looked at stand by ascending number, and one that the test finds is a place of the book
   pub ascends : Ascending number (take count (b .orders))
-  ascends = ascending-rising 0 (take count (b .orders)) (h .rising)
+  ascends = ascending-rising number 0 (take count (b .orders)) (h .rising)
 
-  pub at-inside : (n : ℕ) (seat : Seat) → seat ≡ seatOf n (take count (b .orders)) → seat .held ≡ true → seat .at < 96
-  at-inside n seat seated t = omega (arith, h .few, seat-inside n count (b .orders) seat seated t)
+  -- ---- a deed that some valid message asks for
 
-  -- a refusal's number other than 20
-  refusal : (k : Call) (n : ℕ) → answer k (shelf b) ≡ n → eqb n 0 ≡ false → outcome n b ≡ outcomeOf k b
-  refusal k n = refused k b n (h .size .long) (h .size .wide) (h .formed)
+  module _ (d : Deed) (c : couldAsk d ≡ true) where
+    no-deed : (n : ℕ) → firstNumber (rungsOf (isFull (shelf b)) d (shelf b)) ≡ n → eqb n 0 ≡ false → outcome n b ≡ deedOutcomeOf d b
+    no-deed n a z = deed-refused d b (h .formed) c n a z
 
-  -- a call that makes a book with these orders
-  makes : (k : Call) (f : ℕ) (l m : List Order) (next : Book) → answer k (shelf b) ≡ 0 → next ≡ withOrders b f l → l ≡ packed m
-      → record { unit = shelf b .unit; floor = f; orders = m } ≡ effect (deedOf k) (shelf b) → outcome 0 next ≡ outcomeOf k b
-  makes k f l m next a e p q =
-      ap (outcome 0) e ∙ done k b l f (h .formed) a (with-book b f l m (h .size .wide) (h .formed) p ∙ ap bookOf q)
+    -- one that makes a book with these orders
+    makes : (f : ℕ) (l m : List Order) (next : Book) → firstNumber (rungsOf (isFull (shelf b)) d (shelf b)) ≡ 0 → next ≡ withOrders b f l → l ≡ packed m
+        → record { unit = shelf b .unit; floor = f; orders = m } ≡ effect d (shelf b) → outcome 0 next ≡ deedOutcomeOf d b
+    makes f l m next a e p q =
+        deed-done d b (h .formed) c 0 a refl next (e ∙ with-book b f l m (h .size .wide) (h .formed) p ∙ ap bookOf q)
 
-  -- ---- command
+  -- ---- hold: 23, 22, 24
 
-  module _ (r : Record) (right : Bool) (which : right ≡ isCommand (r .layout)) (n : ℕ) (u : n ≡ unfitOf right (take (b .size) (b .unit)) r) where
-    pub command-unfit : (n ≡ 0 → ⊥) → outcome n b ≡ outcomeOf (command r) b
+  module _ (o : Order) (c : isBrought o ≡ true) where
+    others : List Refusal
+    others = row 23 0 (leb (o .end) (b .floor)) ∷ row 22 0 (any (named (nameOf o)) (take count (b .orders))) ∷ row 24 0 (leb 96 count) ∷ []
+
+    hold-rest : firstNumber (rungsOf (isFull (shelf b)) (hold o) (shelf b)) ≡ firstNumber others
     unfolding shelf
-    command-unfit z =
-        refusal (command r) n (unfit-some isCommand (take (b .size) (b .unit)) r (others (orderOf r) (b .floor) (shelf b .orders)) right which n u z)
-        (ne-eqb n 0 z)
+    hold-rest = rw (h .held, length-take-le count (b .orders) fits)
 
-    module _ (z : n ≡ 0) (o : Order) (brought : o ≡ orderOf r) where
-      command-rest : answer (command r) (shelf b) ≡ firstNumber (others o (b .floor) (take count (b .orders)))
-      unfolding shelf
-      command-rest =
-          unfit-none isCommand (take (b .size) (b .unit)) r (others (orderOf r) (b .floor) (shelf b .orders)) right which n u z
-          ∙ rw (← brought, h .held)
+    pub hold-late : o .end ≤ b .floor → outcome 23 b ≡ deedOutcomeOf (hold o) b
+    hold-late k = no-deed (hold o) c 23 (hold-rest ∙ rw (le-leb (o .end) (b .floor) k)) refl
 
-      pub command-late : o .end ≤ b .floor → outcome 23 b ≡ outcomeOf (command r) b
-      command-late k = refusal (command r) 23 (command-rest ∙ rw (le-leb (o .end) (b .floor) k)) refl
+    module _ (timely : b .floor < o .end) (seat : Seat) (seated : seat ≡ seatIn (o .number) 0 count (b .orders)) where
+      hold-test : any (named (nameOf o)) (take count (b .orders)) ≡ seat .held
+      hold-test = held-seat count (b .orders) (h .rising) (nameOf o) ∙ ap (λ (s : Seat). s .held) (sym seated)
 
-      module _ (timely : b .floor < o .end) (seat : Seat) (seated : seat ≡ seatOf (o .number) (take count (b .orders))) where
-        command-test : any (named (nameOf o)) (take count (b .orders)) ≡ seat .held
-        command-test = held-seat (take count (b .orders)) (h .rising) (nameOf o) ∙ ap (λ (s : Seat). s .held) (sym seated)
+      pub hold-held : seat .held ≡ true → outcome 22 b ≡ deedOutcomeOf (hold o) b
+      hold-held t = no-deed (hold o) c 22 (hold-rest ∙ rw (lt-leb (o .end) (b .floor) timely, hold-test ∙ t)) refl
 
-        pub command-held : seat .held ≡ true → outcome 22 b ≡ outcomeOf (command r) b
-        command-held t = refusal (command r) 22 (command-rest ∙ rw (lt-leb (o .end) (b .floor) timely, command-test ∙ t)) refl
+      module _ (t : seat .held ≡ false) where
+        hold-last : firstNumber (rungsOf (isFull (shelf b)) (hold o) (shelf b)) ≡ firstNumber (row 24 0 (leb 96 count) ∷ [])
+        hold-last = hold-rest ∙ rw (lt-leb (o .end) (b .floor) timely, hold-test ∙ t)
 
-        module _ (t : seat .held ≡ false) where
-          command-last : answer (command r) (shelf b) ≡ firstNumber (row 24 0 (leb 96 count) ∷ [])
-          command-last = command-rest ∙ rw (lt-leb (o .end) (b .floor) timely, command-test ∙ t, length-take-le count (b .orders) fits)
+        pub hold-full : count ≡ 96 → outcome 24 b ≡ deedOutcomeOf (hold o) b
+        hold-full e = no-deed (hold o) c 24 (hold-last ∙ rw e) refl
 
-          pub command-full : count ≡ 96 → outcome 24 b ≡ outcomeOf (command r) b
-          command-full e = refusal (command r) 24 (command-last ∙ rw e) refl
-
-          pub command-done : (count ≡ 96 → ⊥) → (next : Book) → next ≡ withOrders b (b .floor) (putIn (seat .at) count o (b .orders))
-              → outcome 0 next ≡ outcomeOf (command r) b
-          unfolding shelf
-          command-done e next m =
-              let c : count < 96 = omega (arith, h .few, e) in
-              makes (command r) (b .floor) (putIn (seat .at) count o (b .orders)) (insert number o (take count (b .orders))) next
-              (command-last ∙ rw (lt-leb 96 count c)) m
-              (ap (λ (s : Seat). putIn (s .at) count o (b .orders)) seated
-              ∙ put-packed count o (b .orders) (h .size .long) (h .places) c (ap (λ (s : Seat). s .held) (sym seated) ∙ t))
-              (rw (h .held, brought))
-
-  -- ---- revocation
-
-  module _ (r : Record) (right : Bool) (which : right ≡ isRevocation (r .layout)) (n : ℕ) (u : n ≡ unfitOf right (take (b .size) (b .unit)) r) where
-    pub revoke-unfit : (n ≡ 0 → ⊥) → outcome n b ≡ outcomeOf (revoke r) b
-    unfolding shelf
-    revoke-unfit z = refusal (revoke r) n (unfit-some isRevocation (take (b .size) (b .unit)) r (unheld r (shelf b .orders)) right which n u z) (ne-eqb n 0 z)
-
-    module _ (z : n ≡ 0) (m : ℕ) (names : m ≡ strikeOf r .name .number) (seat : Seat) (seated : seat ≡ seatOf m (take count (b .orders))) where
-      revoke-rest : answer (revoke r) (shelf b) ≡ firstNumber (unheld r (take count (b .orders)))
-      unfolding shelf
-      revoke-rest =
-          unfit-none isRevocation (take (b .size) (b .unit)) r (unheld r (shelf b .orders)) right which n u z
-          ∙ rw (h .held)
-
-      its-seat : seatOf (strikeOf r .name .number) (take count (b .orders)) ≡ seat
-      its-seat = ap (λ (k : ℕ). seatOf k (take count (b .orders))) (sym names) ∙ sym seated
-
-      revoke-test : any (named (strikeOf r .name)) (take count (b .orders)) ≡ seat .held
-      revoke-test = held-seat (take count (b .orders)) (h .rising) (strikeOf r .name) ∙ ap (λ (s : Seat). s .held) its-seat
-
-      revoke-already : any (already (strikeOf r)) (take count (b .orders)) ≡ seat .struck
-      revoke-already = struck-seat (take count (b .orders)) (h .rising) (strikeOf r) ∙ ap (λ (s : Seat). s .struck) its-seat
-
-      pub revoke-unheld : seat .held ≡ false → outcome 25 b ≡ outcomeOf (revoke r) b
-      revoke-unheld t = refusal (revoke r) 25 (revoke-rest ∙ rw (revoke-test ∙ t)) refl
-
-      module _ (t : seat .held ≡ true) where
-        revoke-last : answer (revoke r) (shelf b) ≡ firstNumber (row 26 0 (seat .struck) ∷ [])
-        revoke-last = revoke-rest ∙ rw (revoke-test ∙ t, revoke-already)
-
-        pub revoke-struck : seat .struck ≡ true → outcome 26 b ≡ outcomeOf (revoke r) b
-        revoke-struck e = refusal (revoke r) 26 (revoke-last ∙ rw e) refl
-
-        pub revoke-done : seat .struck ≡ false → (next : Book) → next ≡ withOrders b (b .floor) (struckIn (seat .at) (b .orders))
-            → outcome 0 next ≡ outcomeOf (revoke r) b
+        pub hold-done : (count ≡ 96 → ⊥) → (l : List Order) → l ≡ putIn (seat .at) count o (b .orders) → (next : Book) → next ≡ withOrders b (b .floor) l
+            → outcome 0 next ≡ deedOutcomeOf (hold o) b
         unfolding shelf
-        revoke-done e next q =
-            makes (revoke r) (b .floor) (struckIn (seat .at) (b .orders)) (map (strikeAt (strikeOf r)) (take count (b .orders))) next
-            (revoke-last ∙ rw e) q
-            (ap (λ (s : Seat). struckIn (s .at) (b .orders)) (sym its-seat)
-            ∙ strike-packed (strikeOf r) count (b .orders) (h .size .long) (h .places) (h .few) (h .rising) (ap (λ (s : Seat). s .held) its-seat ∙ t))
+        hold-done e l put next m =
+            let k : count < 96 = omega (arith, h .few, e) in
+            makes (hold o) c (b .floor) l (insert number o (take count (b .orders))) next
+            (hold-last ∙ rw (lt-leb 96 count k)) m
+            (put ∙ ap (λ (s : Seat). putIn (s .at) count o (b .orders)) seated
+            ∙ put-seat count (b .orders) (h .size .long) (h .places) o k (ap (λ (s : Seat). s .held) (sym seated) ∙ t))
             (rw (h .held))
+
+  -- ---- strike: 25, 26
+
+  module _ (n : ℕ) (c : couldStrike (strikeFor n) ≡ true) (seat : Seat) (seated : seat ≡ seatIn n 0 count (b .orders)) where
+    abbrev s : Strike
+    s = strikeFor n
+
+    unheld : List Refusal
+    unheld = row 25 0 (not (any (named (s .name)) (take count (b .orders)))) ∷ row 26 0 (any (already s) (take count (b .orders))) ∷ []
+
+    strike-rest : firstNumber (rungsOf (isFull (shelf b)) (strike s) (shelf b)) ≡ firstNumber unheld
+    unfolding shelf
+    strike-rest = rw (h .held)
+
+    strike-test : any (named (s .name)) (take count (b .orders)) ≡ seat .held
+    strike-test = held-seat count (b .orders) (h .rising) (s .name) ∙ ap (λ (x : Seat). x .held) (sym seated)
+
+    pub strike-unheld : seat .held ≡ false → outcome 25 b ≡ deedOutcomeOf (strike s) b
+    strike-unheld t = no-deed (strike s) c 25 (strike-rest ∙ rw (strike-test ∙ t)) refl
+
+    module _ (t : seat .held ≡ true) where
+      its-held : seatIn n 0 count (b .orders) .held ≡ true
+      its-held = ap (λ (x : Seat). x .held) (sym seated) ∙ t
+
+      pub at-inside : seat .at < 96
+      at-inside = omega (arith, h .few, seats.seat-inside n 0 count (b .orders) seat seated t)
+
+      struck-test : any (already s) (take count (b .orders)) ≡ already s (orderAt (seat .at) (b .orders))
+      struck-test =
+          any-seat count (b .orders) (h .rising) (already s) n (λ o z. rw z) its-held
+          ∙ ap (λ (x : Seat). already s (orderAt (x .at) (b .orders))) (sym seated)
+
+      strike-last : firstNumber (rungsOf (isFull (shelf b)) (strike s) (shelf b)) ≡ firstNumber (row 26 0 (orderAt (seat .at) (b .orders) .struck) ∷ [])
+      strike-last = strike-rest ∙ rw (strike-test ∙ t, struck-test)
+
+      pub strike-struck : orderAt (seat .at) (b .orders) .struck ≡ true → outcome 26 b ≡ deedOutcomeOf (strike s) b
+      strike-struck e = no-deed (strike s) c 26 (strike-last ∙ rw e) refl
 
   -- ---- close
 
   pub close-early : (t : ℕ) → t < b .floor → outcome 27 b ≡ outcomeOf (close t) b
   unfolding shelf
-  close-early t k = refusal (close t) 27 (rw (lt-ltb t (b .floor) k)) refl
-
-  pub close-done : (t : ℕ) → b .floor ≤ t → (next : Book) → next ≡ withOrders b t (packed (keep (pastEnd t) (take count (b .orders))))
-      → outcome 0 next ≡ outcomeOf (close t) b
-  unfolding shelf
-  close-done t k next e =
-      makes (close t) t (packed (keep (pastEnd t) (take count (b .orders)))) (keep (pastEnd t) (take count (b .orders))) next
-      (rw (le-ltb t (b .floor) k)) e refl (rw (h .held))
+  close-early t k = refused (close t) b (h .size .long) (h .size .wide) (h .formed) 27 (rw (lt-ltb t (b .floor) k)) refl
 
   -- ---- the question
 

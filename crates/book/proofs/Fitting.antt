@@ -1,31 +1,21 @@
 -- What the parts of a book's fitness answer, test by test as the definitions say, and a fresh book. Assumes nothing.
 use Prim.Native.Nat.{ℕ, _≤_, _<_}
 use Rattle.book.specs.Answers.{outcome, freshOf}
-use Rattle.book.specs.Places.{bookOf, zeroBook, fitsAfter, formedUnit}
-use Rattle.book.specs.Steps.{unfitOf}
+use Rattle.book.specs.Places.{bookFrom, bookOf, zeroBook, formedUnit, unfitIn}
 use Rattle.report_brief.specs.Brief.{unitOf, briefOf, toldOf}
 use Rattle.report_brief.specs.declared.Brief.{Brief}
 use Rattle.value_name.proofs.RoundTrip.{unit-size}
 use Rattle.value_name.specs.Names.{isUnit}
-use Rattle.book_order.proofs.Joined.{three}
-use Rattle.book_order.specs.Orders.{emptyOrder, couldCome}
-use Rattle.book_order.specs.declared.Order.{Order}
+use Rattle.book_order.specs.Orders.{emptyOrder}
 use Rattle.record.specs.declared.Record.{Record}
 use Rattle.text_room.specs.Rooms.{keptIn}
 use Rattle.text.specs.Bytes.{all, is, same}
 use Rattle.record_check.specs.Validity.{isValid}
 use borrow.Author.Tests.{le-leb, lt-leb}
-use lib.Dec.{leb, ltb}
 use lib.ListN.{length, take, drop, replicate}
 use mathlib.Core.Bool.{Bool, true, false, _&&_}
 use mathlib.Core.List.{List}
 use mathlib.Core.Path.{_≡_, ap}
-
--- ---- an order that fits: `m` says whether it could come
-
-pub fits-is : (f lo : ℕ) (o : Order) (m : Bool) → m ≡ couldCome o → (leb lo (o .number) && ltb f (o .end)) && m ≡ fitsAfter f lo o
-unfolding fitsAfter
-fits-is f lo o m e = rw e (three (leb lo (o .number)) (ltb f (o .end)) (couldCome o))
 
 -- ---- a unit's room
 
@@ -42,22 +32,22 @@ module _ (size : ℕ) (unit : List ℕ) where
 -- ---- a message that is refused for itself, or is not
 
 module _ (right : Bool) (unit : List ℕ) (r : Record) where
-  pub unfit-invalid : isValid r ≡ false → 12 ≡ unfitOf right unit r
-  unfolding unfitOf
+  pub unfit-invalid : isValid r ≡ false → 12 ≡ unfitIn right unit r
+  unfolding unfitIn
   unfit-invalid e = rw e
 
   module _ (v : isValid r ≡ true) where
-    pub unfit-layout : right ≡ false → 29 ≡ unfitOf right unit r
-    unfolding unfitOf
+    pub unfit-layout : right ≡ false → 29 ≡ unfitIn right unit r
+    unfolding unfitIn
     unfit-layout e = rw (v, e)
 
     module _ (w : right ≡ true) where
-      pub unfit-unit : same (unitOf r) unit ≡ false → 21 ≡ unfitOf right unit r
-      unfolding unfitOf
+      pub unfit-unit : same (unitOf r) unit ≡ false → 21 ≡ unfitIn right unit r
+      unfolding unfitIn
       unfit-unit e = rw (v, w, e)
 
-      pub unfit-none : same (unitOf r) unit ≡ true → 0 ≡ unfitOf right unit r
-      unfolding unfitOf
+      pub unfit-none : same (unitOf r) unit ≡ true → 0 ≡ unfitIn right unit r
+      unfolding unfitIn
       unfit-none e = rw (v, w, e)
 
 -- its unit, as it is told in brief
@@ -73,7 +63,6 @@ module _ (unit : List ℕ) where
   fresh-bad e = rw e
 
   -- a good code is kept in its room whole
-  pub fresh-good : isUnit unit ≡ true → (k : List ℕ) → k ≡ keptIn 16 unit
-      → outcome 0 (record { size = length unit; unit = k; floor = 0; orders = replicate 96 emptyOrder }) ≡ freshOf unit
-  unfolding freshOf bookOf keptIn
-  fresh-good e k h = rw (e, h, le-leb (length unit) 16 (unit-size unit e .1))
+  pub fresh-good : isUnit unit ≡ true → outcome 0 (bookFrom unit 0 (replicate 96 emptyOrder)) ≡ freshOf unit
+  unfolding freshOf bookOf bookFrom keptIn
+  fresh-good e = rw (e, le-leb (length unit) 16 (unit-size unit e .1))

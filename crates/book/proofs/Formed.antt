@@ -1,71 +1,30 @@
 -- A book that is not malformed is the one that holds its ledger; and what a call answers by that. Assumes nothing.
-use Prim.Native.Nat.{ℕ, zero, suc, _-_}
-use Rattle.book.proofs.Leading.{leading-long, formed-leading, kept-leading}
-use Rattle.book.specs.Answers.{outcome, callNumber, nextOf, outcomeOf, found, askedOf}
-use Rattle.book.specs.Places.{packed, bookOf, shelf, formedFrom, formedUnit, formedBook}
-use Rattle.book.specs.Steps.{leading, withOrders}
+use Prim.Native.Nat.{ℕ, zero, suc}
+use Rattle.book.specs.Answers.{outcome, callNumber, nextOf, outcomeOf, deedNumber, deedNext, deedOutcomeOf, found, askedOf}
+use Rattle.book.specs.Places.{withOrders, bookOf, shelf, formedUnit, formedBook}
 use Rattle.book.specs.declared.Book.{Book}
 use Rattle.book.specs.declared.InForce.the-variants.{Refused}
-use Rattle.book_lists.specs.Keyed.{keep}
-use Rattle.layout.proofs.Markets.{market-is}
-use Rattle.layout.specs.Layouts.{isMarket}
-use Rattle.book_ledger.specs.Calls.{Call, ask, deedOf}
-use Rattle.book_ledger.specs.Ledger.{answer, effect, inForce}
-use Rattle.text.proofs.Zeros.{zero-tells}
-use Rattle.value_name.specs.Names.{isUnit}
-use Rattle.book_order.specs.Orders.{pastEnd, emptyOrder, isZero, isEmpty}
+use Rattle.book_ledger.specs.Calls.{Call, ask, Deed, deedOf, couldAsk}
+use Rattle.book_ledger.specs.Ledger.{Ledger, rungsOf, isFull, answer, effect, inForce}
 use Rattle.book_order.specs.declared.Order.{Order}
-use Rattle.text.proofs.Tests.{and-parts}
+use Rattle.book_places.proofs.Leading.{formed-places}
+use Rattle.book_places.specs.Places.{packed, formedFrom}
+use Rattle.book_shelf.proofs.Packing.{all-rest}
+use Rattle.text.proofs.Tests.{by-test, and-parts}
 use Rattle.text.specs.Bytes.{all, is}
 use Rattle.text.specs.Puts.{roomOf}
-use borrow.Author.Tests.{leb-true, eqb-true, not-true}
+use Rattle.text.specs.Refusals.{firstNumber}
+use Rattle.value_name.specs.Names.{isUnit}
+use borrow.Author.Tests.{leb-true, eqb-true}
 use lib.Dec.{eqb, leb}
-use lib.ListN.{length, take, drop, replicate, length-drop, take-append-drop}
+use lib.ListN.{length, take, drop}
 use lib.Seq.{length-take-le}
 use mathlib.Core.Bool.{Bool, true, false, false≢true, true≢false}
 use mathlib.Core.List.{List, [], _∷_, _++_}
 use mathlib.Core.Path.{_≡_, refl, sym, ap, _∙_}
 use native.Mathlib.Omega.{arith}
 
--- ---- an empty place is all zero
-
-pub empty-is : (o : Order) → isEmpty o ≡ true → o ≡ emptyOrder
-unfolding isEmpty
-empty-is o e =
-    let a = and-parts (eqb (o .number) 0) _ e in
-    let b = and-parts (isMarket (o .layout)) _ (a .1) in
-    let c = and-parts (eqb (o .start) 0) _ (b .1) in
-    let d = and-parts (eqb (o .end) 0) _ (c .1) in
-    let f = and-parts (isZero (o .first)) _ (d .1) in
-    let g = and-parts (isZero (o .second)) _ (f .1) in
-    λ i. record {
-      number = eqb-true (o .number) 0 (a .0) i;
-      layout = market-is (o .layout) (b .0) i;
-      start = eqb-true (o .start) 0 (c .0) i;
-      end = eqb-true (o .end) 0 (d .0) i;
-      first = zero-tells (o .first) .0 (f .0) i;
-      second = zero-tells (o .second) .0 (g .0) i;
-      struck = not-true (o .struck) (g .1) i;
-    }
-
--- ---- what passes a test that one value alone passes
-
-all-replicate : {A : Type 0} (p : A → Bool) (x : A) → ((y : A) → p y ≡ true → y ≡ x) → (l : List A) → all p l ≡ true → l ≡ replicate (length l) x
-unfolding all
-all-replicate p x h [] e = refl
-all-replicate p x h (y ∷ l) e =
-    let q = and-parts (p y) (all p l) e in
-    λ i. h y (q .0) i ∷ all-replicate p x h l (q .1) i
-
--- a list cut where only such follow
-all-rest : {A : Type 0} (p : A → Bool) (x : A) → ((y : A) → p y ≡ true → y ≡ x) → (n k : ℕ) (l : List A) → length l ≡ k → all p (drop n l) ≡ true
-    → l ≡ take n l ++ replicate (k - n) x
-all-rest {A = A} p x h n k l s e =
-    sym (take-append-drop n l)
-    ∙ ap (λ (m : List A). take n l ++ m) (all-replicate p x h (drop n l) e)
-    ∙ ap (λ (m : ℕ). take n l ++ replicate m x) (length-drop n l ∙ ap (λ (m : ℕ). m - n) s)
-
--- ---- the unit and the places of a book
+-- ---- the unit of a book
 
 pub formed-unit : (size : ℕ) (unit : List ℕ) → length unit ≡ 16 → formedUnit size unit ≡ true
     → (size ≡ length (take size unit)) × (unit ≡ roomOf 16 (take size unit))
@@ -75,11 +34,6 @@ formed-unit size unit h e =
     let q = and-parts (isUnit (take size unit)) (all (is 0) (drop size unit)) (p .1) in
     let s : length (take size unit) ≡ size = length-take-le size unit (omega (arith, leb-true size 16 (p .0))) in
     (sym s, rw s (all-rest (is 0) 0 (λ x. eqb-true x 0) size 16 unit h (q .1)))
-
-pub formed-places : (f : ℕ) (l : List Order) → length l ≡ 96 → formedFrom f 0 l ≡ true → l ≡ packed (keep (pastEnd 0) l)
-formed-places f l h e =
-    let s : length (take (leading f 0 l) l) ≡ leading f 0 l = length-take-le (leading f 0 l) l (leading-long f 0 l) in
-    rw (kept-leading f 0 l e, s) (all-rest isEmpty emptyOrder empty-is (leading f 0 l) 96 l h (sym (formed-leading f 0 l) ∙ e))
 
 -- THE LAW: a book that is not malformed is the one that holds its ledger
 pub shelf-book : (b : Book) → length (b .orders) ≡ 96 → length (b .unit) ≡ 16 → formedBook b ≡ true → b ≡ bookOf (shelf b)
@@ -97,21 +51,54 @@ with-book b f l m k e q =
     let u = formed-unit (b .size) (b .unit) k (and-parts (formedUnit (b .size) (b .unit)) (formedFrom (b .floor) 0 (b .orders)) e .0) in
     λ i. record { size = u .0 i; unit = u .1 i; floor = f; orders = q i }
 
+-- ---- what a deed answers
+
+pub deed-malformed : (d : Deed) (b : Book) → formedBook b ≡ false → outcome 20 b ≡ deedOutcomeOf d b
+unfolding deedNumber deedNext
+deed-malformed d b e = rw e
+
+module _ (d : Deed) (b : Book) (formed : formedBook b ≡ true) where
+  pub deed-invalid : couldAsk d ≡ false → outcome 12 b ≡ deedOutcomeOf d b
+  unfolding deedNumber deedNext
+  deed-invalid c = rw (formed, c)
+
+  module _ (c : couldAsk d ≡ true) (n : ℕ) (a : firstNumber (rungsOf (isFull (shelf b)) d (shelf b)) ≡ n) where
+    is-number : deedNumber d b ≡ n
+    unfolding deedNumber
+    is-number = rw (formed, c) a
+
+    pub deed-refused : eqb n 0 ≡ false → outcome n b ≡ deedOutcomeOf d b
+    unfolding deedNext
+    deed-refused z = rw (is-number, z)
+
+    pub deed-done : n ≡ 0 → (next : Book) → next ≡ bookOf (effect d (shelf b)) → outcome 0 next ≡ deedOutcomeOf d b
+    unfolding deedNext
+    deed-done z next q = rw (is-number, z) (ap (outcome 0) q)
+
 -- ---- what a call answers
 
 pub malformed : (k : Call) (b : Book) → formedBook b ≡ false → outcome 20 b ≡ outcomeOf k b
 unfolding callNumber nextOf
 malformed k b e = rw e
 
-pub refused : (k : Call) (b : Book) (n : ℕ) → length (b .orders) ≡ 96 → length (b .unit) ≡ 16 → formedBook b ≡ true → answer k (shelf b) ≡ n → eqb n 0 ≡ false
-    → outcome n b ≡ outcomeOf k b
-unfolding callNumber nextOf
-refused k b n h u e a z = rw (e, a, z) (ap (outcome n) (shelf-book b h u e))
+module _ (k : Call) (b : Book) (long : length (b .orders) ≡ 96) (wide : length (b .unit) ≡ 16) (formed : formedBook b ≡ true) where
+  pub refused : (n : ℕ) → answer k (shelf b) ≡ n → eqb n 0 ≡ false → outcome n b ≡ outcomeOf k b
+  unfolding callNumber nextOf
+  refused n a z = rw (formed, a, z) (ap (outcome n) (shelf-book b long wide formed))
 
-pub done : (k : Call) (b : Book) (l : List Order) (f : ℕ) → formedBook b ≡ true → answer k (shelf b) ≡ 0 → withOrders b f l ≡ bookOf (effect (deedOf k) (shelf b))
-    → outcome 0 (withOrders b f l) ≡ outcomeOf k b
-unfolding callNumber nextOf
-done k b l f e a q = rw (e, a) (ap (outcome 0) q)
+  taken : answer k (shelf b) ≡ 0 → outcome 0 (bookOf (effect (deedOf k) (shelf b))) ≡ outcomeOf k b
+  unfolding callNumber nextOf
+  taken a = rw (formed, a)
+
+  -- a call whose message is not refused for itself is its deed
+  pub by-deed : couldAsk (deedOf k) ≡ true → answer k (shelf b) ≡ firstNumber (rungsOf (isFull (shelf b)) (deedOf k) (shelf b))
+      → deedOutcomeOf (deedOf k) b ≡ outcomeOf k b
+  by-deed c q =
+      let d = deedOf k in
+      let n = firstNumber (rungsOf (isFull (shelf b)) d (shelf b)) in
+      by-test (eqb n 0)
+      (λ z. sym (deed-done d b formed c n refl (eqb-true n 0 z) _ refl) ∙ taken (q ∙ eqb-true n 0 z))
+      (λ z. sym (deed-refused d b formed c n refl z) ∙ refused n q z)
 
 -- ---- what the question answers
 

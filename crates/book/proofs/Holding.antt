@@ -1,14 +1,15 @@
 -- What the tally of a book tells of it. Assumes nothing.
 use Prim.Native.Nat.{ℕ, _≤_}
-use Rattle.book.proofs.Formed.{formed-places}
-use Rattle.book.proofs.Leading.{Rising, leading-long, kept-leading, rising-leading}
 use Rattle.book.proofs.Sizes.{Sized}
-use Rattle.book.proofs.fitness.Tally.{the-type}
-use Rattle.book.specs.Places.{packed, shelf, formedFrom, formedUnit, formedBook}
-use Rattle.book.specs.Steps.{leading, tallyOf}
+use Rattle.book.specs.Places.{shelf, formedUnit, formedBook, tallyOf}
 use Rattle.book.specs.declared.Book.{Book}
-use Rattle.book.specs.declared.fitness.Tally.{Tally}
-use Rattle.book.specs.declared.fitness.Tally.the-variants.{Malformed, Holds}
+use Rattle.book_order.specs.Orders.{number}
+use Rattle.book_places.proofs.Leading.{leading-long, kept-leading, places-leading, rising-leading}
+use Rattle.book_places.proofs.Tally.{the-type}
+use Rattle.book_places.specs.Places.{packed, formedFrom, leading, tallyIn}
+use Rattle.book_places.specs.declared.Tally.{Tally}
+use Rattle.book_places.specs.declared.Tally.the-variants.{Malformed, Holds}
+use Rattle.book_shelf.specs.Shelf.{Rising}
 use Rattle.text.proofs.Tests.{by-test, and-parts}
 use denote.Enum.Declared.{tagOf}
 use lib.ListN.{take}
@@ -19,6 +20,23 @@ use mathlib.Core.Path.{_≡_, sym, ap, _∙_}
 use native.Mathlib.Omega.{arith}
 use types.Run.{OneOf, miss}
 
+-- ---- the answers of tally
+
+module _ (b : Book) where
+  pub tally-malformed : formedUnit (b .size) (b .unit) ≡ false → Malformed ≡ tallyOf b
+  unfolding tallyOf formedBook
+  tally-malformed e = rw e
+
+  -- for a good unit it is that of the places
+  pub tally-places : formedUnit (b .size) (b .unit) ≡ true → tallyIn (b .floor) (b .orders) ≡ tallyOf b
+  unfolding tallyOf tallyIn formedBook shelf
+  tally-places u =
+      let f = b .floor in
+      let l = b .orders in
+      by-test (formedFrom f 0 l)
+      (λ e. rw (u, e, kept-leading f 0 l e) (ap Holds (sym (length-take-le (leading f 0 l) l (leading-long f 0 l)))))
+      (λ e. rw (u, e))
+
 -- ---- what the tally tells
 
 -- a book that is not malformed, with its first `count` places filled
@@ -27,7 +45,7 @@ pub record Holding (b : Book) (count : ℕ) : Type 0 where
   pub formed : formedBook b ≡ true
   pub few : count ≤ 96
   pub held : shelf b .orders ≡ take count (b .orders)
-  pub rising : Rising 0 (take count (b .orders))
+  pub rising : Rising number 0 (take count (b .orders))
   pub places : b .orders ≡ packed (take count (b .orders))
 
 -- the number that is told of it
@@ -51,7 +69,7 @@ holding b s e =
       few = omega (arith, leading-long f 0 l, s .long);
       held = kept-leading f 0 l (q .1);
       rising = rising-leading f 0 l;
-      places = rw (← (kept-leading f 0 l (q .1))) (formed-places f l (s .long) (q .1));
+      places = places-leading f 0 l (s .long) (q .1);
     }
 
 abbrev number-in : Tally → ℕ

@@ -1,10 +1,6 @@
 pub mod Sizes
-pub mod Leading
 pub mod Formed
 pub mod Fitting
-pub mod Ranks
-pub mod Placing
-pub mod Moving
 pub mod Holding
 pub mod Calls
 pub mod Unique

@@ -1,5 +1,4 @@
 // Whether a call is fit for a book: the book is not malformed, and the message is one for it.
-use crate::Book;
 use record::Record;
 use text::scan;
 ghost use Rattle.book.specs.Places.{formedUnit, unfitIn};
@@ -17,8 +16,8 @@ pub fn is_formed_unit(size: usize, unit: &[u8]) -> bool
 }
 
 // What is refused for the message alone: 12, 29 where its layout is not one of the call's, 21; 0 where nothing is.
-pub fn unfit(b: Book, r: Record, right: bool) -> u8
-    ensures { λ n. ⌜ n ≡ unfitIn right (take (b .size) (b .unit)) r ⌝ }
+pub fn unfit(size: usize, unit: [u8; 16], r: Record, right: bool) -> u8
+    ensures { λ n. ⌜ n ≡ unfitIn right (take size unit) r ⌝ }
 {
     if !record_check::is_valid(r) {
         return 12;
@@ -28,8 +27,7 @@ pub fn unfit(b: Book, r: Record, right: bool) -> u8
     }
     let told = report_brief::of_record(r);
     let theirs = told.unit;
-    let ours = b.unit;
-    if !scan::same(scan::front(&theirs, told.size), scan::front(&ours, b.size)) {
+    if !scan::same(scan::front(&theirs, told.size), scan::front(&unit, size)) {
         return 21;
     }
     0

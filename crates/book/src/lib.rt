@@ -4,6 +4,7 @@ mod fitness;
 
 use book_order::Order;
 use book_places::Place;
+use book_places::Tally;
 use record::Record;
 use value_name::unit;
 ghost use Prim.Native.Nat.{_≤_};
@@ -11,7 +12,7 @@ ghost use Rattle.book.specs.Answers.{outcome, outcomeOf, deedOutcomeOf, 
 ghost use Rattle.book.specs.Places.{bookWith, bookFrom, zeroBook, withOrders, tallyOf};
 ghost use Rattle.book_ledger.specs.Calls.{Call, Deed};
 ghost use Rattle.book_lists.specs.Keyed.{greatest, Ascending};
-ghost use Rattle.book_order.specs.Orders.{number, live, isBrought, strikeFor};
+ghost use Rattle.book_order.specs.Orders.{number, live, isBrought, strikeFor, couldStrike};
 ghost use lib.ListN.{take};
 ghost use mathlib.Core.Bool.{true};
 ghost use mathlib.Core.Path.{_≡_};
@@ -42,12 +43,6 @@ pub enum InForce {
 pub struct Asked {
     pub answer: InForce,
     pub book: Book,
-}
-
-// How many orders a book holds, unless it is malformed.
-pub enum Tally {
-    Malformed,
-    Holds(usize),
 }
 
 fn answered(number: u8, book: Book) -> Outcome
@@ -118,11 +113,7 @@ impl Book {
             return Tally::Malformed;
         }
         let orders = self.orders;
-        let count = book_places::count_from(orders, 0, 96, self.floor);
-        if !book_places::are_empty(orders, count) {
-            return Tally::Malformed;
-        }
-        Tally::Holds(count)
+        book_places::count_held(orders, self.floor)
     }
 
     // The book with another floor and other orders.
@@ -154,10 +145,10 @@ impl Book {
 
     // Strikes the order that has a number of at most ten digits. It keeps its place until it is closed, so that a command sent again cannot revive it.
     fn strike_in(self, count: usize, n: u64) -> Outcome
-        requires { ⌜ (tallyOf self ≡ Tally.Holds count) × (n ≤ mostNumber) ⌝ }
+        requires { ⌜ (tallyOf self ≡ Tally.Holds count) × (couldStrike (strikeFor n) ≡ true) ⌝ }
         ensures { λ r. ⌜ r ≡ deedOutcomeOf (Deed.strike (strikeFor n)) self ⌝ }
     {
-        let orders = self.orders;
+        let mut orders = self.orders;
         let seat = book_places::seat_of(orders, 0, count, n);
         if !seat.held {
             return answered(25, self);
@@ -167,7 +158,8 @@ impl Book {
         if o.struck {
             return answered(26, self);
         }
-        answered(0, self.made(self.floor, book_places::replace(orders, at, book_order::struck_out(o))))
+        orders[at] = book_order::struck_out(o);
+        answered(0, self.made(self.floor, orders))
     }
 
     // Holds an order. 12: no valid CB record brings it.
@@ -204,7 +196,8 @@ impl Book {
             return answered(20, self);
         };
         let l = r.layout;
-        let unfit = fitness::unfit(self, r, layout::is_command(l));
+        let unit = self.unit;
+        let unfit = fitness::unfit(self.size, unit, r, layout::is_command(l));
         if unfit != 0 {
             return answered(unfit, self);
         }
@@ -219,7 +212,8 @@ impl Book {
             return answered(20, self);
         };
         let l = r.layout;
-        let unfit = fitness::unfit(self, r, layout::is_revocation(l));
+        let unit = self.unit;
+        let unfit = fitness::unfit(self.size, unit, r, layout::is_revocation(l));
         if unfit != 0 {
             return answered(unfit, self);
         }
