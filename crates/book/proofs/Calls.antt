@@ -21,6 +21,7 @@ use Rattle.book_places.specs.Places.{packed, orderAt, seatIn, keptIn}
 use Rattle.book_places.specs.declared.Seat.{Seat}
 use Rattle.book_places.specs.declared.Tally.{Tally}
 use Rattle.book_shelf.proofs.Ranks.{ascending-rising}
+use Rattle.book_shelf.proofs.Replacing.{replace-set}
 use Rattle.book_shelf.specs.Shelf.{putIn, replaced}
 use Rattle.book_source.proofs.Comes.{comes, instants-fit, names-fit}
 use Rattle.layout.specs.Layouts.{isCommand, isRevocation}
@@ -34,7 +35,7 @@ use Rattle.value_ask.specs.Values.{instantIn}
 use borrow.Author.Tests.{le-leb, lt-leb, lt-ltb, le-ltb, ne-eqb, eqb-false}
 use denote.Enum.Declared.{tagOf}
 use lib.Dec.{eqb, leb}
-use lib.ListN.{length, take}
+use lib.ListN.{length, take, set}
 use lib.Seq.{length-take-le}
 use mathlib.Core.Bool.{Bool, true, false, not}
 use mathlib.Core.List.{List, [], _∷_, map}
@@ -126,7 +127,7 @@ module _ (b : Book) (count : ℕ) (h : Holding b count) where
   -- ---- hold: 23, 22, 24
 
   module _ (o : Order) (c : isBrought o ≡ true) where
-    others : List Refusal
+    abbrev others : List Refusal
     others = row 23 0 (leb (o .end) (b .floor)) ∷ row 22 0 (any (named (nameOf o)) (take count (b .orders))) ∷ row 24 0 (leb 96 count) ∷ []
 
     hold-rest : firstNumber (rungsOf (isFull (shelf b)) (hold o) (shelf b)) ≡ firstNumber others
@@ -167,7 +168,7 @@ module _ (b : Book) (count : ℕ) (h : Holding b count) where
     abbrev s : Strike
     s = strikeFor n
 
-    unheld : List Refusal
+    abbrev unheld : List Refusal
     unheld = row 25 0 (not (any (named (s .name)) (take count (b .orders)))) ∷ row 26 0 (any (already s) (take count (b .orders))) ∷ []
 
     strike-rest : firstNumber (rungsOf (isFull (shelf b)) (strike s) (shelf b)) ≡ firstNumber unheld
@@ -187,22 +188,88 @@ module _ (b : Book) (count : ℕ) (h : Holding b count) where
       pub at-inside : seat .at < 96
       at-inside = omega (arith, h .few, seats.seat-inside n 0 count (b .orders) seat seated t)
 
-      struck-test : any (already s) (take count (b .orders)) ≡ already s (orderAt (seat .at) (b .orders))
-      struck-test =
-          any-seat count (b .orders) (h .rising) (already s) n (λ o z. rw z) its-held
-          ∙ ap (λ (x : Seat). already s (orderAt (x .at) (b .orders))) (sym seated)
+      abbrev it : Order
+      it = orderAt (seat .at) (b .orders)
 
-      strike-last : firstNumber (rungsOf (isFull (shelf b)) (strike s) (shelf b)) ≡ firstNumber (row 26 0 (orderAt (seat .at) (b .orders) .struck) ∷ [])
-      strike-last = strike-rest ∙ rw (strike-test ∙ t, struck-test)
+      -- a test that only that order can pass
+      at-seat : (p : Order → Bool) → ((o : Order) → eqb (o .number) n ≡ false → p o ≡ false) → any p (take count (b .orders)) ≡ p it
+      at-seat p only =
+          any-seat count (b .orders) (h .rising) p n only its-held ∙ ap (λ (x : Seat). p (orderAt (x .at) (b .orders))) (sym seated)
 
-      pub strike-struck : orderAt (seat .at) (b .orders) .struck ≡ true → outcome 26 b ≡ deedOutcomeOf (strike s) b
+      named-it : named (s .name) it ≡ true
+      named-it = sym (at-seat (named (s .name)) (λ o z. z)) ∙ strike-test ∙ t
+
+      strike-last : firstNumber (rungsOf (isFull (shelf b)) (strike s) (shelf b)) ≡ firstNumber (row 26 0 (it .struck) ∷ [])
+      strike-last = strike-rest ∙ rw (strike-test ∙ t, at-seat (already s) (λ o z. rw z), named-it)
+
+      pub strike-struck : it .struck ≡ true → outcome 26 b ≡ deedOutcomeOf (strike s) b
       strike-struck e = no-deed (strike s) c 26 (strike-last ∙ rw e) refl
+
+      stored : (o : Order) → o ≡ struckOut it → set (b .orders) (seat .at) o ≡ packed (map (strikeAt s) (take count (b .orders)))
+      stored o x =
+          let l = b .orders in
+          let struck : o ≡ strikeAt s it = x ∙ rw named-it in
+          rw struck
+          (replace-set (seat .at) (strikeAt s it) l (omega (arith, at-inside, h .size .long))
+          ∙ ap (λ (y : Seat). replaced (y .at) (strikeAt s (orderAt (y .at) l)) l) seated
+          ∙ change-seat count l (h .size .long) (h .places) n (strikeAt s) (λ y z. rw z) (h .few) (h .rising) its-held)
+
+      pub strike-done : it .struck ≡ false → (o : Order) → o ≡ struckOut it → (next : Book) → next ≡ withOrders b (b .floor) (set (b .orders) (seat .at) o)
+          → outcome 0 next ≡ deedOutcomeOf (strike s) b
+      unfolding shelf
+      strike-done e o x next q =
+          makes (strike s) c (b .floor) (set (b .orders) (seat .at) o) (map (strikeAt s) (take count (b .orders))) next
+          (strike-last ∙ rw e) q (stored o x) (rw (h .held))
 
   -- ---- close
 
   pub close-early : (t : ℕ) → t < b .floor → outcome 27 b ≡ outcomeOf (close t) b
   unfolding shelf
   close-early t k = refused (close t) b (h .size .long) (h .size .wide) (h .formed) 27 (rw (lt-ltb t (b .floor) k)) refl
+
+  pub close-done : (t : ℕ) → b .floor ≤ t → (l : List Order) → l ≡ packed (keptIn 0 count count t (b .orders)) → (next : Book) → next ≡ withOrders b t l
+      → outcome 0 next ≡ outcomeOf (close t) b
+  unfolding shelf
+  close-done t k l kept next e =
+      makes (shut t) refl t l (keep (pastEnd t) (take count (b .orders))) next (rw (le-ltb t (b .floor) k)) e
+      (kept ∙ ap packed (kept-all count t (b .orders))) (rw (h .held))
+      ∙ by-deed (close t) b (h .size .long) (h .size .wide) (h .formed) refl refl
+
+  -- ---- a call with a message
+
+  module _ (r : Record) (right : Bool) (n : ℕ) (u : n ≡ unfitIn right (take (b .size) (b .unit)) r) where
+    abbrev unit : List ℕ
+    unit = take (b .size) (b .unit)
+
+    -- what follows the refusals for the message
+    abbrev rest : Deed → List Refusal
+    rest d = rungsOf (isFull (shelf b)) d (shelf b)
+
+    module _ (which : right ≡ isCommand (r .layout)) where
+      pub command-unfit : (n ≡ 0 → ⊥) → outcome n b ≡ outcomeOf (command r) b
+      unfolding shelf
+      command-unfit z =
+          refused (command r) b (h .size .long) (h .size .wide) (h .formed) n (unfit-some isCommand unit r right which n u (rest (hold (orderOf r))) z) (ne-eqb n 0 z)
+
+      pub command-holds : n ≡ 0 → (o : Order) → o ≡ orderOf r → deedOutcomeOf (hold o) b ≡ outcomeOf (command r) b
+      unfolding shelf
+      command-holds z o e =
+          ap (λ (x : Order). deedOutcomeOf (hold x) b) e
+          ∙ by-deed (command r) b (h .size .long) (h .size .wide) (h .formed) (command-brings unit r right n u z which)
+          (unfit-none isCommand unit r right which n u (rest (hold (orderOf r))) z)
+
+    module _ (which : right ≡ isRevocation (r .layout)) where
+      pub revoke-unfit : (n ≡ 0 → ⊥) → outcome n b ≡ outcomeOf (revoke r) b
+      unfolding shelf
+      revoke-unfit z =
+          refused (revoke r) b (h .size .long) (h .size .wide) (h .formed) n (unfit-some isRevocation unit r right which n u (rest (strike (strikeOf r))) z) (ne-eqb n 0 z)
+
+      pub revoke-strikes : n ≡ 0 → (m : ℕ) → m ≡ strikeOf r .name .number → deedOutcomeOf (strike (strikeFor m)) b ≡ outcomeOf (revoke r) b
+      unfolding shelf
+      revoke-strikes z m e =
+          ap (λ (x : ℕ). deedOutcomeOf (strike (strikeFor x)) b) e
+          ∙ by-deed (revoke r) b (h .size .long) (h .size .wide) (h .formed) (revocation-names unit r right n u z which)
+          (unfit-none isRevocation unit r right which n u (rest (strike (strikeOf r))) z)
 
   -- ---- the question
 

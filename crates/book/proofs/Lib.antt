@@ -3,4 +3,5 @@ pub mod Formed
 pub mod Fitting
 pub mod Holding
 pub mod Calls
+pub mod Asking
 pub mod Unique

@@ -1,7 +1,7 @@
 -- The test of an order as bounds, for each of the two layouts that a command has. Assumes nothing.
 use Prim.Native.Nat.{ℕ, _-_, _≤_, _<_}
 use Rattle.value_bounds.specs.Bounds.{isAmount, firstInstant, lastInstant, mostNumber}
-use Rattle.layout.specs.Layouts.{isCommand}
+use Rattle.layout.specs.Layouts.{isCommand, isRevocation}
 use Rattle.layout.specs.declared.Layout.{Layout}
 use Rattle.layout.specs.declared.Layout.the-variants.{Market, Mfrr, Revocation, Generic, Exclusion, Limitation, Secondary, VoltVar, Rejection, Reserve}
 use Rattle.book_order.specs.Orders.{fitsLayout, couldCome}
@@ -26,6 +26,18 @@ by-command P p q Secondary e = absurd (false≢true e)
 by-command P p q VoltVar e = absurd (false≢true e)
 by-command P p q Rejection e = absurd (false≢true e)
 by-command P p q Reserve e = absurd (false≢true e)
+
+pub by-revocation : (P : Layout → Type 0) → P Revocation → (l : Layout) → isRevocation l ≡ true → P l
+by-revocation P p Market e = absurd (false≢true e)
+by-revocation P p Mfrr e = absurd (false≢true e)
+by-revocation P p Revocation e = p
+by-revocation P p Generic e = absurd (false≢true e)
+by-revocation P p Exclusion e = absurd (false≢true e)
+by-revocation P p Limitation e = absurd (false≢true e)
+by-revocation P p Secondary e = absurd (false≢true e)
+by-revocation P p VoltVar e = absurd (false≢true e)
+by-revocation P p Rejection e = absurd (false≢true e)
+by-revocation P p Reserve e = absurd (false≢true e)
 
 -- nothing fits another
 pub fits-command : (l : Layout) (apart : ℕ) (w : ℤ) → fitsLayout l apart w ≡ true → isCommand l ≡ true

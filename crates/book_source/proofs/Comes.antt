@@ -1,17 +1,17 @@
 -- The order of a valid command passes the test, so its instants fit 32 bits. Assumes nothing.
 use Prim.Native.Nat.{ℕ, _-_, _≤_}
-use Rattle.value_bounds.specs.Bounds.{isAmount}
+use Rattle.value_bounds.specs.Bounds.{mostNumber, isAmount}
 use Rattle.value_ask.specs.Values.{instantIn, amountIn}
-use Rattle.layout.specs.Layouts.{isCommand}
+use Rattle.layout.specs.Layouts.{isCommand, isRevocation}
 use Rattle.layout.specs.FieldNumbers.{endField}
 use Rattle.report_brief.specs.Brief.{messageNumber, startOf, endOf}
 use Rattle.book_source.proofs.Bounds.{by-command, market-tells, mfrr-tells, Bounds, come-tells}
-use Rattle.book_source.proofs.Fields.{number-in, date-in, amount-in}
-use Rattle.book_source.proofs.Places.{number-at, start-at, end-at, market-amounts, mfrr-amount}
+use Rattle.book_source.proofs.Fields.{number-in, date-in, amount-in, count-in}
+use Rattle.book_source.proofs.Places.{number-at, start-at, end-at, market-amounts, mfrr-amount, sequence-at}
 use Rattle.layout.specs.declared.Layout.{Layout}
 use Rattle.layout.specs.declared.Layout.the-variants.{Market, Mfrr}
-use Rattle.book_order.specs.Messages.{firstVariation, secondVariation, orderOf}
-use Rattle.book_order.specs.Orders.{fitsLayout, couldCome}
+use Rattle.book_order.specs.Messages.{firstVariation, secondVariation, orderOf, strikeOf}
+use Rattle.book_order.specs.Orders.{fitsLayout, couldCome, couldStrike}
 use Rattle.record.specs.Records.{fieldOf}
 use Rattle.record.specs.declared.Record.{Record}
 use Rattle.record_rules.proofs.Steps.{broken-here}
@@ -20,6 +20,7 @@ use Rattle.text.proofs.Tests.{by-test, ltb-tells, leb-tells, _and_}
 use Rattle.record_valid.specs.Valid.{Valid}
 use Rattle.record_check.proofs.Decides.{valid-tells}
 use Rattle.record_check.specs.Validity.{isValid}
+use borrow.Author.Tests.{le-leb}
 use lib.IntN.{pos}
 use mathlib.Core.Bool.{Bool, true, not}
 use mathlib.Core.List.{List, _∷_}
@@ -86,3 +87,9 @@ comes r e c = come-tells (orderOf r) .1 (in-bounds r (valid-tells r .0 e) c)
 pub instants-fit : (r : Record) → isValid r ≡ true → isCommand (r .layout) ≡ true → (instantIn (startOf r) ≤ 4294967295) × (instantIn (endOf r) ≤ 4294967295)
 unfolding orderOf
 instants-fit r e c = let b = come-tells (orderOf r) .0 (comes r e c) in omega arith
+
+-- ---- the revocation of a valid RC names a number of at most ten digits
+
+pub names-fit : (r : Record) → isValid r ≡ true → isRevocation (r .layout) ≡ true → couldStrike (strikeOf r) ≡ true
+unfolding strikeOf
+names-fit r e c = le-leb _ mostNumber (count-in r (valid-tells r .0 e) (sequence-at (r .layout) c))

@@ -1,7 +1,7 @@
 -- What the fields of a valid record hold that may not be blank: a number, an instant, an amount. Assumes nothing.
 use Prim.Native.Nat.{ℕ, _≤_, _<_}
 use Rattle.value_bounds.specs.Bounds.{isAmount, firstInstant, lastInstant, mostNumber}
-use Rattle.value_ask.specs.Values.{isFilled, numberIn, instantIn, amountIn}
+use Rattle.value_ask.specs.Values.{isFilled, numberIn, instantIn, amountIn, countIn}
 use Rattle.value_fits.proofs.Ranges.{range-tells}
 use Rattle.value_instants.proofs.Reach.{bounded}
 use Rattle.layout.specs.Layouts.{kindsOf, noKind, typeOf}
@@ -14,11 +14,11 @@ use Rattle.record_valid.proofs.Hold.{hold-length, hold-at}
 use Rattle.record_valid.specs.Valid.{Valid}
 use Rattle.value.specs.Texts.{Rooms}
 use Rattle.value.specs.Valid.{Fits, Holds}
-use Rattle.value.specs.Valid.Fits.{id, when, amount}
+use Rattle.value.specs.Valid.Fits.{id, when, amount, count}
 use Rattle.value.specs.Valid.Holds.{blank, filled}
 use Rattle.value.specs.declared.Kind.{Kind}
 use Rattle.value.specs.declared.Shape.{Shape}
-use Rattle.value.specs.declared.Shape.the-variants.{IsId, IsWhen, IsAmount}
+use Rattle.value.specs.declared.Shape.the-variants.{IsId, IsWhen, IsAmount, IsCount}
 use Rattle.value.specs.declared.Value.{Value}
 use lib.ListN.{length, getD}
 use mathlib.Core.Bool.{true, false, false≢true}
@@ -44,6 +44,9 @@ module _ {t : MessageType} {r : Rooms} where
   unfolding isAmount
   amount-held (amount {v} h) = range-tells v .1 h
 
+  count-held : {v : Value} → Fits t r IsCount v → countIn v ≤ mostNumber
+  count-held (count h) = omega arith
+
   -- a kind that lets no blank stand
   owed : (k : Kind) {a : Shape} {v : Value} → k .shape ≡ a → k .blank ≡ false → Holds t r k v → Fits t r a v
   owed k s b (blank e) = absurd (false≢true (sym b ∙ e))
@@ -68,3 +71,6 @@ module _ (r : Record) (w : Valid r) where
 
   pub amount-in : {k : ℕ} → Owed (r .layout) IsAmount k → isAmount (amountIn (fieldOf (r .cells) k)) ≡ true
   amount-in o = amount-held (field-held o)
+
+  pub count-in : {k : ℕ} → Owed (r .layout) IsCount k → countIn (fieldOf (r .cells) k) ≤ mostNumber
+  count-in o = count-held (field-held o)

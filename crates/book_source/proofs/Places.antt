@@ -1,14 +1,14 @@
 -- Where a command has its number, its dates and its amounts, none of which may be blank. Assumes nothing.
 use Prim.Native.Nat.{ℕ, suc}
 use Rattle.layout.specs.FieldNumbers.{endField}
-use Rattle.book_source.proofs.Bounds.{by-command}
-use Rattle.layout.specs.Fields.{command, technical, market, mfrr}
-use Rattle.layout.specs.Layouts.{isCommand, fieldsOf, kindsOf, typeOf, noKind}
+use Rattle.book_source.proofs.Bounds.{by-command, by-revocation}
+use Rattle.layout.specs.Fields.{command, technical, market, mfrr, rc}
+use Rattle.layout.specs.Layouts.{isCommand, isRevocation, fieldsOf, kindsOf, typeOf, noKind}
 use Rattle.layout.specs.declared.Layout.{Layout}
-use Rattle.layout.specs.declared.Layout.the-variants.{Market, Mfrr}
+use Rattle.layout.specs.declared.Layout.the-variants.{Market, Mfrr, Revocation}
 use Rattle.record.proofs.Places.{Owed}
 use Rattle.value.specs.declared.Shape.{Shape}
-use Rattle.value.specs.declared.Shape.the-variants.{IsId, IsWhen, IsAmount}
+use Rattle.value.specs.declared.Shape.the-variants.{IsId, IsWhen, IsAmount, IsCount}
 use borrow.Author.Tests.{ltb-true}
 use lib.Dec.{ltb}
 use lib.ListN.{length, getD}
@@ -40,3 +40,7 @@ market-amounts = (owed-at Market IsAmount 4 refl refl refl, owed-at Market IsAmo
 pub mfrr-amount : Owed Mfrr IsAmount 7
 unfolding kindsOf fieldsOf mfrr
 mfrr-amount = owed-at Mfrr IsAmount 6 refl refl refl
+
+pub sequence-at : (l : Layout) → isRevocation l ≡ true → Owed l IsCount 5
+unfolding kindsOf fieldsOf rc
+sequence-at = by-revocation (λ (l : Layout). Owed l IsCount 5) (owed-at Revocation IsCount 4 refl refl refl)

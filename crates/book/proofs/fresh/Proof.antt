@@ -21,8 +21,8 @@ returns c =
     let u = c .before .before .before in
     c .answered .ensures ∙ ap (outcome 21) (c .before .zero .ensures) ∙ fresh-bad _ (sym (u .is-unit .ensures) ∙ not-true _ (c .before .before .if1 .taken))
 
-keep-unit-requires : tie.Need-keep-unit-requires
-keep-unit-requires c κs = search needs
+with-requires : tie.Need-with-requires
+with-requires c κs = search needs
 
 answered-requires-2 : tie.Need-answered-requires-2
 answered-requires-2 c κs = search needs
@@ -30,7 +30,7 @@ answered-requires-2 c κs = search needs
 returns-2 : tie.Need-returns-2
 returns-2 c =
     let i = c .before .before in
-    c .answered2 .ensures ∙ fresh-good _ (sym (i .before .is-unit .ensures) ∙ not-false _ (i .if1 .left)) _ (c .before .keep-unit .ensures)
+    c .answered2 .ensures ∙ ap (outcome 0) (c .before .with .ensures) ∙ fresh-good _ (sym (i .before .is-unit .ensures) ∙ not-false _ (i .if1 .left))
 
 pub fresh-spec : {M : Type 1} → statement M
 fresh-spec =
@@ -40,6 +40,6 @@ fresh-spec =
     zero-requires
     answered-requires
     returns
-    keep-unit-requires
+    with-requires
     answered-requires-2
     returns-2)

@@ -1,11 +1,12 @@
 -- The three ways out of a close.
+use Rattle.book_places.specs.declared.Kept.{Kept}
 use Rattle.book.proofs.Book.close.Statement.{statement}
 use Rattle.book.proofs.Book.close.Tie as tie
 use Rattle.book.proofs.Calls.{call-malformed, close-early, close-done}
 use Rattle.book.proofs.Holding.{Holding, holds}
 use Rattle.book.proofs.Sizes.{sized}
 use borrow.Author.Needs.{needs}
-use mathlib.Core.Path.{_∙_}
+use mathlib.Core.Path.{ap, _∙_}
 
 -- what is known of the book where its orders are counted
 abbrev start : tie.After-known-told → tie.Start
@@ -14,10 +15,10 @@ start k = k .before .before .before .before
 holding : (k : tie.After-known-told) → Holding (start k .args .self) (k .before .count .given .0 .0)
 holding k =
     let s = start k in
-    holds (s .args .self) _ (k .before .before .before .count-held .ensures) _ (sized (s .args .self) _ (s .good .0)) (k .before .count .given .1)
+    holds (s .args .self) _ (k .before .before .before .tally .ensures) _ (sized (s .args .self) _ (s .good .0)) (k .before .count .given .1)
 
-count-held-requires : tie.Need-count-held-requires
-count-held-requires c κs = search needs
+tally-requires : tie.Need-tally-requires
+tally-requires c κs = search needs
 
 enum-known-count : tie.Need-enum-known-count
 enum-known-count c = search needs
@@ -29,7 +30,7 @@ answered-requires : tie.Need-answered-requires
 answered-requires c κs = search needs
 
 returns : tie.Need-returns
-returns c = c .answered .ensures ∙ call-malformed _ _ _ (c .before .before .before .count-held .ensures) (c .before .before .match .keys2)
+returns c = c .answered .ensures ∙ call-malformed _ _ _ (c .before .before .before .tally .ensures) (c .before .before .match .keys2)
 
 answered-requires-2 : tie.Need-answered-requires-2
 answered-requires-2 c κs = search needs
@@ -39,28 +40,35 @@ returns-2 c =
     let k = c .before .before .before in
     c .answered2 .ensures ∙ close-early (start k .args .self) _ (holding k) _ (c .before .if1 .taken)
 
-close-requires : tie.Need-close-requires
-close-requires c κs = holding (c .before .before) .few
+keep-past-requires : tie.Need-keep-past-requires
+keep-past-requires c κs = holding (c .before .before .before) .few
+
+made-requires : tie.Need-made-requires
+made-requires c κs = search needs
 
 answered-requires-3 : tie.Need-answered-requires-3
 answered-requires-3 c κs = search needs
 
 returns-3 : tie.Need-returns-3
 returns-3 c =
-    let k = c .before .before .before .before in
-    c .answered3 .ensures ∙ close-done (start k .args .self) _ (holding k) _ (c .before .before .if1 .left) _ (c .before .close .ensures)
+    let p = c .before .before .before in
+    let i = p .before .before in
+    let k = i .before .before in
+    c .answered3 .ensures
+    ∙ close-done (start k .args .self) _ (holding k) _ (i .if1 .left) _ (ap (λ (x : Kept). x .orders) (p .keep-past .ensures)) _ (c .before .made .ensures)
 
 pub close-spec : {M : Type 1} → statement M
 close-spec =
     tie.close
     (tie.spec
-    count-held-requires
+    tally-requires
     enum-known-count
     enum-told
     answered-requires
     returns
     answered-requires-2
     returns-2
-    close-requires
+    keep-past-requires
+    made-requires
     answered-requires-3
     returns-3)

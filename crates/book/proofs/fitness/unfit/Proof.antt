@@ -14,14 +14,14 @@ use mathlib.Core.List.{List}
 use mathlib.Core.Path.{_≡_, sym, ap₂, _∙_}
 
 abbrev ours : tie.Start → List ℕ
-ours s = take (s .args .b .size) (s .args .b .unit)
+ours s = take (s .args .size) (s .args .t2)
 
 -- past the first test
 is-good : (c : tie.Else1) → isValid (c .before .before .args .r) ≡ true
 is-good c = sym (c .before .is-valid .ensures) ∙ not-false _ (c .if1 .left)
 
 abbrev passed : tie.After-same → tie.Else2
-passed c = c .before .before .before .before .before .before .before .before
+passed c = c .before .before .before .before .before .before .before
 
 abbrev start : tie.After-same → tie.Start
 start c = passed c .before .before .before
@@ -31,7 +31,7 @@ same-unit : (c : tie.After-same) → c .same .result ≡ same (unitOf (start c .
 same-unit c =
     let f = c .before .before .before in
     c .same .ensures
-    ∙ ap₂ same (f .front .ensures ∙ unit-told (start c .args .r) _ (f .before .before .before .before .of-record .ensures)) (c .before .front2 .ensures)
+    ∙ ap₂ same (f .front .ensures ∙ unit-told (start c .args .r) _ (f .before .before .before .of-record .ensures)) (c .before .front2 .ensures)
 
 is-valid-requires : tie.Need-is-valid-requires
 is-valid-requires c κs = search needs
