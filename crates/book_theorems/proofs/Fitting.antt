@@ -1,29 +1,31 @@
 -- The ledgers that a book with its 96 places can hold, and that every call keeps a ledger so. Assumes nothing.
 use Prim.Native.Nat.{ℕ, suc, _≤_, _<_}
-use Rattle.layout.specs.Layouts.{isCommand}
-use Rattle.book.proofs.Leading.{fits-facts}
-use Rattle.book.specs.Places.{fitsAfter}
-use Rattle.book_source.proofs.Comes.{comes}
+use Rattle.layout.specs.Layouts.{isCommand, isRevocation}
+use Rattle.book_places.proofs.Leading.{fits-facts}
+use Rattle.book_places.specs.Places.{fitsAfter}
+use Rattle.book_source.proofs.Comes.{comes, names-fit}
 use Rattle.book_lists.proofs.Keeping.{length-keep}
 use Rattle.book_lists.proofs.Sorting.{length-insert}
 use Rattle.book_lists.specs.Keyed.{keep, insert}
-use Rattle.book_ledger.proofs.Strikes.{strike-key, strike-end, takes, step-keeps}
-use Rattle.book_ledger.specs.Calls.{Call, command, revoke, close, ask, deedOf, fitFor}
-use Rattle.book_ledger.specs.Ledger.{Ledger, fresh, answer, effect, step}
+use Rattle.book_ledger.proofs.Strikes.{strike-key, strike-end, no-rung, fit, step-keeps}
+use Rattle.book_ledger.specs.Calls.{Call, command, revoke, close, ask, Deed, hold, strike, shut, look, deedOf, fitFor, couldAsk}
+use Rattle.book_ledger.specs.Ledger.{Ledger, fresh, rungsOf, isFull, answer, effect, step}
 use Rattle.value_name.specs.Names.{isUnit}
-use Rattle.book_order.specs.Messages.{orderOf, strikeOf}
-use Rattle.book_order.specs.Orders.{nameOf, named, number, pastEnd, Strike, strikeAt, couldCome}
+use Rattle.book_order.specs.Messages.{orderOf}
+use Rattle.book_order.specs.Orders.{nameOf, named, number, pastEnd, Strike, strikeAt, couldCome, isBrought}
 use Rattle.book_order.specs.declared.Order.{Order}
 use Rattle.record.specs.declared.Record.{Record}
 use Rattle.text.proofs.Tests.{by-test, and-parts, or-parts}
 use Rattle.text.specs.Bytes.{any}
+use Rattle.text.specs.Refusals.{firstNumber}
+use Rattle.layout.specs.declared.Layout.{Layout}
 use Rattle.record_check.specs.Validity.{isValid}
 use borrow.Author.Tests.{le-leb, lt-ltb, ltb-true, ltb-false, leb-false, eqb-false}
-use lib.Dec.{ltb}
+use lib.Dec.{leb, ltb}
 use lib.ListN.{length, length-map}
-use mathlib.Core.Bool.{true, false}
+use mathlib.Core.Bool.{Bool, true, false, not}
 use mathlib.Core.List.{List, [], _∷_, map}
-use mathlib.Core.Path.{_≡_, _∙_}
+use mathlib.Core.Path.{_≡_, refl, _∙_}
 use native.Mathlib.Omega.{arith}
 
 -- ---- one order
@@ -36,12 +38,6 @@ fits-of f lo o h k e = rw (le-leb lo (o .number) h, lt-ltb f (o .end) k, e)
 strike-comes : (s : Strike) (o : Order) → couldCome (strikeAt s o) ≡ couldCome o
 unfolding couldCome
 strike-comes s o = by-test (named (s .name) o) (λ e. rw e) (λ e. rw e)
-
--- a command that is not refused for itself brings one that could come
-brought : (r : Record) (unit : List ℕ) → fitFor isCommand unit r ≡ true → couldCome (orderOf r) ≡ true
-brought r unit e =
-    let p = and-parts (isValid r) _ e in
-    comes r (p .0) (and-parts (isCommand (r .layout)) _ (p .1) .0)
 
 -- ---- orders by ascending number from lo on, each as a book with the floor f may hold it
 
@@ -100,30 +96,51 @@ pub record Fits (b : Ledger) : Type 0 where
 pub fits-fresh : (unit : List ℕ) → isUnit unit ≡ true → Fits (fresh unit)
 fits-fresh unit e = record { unit-good = e; orders-fit = tt; room = omega arith }
 
-fits-effect : (k : Call) (b : Ledger) → answer k b ≡ 0 → Fits b → Fits (effect (deedOf k) b)
-fits-effect (command r) b a g =
-    let p = takes r b a in
-    let o : Order = orderOf r in
+-- a deed that some valid message asks for, and that is not refused
+pub fits-deed : (d : Deed) (b : Ledger) → couldAsk d ≡ true → firstNumber (rungsOf (isFull b) d b) ≡ 0 → Fits b → Fits (effect d b)
+unfolding isBrought
+fits-deed (hold o) b c a g =
+    let x = no-rung (leb (o .end) (b .floor)) 23 _ refl a in
+    let y = no-rung (any (named (nameOf o)) (b .orders)) 22 _ refl (x .1) in
+    let z = no-rung (isFull b) 24 0 refl (y .1) in
+    let could = and-parts (couldCome o) (not (o .struck)) c .0 in
     record {
       unit-good = g .unit-good;
       orders-fit =
-          fitted-insert (b .floor) 0 o (b .orders)
-          (fits-of (b .floor) 0 o (omega arith) (leb-false (o .end) (b .floor) (p .ends)) (brought r (b .unit) (p .fits))) (p .free) (g .orders-fit);
-      room = rw (length-insert number o (b .orders)) (leb-false 96 (length (b .orders)) (p .room));
+          fitted-insert (b .floor) 0 o (b .orders) (fits-of (b .floor) 0 o (omega arith) (leb-false (o .end) (b .floor) (x .0)) could) (y .0)
+          (g .orders-fit);
+      room = rw (length-insert number o (b .orders)) (leb-false 96 (length (b .orders)) (z .0));
     }
-fits-effect (revoke r) b a g =
+fits-deed (strike s) b c a g =
     record {
       unit-good = g .unit-good;
-      orders-fit = fitted-strike (b .floor) 0 (strikeOf r) (b .orders) (g .orders-fit);
-      room = rw (length-map (b .orders) (strikeAt (strikeOf r))) (g .room);
+      orders-fit = fitted-strike (b .floor) 0 s (b .orders) (g .orders-fit);
+      room = rw (length-map (b .orders) (strikeAt s)) (g .room);
     }
-fits-effect (close t) b a g =
+fits-deed (shut t) b c a g =
     record {
       unit-good = g .unit-good;
       orders-fit = fitted-close (b .floor) 0 t (b .orders) (g .orders-fit);
       room = omega (arith, length-keep (pastEnd t) (b .orders), g .room);
     }
-fits-effect (ask t) b a g = g
+fits-deed (look t) b c a g = g
+
+-- so is the deed of a call that is accepted
+valid-right : (right : Layout → Bool) (unit : List ℕ) (r : Record) → fitFor right unit r ≡ true → (isValid r ≡ true) × (right (r .layout) ≡ true)
+valid-right right unit r e = let p = and-parts (isValid r) _ e in (p .0, and-parts (right (r .layout)) _ (p .1) .0)
+
+asked-for : (k : Call) (b : Ledger) → answer k b ≡ 0 → (couldAsk (deedOf k) ≡ true) × (firstNumber (rungsOf (isFull b) (deedOf k) b) ≡ 0)
+unfolding isBrought orderOf
+asked-for (command r) b a =
+    let f = fit isCommand (b .unit) r _ a in
+    let v = valid-right isCommand (b .unit) r (f .0) in
+    (rw (comes r (v .0) (v .1)), f .1)
+asked-for (revoke r) b a =
+    let f = fit isRevocation (b .unit) r _ a in
+    let v = valid-right isRevocation (b .unit) r (f .0) in
+    (names-fit r (v .0) (v .1), f .1)
+asked-for (close t) b a = (refl, a)
+asked-for (ask t) b a = (refl, a)
 
 pub fits-step : (k : Call) (b : Ledger) → Fits b → Fits (step k b)
-fits-step k b g = step-keeps Fits k b (fits-effect k b) g
+fits-step k b g = step-keeps Fits k b (λ a p. let q = asked-for k b a in fits-deed (deedOf k) b (q .0) (q .1) p) g

@@ -1,21 +1,25 @@
 -- The book that holds a fitting ledger is not malformed, and its calls are the ledger's. Assumes nothing.
 use Prim.Native.Nat.{ℕ, zero, suc, _-_, _≤_}
-use Rattle.book.proofs.Leading.{fits-past, fits-filled, empty-dropped}
-use Rattle.book.specs.Answers.{callNumber, nextOf, found, askedOf}
-use Rattle.book.specs.Places.{bookOf, shelf, formedFrom, formedUnit, formedBook}
+use Rattle.book_places.proofs.Empty.{empty-dropped}
+use Rattle.book_places.proofs.Leading.{fits-past, fits-filled, fits-facts, kept-leading, leading-long}
+use Rattle.book_places.specs.Places.{fitsAfter, formedFrom, leading}
+use Rattle.book.specs.Answers.{callNumber, nextOf, deedNumber, deedNext, deedOutcomeOf, found, askedOf}
+use Rattle.book.specs.Places.{bookOf, shelf, formedUnit, formedBook}
 use Rattle.book_lists.specs.Keyed.{keep}
-use Rattle.book_ledger.specs.Calls.{Call, ask}
-use Rattle.book_ledger.specs.Ledger.{Ledger, answer, step, inForce}
+use Rattle.book.specs.declared.Book.{Book}
+use Rattle.book_ledger.specs.Calls.{Call, ask, Deed, couldAsk}
+use Rattle.book_ledger.specs.Ledger.{Ledger, rungsOf, isFull, answer, effect, step, inForce}
 use Rattle.value_name.specs.Names.{isUnit}
 use Rattle.book_order.specs.Orders.{pastEnd, emptyOrder, isEmpty}
 use Rattle.book_order.specs.declared.Order.{Order}
-use Rattle.book_theorems.proofs.Fitting.{Fitted, Fits}
-use Rattle.text.proofs.Tests.{and-parts}
+use Rattle.book_theorems.proofs.Fitting.{Fitted, Fits, fits-deed}
+use Rattle.text.proofs.Tests.{by-test, and-parts}
 use Rattle.text.specs.Bytes.{all, is, within}
 use Rattle.text.specs.Puts.{roomOf}
-use borrow.Author.Tests.{le-ltb, leb-true}
-use lib.Dec.{leb}
-use lib.ListN.{length, replicate, length-append, length-replicate}
+use Rattle.text.specs.Refusals.{firstNumber}
+use borrow.Author.Tests.{le-ltb, leb-true, eqb-true}
+use lib.Dec.{eqb, leb}
+use lib.ListN.{length, take, replicate, length-append, length-replicate, length-take}
 use lib.Seq.{take-append-seam, drop-append-seam}
 use mathlib.Core.Bool.{Bool, true}
 use mathlib.Core.List.{List, [], _∷_, _++_}
@@ -93,3 +97,38 @@ module _ (b : Ledger) (g : Fits b) where
   pub lift-asked : (t : ℕ) → b .floor ≤ t → askedOf t (bookOf b) .answer ≡ found (inForce t b)
   unfolding askedOf
   lift-asked t h = rw (lift-code (ask t), le-ltb t (b .floor) h) (ap (λ (l : Ledger). found (inForce t l)) shelved)
+
+-- ---- and back: a book that is not malformed holds a ledger that fits
+
+fitted-leading : (f lo : ℕ) (l : List Order) → Fitted f lo (take (leading f lo l) l)
+unfolding leading
+fitted-leading f lo [] = tt
+fitted-leading f lo (o ∷ l) =
+    by-test (fitsAfter f lo o)
+    (λ e. rw e (e, fitted-leading f (suc (o .number)) l))
+    (λ e. rw e tt)
+
+pub formed-fits : (b : Book) → length (b .orders) ≡ 96 → formedBook b ≡ true → Fits (shelf b)
+unfolding formedBook formedUnit shelf
+formed-fits b h e =
+    let f = b .floor in
+    let l = b .orders in
+    let p = and-parts (formedUnit (b .size) (b .unit)) (formedFrom f 0 l) e in
+    let u = and-parts (leb (b .size) 16) _ (p .0) in
+    let kept = kept-leading f 0 l (p .1) in
+    record {
+      unit-good = and-parts (isUnit (take (b .size) (b .unit))) _ (u .1) .0;
+      orders-fit = rw kept (fitted-leading f 0 l);
+      room = rw kept (omega (arith, length-take (leading f 0 l) l, leading-long f 0 l, h));
+    }
+
+-- THE THEOREM: no deed makes a malformed book of one that is not
+pub deed-formed : (d : Deed) (b : Book) → length (b .orders) ≡ 96 → formedBook b ≡ true → formedBook (deedOutcomeOf d b .book) ≡ true
+unfolding deedNumber deedNext
+deed-formed d b h e =
+    let n = firstNumber (rungsOf (isFull (shelf b)) d (shelf b)) in
+    by-test (couldAsk d)
+    (λ c. by-test (eqb n 0)
+    (λ z. rw (e, c, z) (formed (effect d (shelf b)) (fits-deed d (shelf b) c (eqb-true n 0 z) (formed-fits b h e))))
+    (λ z. rw (e, c, z) e))
+    (λ c. rw (e, c) e)
