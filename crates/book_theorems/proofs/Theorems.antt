@@ -1,13 +1,12 @@
 -- Demand 3 of the book with its 96 places: the ledger's theorems, carried over. Assumes nothing.
 use Prim.Native.Nat.{ℕ, zero, suc}
 use Rattle.book.proofs.Formed.{shelf-book}
-use Rattle.book.specs.Answers.{callNumber, nextOf, freshOf, found, foundNumber, askedAs, ofInForce, askedOf}
+use Rattle.book.specs.Answers.{callNumber, nextOf, deedNumber, deedNext, freshOf, found, foundNumber, askedAs, ofInForce, askedOf}
 use Rattle.book.specs.Places.{shelf, zeroBook, formedUnit, formedBook}
 use Rattle.book.specs.declared.Book.{Book}
 use Rattle.book_ledger.proofs.Agreement.{same-answer, same-in-force}
 use Rattle.book_ledger.proofs.Removal.{removal as ledger-removal, whole-answers as ledger-answers}
-use Rattle.book_ledger.specs.Calls.{Call, command, revoke, ask, deedOf, names}
-use Rattle.book_order.specs.Orders.{Name}
+use Rattle.book_ledger.specs.Calls.{Call, command, revoke, ask, Deed, deedOf, names}
 use Rattle.book_ledger.specs.Demand.{wantsPlace, whole, leftOut, found as foundAt, taken, met, struck, otherAnswers, Revoked, LeftOut}
 use Rattle.book_ledger.specs.History.{ledgerOf}
 use Rattle.book_ledger.specs.Keepers.{run, answers}
@@ -155,3 +154,7 @@ refused-same k b refused h u =
     by-test (formedBook b)
     (λ e. rw (e, ne-eqb (answer k (shelf b)) 0 (rw e at refused)) (sym (shelf-book b h u e)))
     (λ e. rw e)
+
+pub deed-same : (d : Deed) (b : Book) → (deedNumber d b ≡ 0 → ⊥) → deedNext d b ≡ b
+unfolding deedNext
+deed-same d b refused = rw (ne-eqb (deedNumber d b) 0 refused)

@@ -4,7 +4,8 @@ use Rattle.book.specs.Answers.{freshOf, ofInForce, askedOf}
 use Rattle.book_ledger.specs.History.{ledgerOf}
 use Rattle.book_ledger.specs.Ledger.{inForce}
 use Rattle.book_source.proofs.Given.{given-tells}
-use Rattle.book_theorems.proofs.Theorems.{kept, unkept, found-says, asked-refusal, removal, refused-same}
+use Rattle.book_theorems.proofs.Theorems.{kept, unkept, found-says, asked-refusal, removal, refused-same, deed-same}
+use Rattle.book_theorems.proofs.Lift.{deed-formed}
 use Rattle.book_theorems.specs.Books.{history}
 use Rattle.demands.proofs.Answers as answers
 use Rattle.demands.proofs.Files as files
@@ -46,6 +47,7 @@ demand-1 =
       refused-read-entry = answers.read-leaves;
       refused-normalise-entry = answers.normalise-leaves;
       refused-call = λ k b orders unit refused. refused-same k b refused orders unit;
+      refused-deed = λ d b refused. deed-same d b refused;
       question = λ t b. refl;
       refused-time = answers.refused-time;
     }
@@ -99,4 +101,5 @@ demand-3 =
       could-come = given-tells;
       asked = asked-refusal;
       left-out = removal;
+      deeds-keep = deed-formed;
     }

@@ -41,12 +41,16 @@ pub record Calls : Type 0 where
   pub transfer-fresh : Answers transfer.fresh.ended transfer.fresh.Reads.Asked transfer.fresh.Reads.Learnt
   pub transfer-take :
       Writes transfer.Collector.take.ended (λ κs e. e .1 .1 .0 .now) transfer.Collector.take.Reads.Asked transfer.Collector.take.Reads.Learnt
-  -- the book: a fresh one, and the four calls
+  -- the book: a fresh one and one of a unit, the four calls, the two deeds without a message, and how many orders it holds
   pub book-fresh : Answers book.fresh.ended book.fresh.Reads.Asked book.fresh.Reads.Learnt
   pub book-command : Answers book.Book.command.ended book.Book.command.Reads.Asked book.Book.command.Reads.Learnt
   pub book-revoke : Answers book.Book.revoke.ended book.Book.revoke.Reads.Asked book.Book.revoke.Reads.Learnt
   pub book-close : Answers book.Book.close.ended book.Book.close.Reads.Asked book.Book.close.Reads.Learnt
   pub book-in-force : Answers book.Book.in_force.ended book.Book.in_force.Reads.Asked book.Book.in_force.Reads.Learnt
+  pub book-with : Answers book.with.ended book.with.Reads.Asked book.with.Reads.Learnt
+  pub book-hold : Answers book.Book.hold.ended book.Book.hold.Reads.Asked book.Book.hold.Reads.Learnt
+  pub book-strike : Answers book.Book.strike.ended book.Book.strike.Reads.Asked book.Book.strike.Reads.Learnt
+  pub book-tally : Answers book.Book.tally.ended book.Book.tally.Reads.Asked book.Book.tally.Reads.Learnt
   -- the times: each call's part of the file or of the sheet, where it stands, and why there is none
   pub times-start-up : Lends times.start_up.ended (λ κs z. z .now) times.start_up.Reads.Asked times.start_up.Reads.Learnt
   pub times-ramp : Lends times.ramp.ended (λ κs z. z .now) times.ramp.Reads.Asked times.ramp.Reads.Learnt
@@ -92,6 +96,10 @@ pub record Meets : Type 2 where
   pub book-revoke : (M : Type 1) → book.Book.revoke.Statement.statement M
   pub book-close : (M : Type 1) → book.Book.close.Statement.statement M
   pub book-in-force : (M : Type 1) → book.Book.in_force.Statement.statement M
+  pub book-with : (M : Type 1) → book.with.Statement.statement M
+  pub book-hold : (M : Type 1) → book.Book.hold.Statement.statement M
+  pub book-strike : (M : Type 1) → book.Book.strike.Statement.statement M
+  pub book-tally : (M : Type 1) → book.Book.tally.Statement.statement M
   pub times-start-up : (M : Type 1) → times.start_up.Statement.statement M
   pub times-ramp : (M : Type 1) → times.ramp.Statement.statement M
   pub times-locate : (M : Type 1) → times.locate.Statement.statement M

@@ -2,7 +2,7 @@
 -- exit in order; κs are lifetimes. (`Learnt` is what the toolchain makes of a contract for its callers: text/specs/Shapes.antt)
 use Prim.Native.Nat.{ℕ}
 use Rattle.book.proofs as book
-use Rattle.book.specs.Answers.{outcomeOf, freshOf, askedOf}
+use Rattle.book.specs.Answers.{outcomeOf, deedOutcomeOf, freshOf, askedOf}
 use Rattle.book.specs.declared.Asked.{Asked}
 use Rattle.book.specs.declared.Book.{Book}
 use Rattle.book.specs.declared.Outcome.{Outcome}
@@ -10,7 +10,9 @@ use Rattle.report_brief.specs.Brief.{sixLines}
 use Rattle.gateway.proofs as gateway
 use Rattle.gateway.specs.Collecting.{collectCode}
 use Rattle.gateway.specs.Entry.{entryCode, outOf}
-use Rattle.book_ledger.specs.Calls.{command, revoke, close}
+use Rattle.book_ledger.specs.Calls.{command, revoke, close, hold, strike}
+use Rattle.book_order.specs.Orders.{strikeFor}
+use Rattle.book_order.specs.declared.Order.{Order}
 use Rattle.reader.proofs as reader
 use Rattle.reader.specs.Reader.{readOf}
 use Rattle.reader.specs.declared.Answer.{Answer}
@@ -83,6 +85,10 @@ pub record Contracts : Type 0 where
   pub revokes : (κs : _) (b : Book) (r : Record) (z : Outcome) (e : _) → book.Book.revoke.Reads.Learnt κs (b, (r, tt)) z e → z ≡ outcomeOf (revoke r) b
   pub closes : (κs : _) (b : Book) (t : ℕ) (z : Outcome) (e : _) → book.Book.close.Reads.Learnt κs (b, (t, tt)) z e → z ≡ outcomeOf (close t) b
   pub in-force : (κs : _) (b : Book) (t : ℕ) (z : Asked) (e : _) → book.Book.in_force.Reads.Learnt κs (b, (t, tt)) z e → z ≡ askedOf t b
+  pub holds : (κs : _) (b : Book) (o : Order) (z : Outcome) (e : _) → book.Book.hold.Reads.Learnt κs (b, (o, tt)) z e → z ≡ deedOutcomeOf (hold o) b
+  pub strikes : (κs : _) (b : Book) (n : ℕ) (z : Outcome) (e : _)
+      → book.Book.strike.Reads.Learnt κs (b, (n, tt)) z e
+      → z ≡ deedOutcomeOf (strike (strikeFor n)) b
   pub locate : (κs : _) (w : Which) (ca ioa : ℕ) (plan file sheet : Slice) (z : Time) (e : _)
       → times.locate.Reads.Learnt κs (w, (ca, (ioa, (plan, (file, (sheet, tt)))))) z e
       → z ≡ timeOf w ca ioa (plan .now) (file .now) (sheet .now)

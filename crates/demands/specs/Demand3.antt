@@ -1,10 +1,10 @@
 -- Demand 3, sentence by sentence: what `Kept`, `Revoked` and `LeftOut` say is in book_theorems/specs/Books.antt and book_ledger/specs/Demand.antt; `ofInForce`,
 -- what the answer to the question says, in book/specs/Answers.antt.
 use Prim.Native.Nat.{ℕ, _≤_}
-use Rattle.book.specs.Answers.{callNumber, ofInForce, foundNumber, askedOf, freshOf}
-use Rattle.book.specs.Places.{shelf}
+use Rattle.book.specs.Answers.{callNumber, ofInForce, foundNumber, askedOf, freshOf, deedOutcomeOf}
+use Rattle.book.specs.Places.{shelf, formedBook}
 use Rattle.book.specs.declared.Book.{Book}
-use Rattle.book_ledger.specs.Calls.{Call, ask, names}
+use Rattle.book_ledger.specs.Calls.{Call, ask, names, Deed}
 use Rattle.book_ledger.specs.Demand.{Revoked, LeftOut}
 use Rattle.book_ledger.specs.History.{ledgerOf}
 use Rattle.book_ledger.specs.Ledger.{inForce}
@@ -16,6 +16,7 @@ use Rattle.record.specs.declared.Record.{Record}
 use Rattle.text.specs.Said.{said}
 use Rattle.value_name.specs.Names.{isUnit}
 use lib.Dec.{eqb}
+use lib.ListN.{length}
 use mathlib.Core.Bool.{true, false, cond}
 use mathlib.Core.List.{List, []}
 use mathlib.Core.Logic.{_↔_}
@@ -44,3 +45,5 @@ pub record Demand3 : Type 0 where
   pub left-out : (unit : List ℕ) (before between later : List Call) (c v : Record)
       → Revoked books (bookFor unit) (names unit) before between later c v
       → LeftOut books (bookFor unit) (names unit) before between later c v
+  -- what the deeds without a message do, held or struck: a book that is not malformed stays so
+  pub deeds-keep : (d : Deed) (b : Book) → length (b .orders) ≡ 96 → formedBook b ≡ true → formedBook (deedOutcomeOf d b .book) ≡ true

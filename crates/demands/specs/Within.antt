@@ -22,6 +22,7 @@ use Rattle.value_list.proofs as value_list
 use Rattle.value_name.proofs as value_name
 use Rattle.value_number.proofs as value_number
 use Rattle.book_order.proofs as book_order
+use Rattle.book_places.proofs as book_places
 use Rattle.reader.proofs as reader
 use Rattle.record.proofs as records
 use Rattle.value_put.proofs as value_put
@@ -186,12 +187,20 @@ pub record Within : Type 0 where
   pub record-rules-of-volt-var : Answers record-rules.of_volt_var.ended record-rules.of_volt_var.Reads.Asked record-rules.of_volt_var.Reads.Learnt
   pub record-rules-of-reserve : Answers record-rules.of_reserve.ended record-rules.of_reserve.Reads.Asked record-rules.of_reserve.Reads.Learnt
   pub record-rules-lowest-of : Answers record-rules.lowest_of.ended record-rules.lowest_of.Reads.Asked record-rules.lowest_of.Reads.Learnt
+  -- book_places
+  pub book-places-count-held : Answers book_places.count_held.ended book_places.count_held.Reads.Asked book_places.count_held.Reads.Learnt
+  pub book-places-seat-of : OneResult book_places.seat_of.ended book_places.seat_of.Reads.Learnt
+  pub book-places-put-in : OneResult book_places.put_in.ended book_places.put_in.Reads.Learnt
+  pub book-places-keep-past : OneResult book_places.keep_past.ended book_places.keep_past.Reads.Learnt
+  pub book-places-last-live : OneResult book_places.last_live.ended book_places.last_live.Reads.Learnt
   -- book_order
   pub book-order-of-record : OneResult book_order.of_record.ended book_order.of_record.Reads.Learnt
   pub book-order-named-by : Answers book_order.named_by.ended book_order.named_by.Reads.Asked book_order.named_by.Reads.Learnt
+  pub book-order-struck-out : Answers book_order.struck_out.ended book_order.struck_out.Reads.Asked book_order.struck_out.Reads.Learnt
   pub book-order-is-live : Answers book_order.is_live.ended book_order.is_live.Reads.Asked book_order.is_live.Reads.Learnt
   pub book-order-is-empty : Answers book_order.is_empty.ended book_order.is_empty.Reads.Asked book_order.is_empty.Reads.Learnt
   pub book-order-could-come : Answers book_order.could_come.ended book_order.could_come.Reads.Asked book_order.could_come.Reads.Learnt
+  pub book-order-is-brought : Answers book_order.is_brought.ended book_order.is_brought.Reads.Asked book_order.is_brought.Reads.Learnt
   -- reader
   pub reader-refuse : Answers reader.refuse.ended reader.refuse.Reads.Asked reader.refuse.Reads.Learnt
   pub reader-judged : Answers reader.judged.ended reader.judged.Reads.Asked reader.judged.Reads.Learnt
