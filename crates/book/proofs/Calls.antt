@@ -1,6 +1,7 @@
 -- Every way out of a call on a book, from what its code knows there to the answer that is defined. Assumes nothing.
 use Prim.Native.Nat.{ℕ, _≤_, _<_}
-use Rattle.book.proofs.Formed.{malformed, refused, by-deed, with-book, deed-malformed, deed-refused, deed-done, asked-malformed, asked-refused, asked-done}
+use Rattle.book.proofs.Formed.{malformed, refused, by-deed, with-book, deed-malformed, deed-refused, deed-done}
+use Rattle.book.proofs.Formed.{asked-malformed, asked-refused, asked-done}
 use Rattle.book.proofs.Holding.{Holding, holds-none}
 use Rattle.book.specs.Answers.{outcome, outcomeOf, deedOutcomeOf, found, askedOf}
 use Rattle.book.specs.Places.{withOrders, bookOf, shelf, tallyOf, unfitIn}
@@ -249,7 +250,8 @@ module _ (b : Book) (count : ℕ) (h : Holding b count) where
       pub command-unfit : (n ≡ 0 → ⊥) → outcome n b ≡ outcomeOf (command r) b
       unfolding shelf
       command-unfit z =
-          refused (command r) b (h .size .long) (h .size .wide) (h .formed) n (unfit-some isCommand unit r right which n u (rest (hold (orderOf r))) z) (ne-eqb n 0 z)
+          refused (command r) b (h .size .long) (h .size .wide) (h .formed) n
+          (unfit-some isCommand unit r right which n u (rest (hold (orderOf r))) z) (ne-eqb n 0 z)
 
       pub command-holds : n ≡ 0 → (o : Order) → o ≡ orderOf r → deedOutcomeOf (hold o) b ≡ outcomeOf (command r) b
       unfolding shelf
@@ -262,7 +264,8 @@ module _ (b : Book) (count : ℕ) (h : Holding b count) where
       pub revoke-unfit : (n ≡ 0 → ⊥) → outcome n b ≡ outcomeOf (revoke r) b
       unfolding shelf
       revoke-unfit z =
-          refused (revoke r) b (h .size .long) (h .size .wide) (h .formed) n (unfit-some isRevocation unit r right which n u (rest (strike (strikeOf r))) z) (ne-eqb n 0 z)
+          refused (revoke r) b (h .size .long) (h .size .wide) (h .formed) n
+          (unfit-some isRevocation unit r right which n u (rest (strike (strikeOf r))) z) (ne-eqb n 0 z)
 
       pub revoke-strikes : n ≡ 0 → (m : ℕ) → m ≡ strikeOf r .name .number → deedOutcomeOf (strike (strikeFor m)) b ≡ outcomeOf (revoke r) b
       unfolding shelf

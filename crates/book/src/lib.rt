@@ -140,7 +140,10 @@ impl Book {
         if count == 96 {
             return answered(24, self);
         }
-        answered(0, self.made(self.floor, book_places::put_in(orders, seat.at, count, o)))
+        answered(
+            0,
+            self.made(self.floor, book_places::put_in(orders, seat.at, count, o)),
+        )
     }
 
     // Strikes the order that has a number of at most ten digits. It keeps its place until it is closed, so that a command sent again cannot revive it.

@@ -89,7 +89,8 @@ pub agrees-run : (h : List Deed) (ks : List Call) (b : Ledger) → Agrees h b �
 agrees-run h [] b g = rw append-nil g
 agrees-run h (k ∷ ks) b g =
     by-test (eqb (answer k b) 0)
-    (λ e. rw e (subst (λ (m : List Deed). Agrees m (run ks (effect (deedOf k) b))) (append-assoc h (deedOf k ∷ []) (map deedOf (accepted ks (effect (deedOf k) b))))
+    (λ e. rw e (subst (λ (m : List Deed). Agrees m (run ks (effect (deedOf k) b)))
+    (append-assoc h (deedOf k ∷ []) (map deedOf (accepted ks (effect (deedOf k) b))))
     (agrees-run (h ++ (deedOf k ∷ [])) ks (effect (deedOf k) b) (agrees-effect h k b g (eqb-true (answer k b) 0 e)))))
     (λ e. rw e (agrees-run h ks b g))
 

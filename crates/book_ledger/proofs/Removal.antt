@@ -5,7 +5,8 @@ use Rattle.layout.specs.Layouts.{isCommand, isRevocation}
 use Rattle.book_lists.proofs.Keeping.{All, all-keep, all-insert, all-map, all-made, all-weaker, keep-hidden, keep-all}
 use Rattle.book_lists.proofs.Sorting.{keep-insert, greatest-keep}
 use Rattle.book_lists.specs.Keyed.{Ascending}
-use Rattle.book_ledger.proofs.Strikes.{same-refl, apart, strike-named, strike-other, strike-dead, takes, accepted-step, step-keeps, step-unit, run-unit, ascending-step, ascending-from, ascending-run, run-append, answers-append}
+use Rattle.book_ledger.proofs.Strikes.{same-refl, apart, strike-named, strike-other, strike-dead, takes, accepted-step, step-keeps, step-unit}
+use Rattle.book_ledger.proofs.Strikes.{run-unit, ascending-step, ascending-from, ascending-run, run-append, answers-append}
 use Rattle.book_ledger.proofs.Without.{other, without, other-strike, unnamed, Alike, Unnamed, unnamed-on, sim-run}
 use Rattle.book_ledger.specs.Calls.{Call, command, revoke, close, ask, deedOf, names}
 use Rattle.book_ledger.specs.Demand.{whole, leftOut, found, taken, met, struck, end, itsName, Revoked, LeftOut}
@@ -93,7 +94,8 @@ module _ (unit : List ℕ) (before between after : List Call) (c v : Record) whe
   pub whole-answers : Revoked ledgers (fresh unit) (names unit) before between after c v
       → answers (whole ledgers (fresh unit) (names unit) before between after c v) (fresh unit)
       ≡ answers before (fresh unit)
-      ++ (0 ∷ (answers between (taken ledgers (fresh unit) (names unit) before between after c v) ++ (0 ∷ answers after (struck ledgers (fresh unit) (names unit) before between after c v))))
+      ++ (0 ∷ (answers between (taken ledgers (fresh unit) (names unit) before between after c v)
+      ++ (0 ∷ answers after (struck ledgers (fresh unit) (names unit) before between after c v))))
   whole-answers q =
       rw (
         answers-append before (command c ∷ (between ++ (revoke v ∷ after))) (fresh unit),
@@ -102,7 +104,8 @@ module _ (unit : List ℕ) (before between after : List Call) (c v : Record) whe
         q .was-taken,
       )
 
-  whole-end : run (whole ledgers (fresh unit) (names unit) before between after c v) (fresh unit) ≡ end ledgers (fresh unit) (names unit) before between after c v
+  whole-end : run (whole ledgers (fresh unit) (names unit) before between after c v) (fresh unit)
+      ≡ end ledgers (fresh unit) (names unit) before between after c v
   whole-end =
       run-append before (command c ∷ (between ++ (revoke v ∷ after))) (fresh unit)
       ∙ run-append between (revoke v ∷ after) (taken ledgers (fresh unit) (names unit) before between after c v)

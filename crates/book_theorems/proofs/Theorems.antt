@@ -98,7 +98,8 @@ module _ (unit : List ℕ) (before between after : List Call) (c v : Record) whe
         (λ e. absurd (eqb-false 20 0 refl (sym (unkept unit e before (command c) .0) ∙ q .was-taken))))
 
     -- where the ledger's run is at each book that the demand names
-    at-command : Carries (foundAt books (bookFor unit) (names unit) before between after c v) (foundAt ledgers (fresh unit) (names unit) before between after c v)
+    at-command : Carries (foundAt books (bookFor unit) (names unit) before between after c v)
+        (foundAt ledgers (fresh unit) (names unit) before between after c v)
     at-command = carries-run before start
 
     past-command : Carries (taken books (bookFor unit) (names unit) before between after c v) (taken ledgers (fresh unit) (names unit) before between after c v)
@@ -107,7 +108,8 @@ module _ (unit : List ℕ) (before between after : List Call) (c v : Record) whe
     at-revocation : Carries (met books (bookFor unit) (names unit) before between after c v) (met ledgers (fresh unit) (names unit) before between after c v)
     at-revocation = carries-run between past-command
 
-    past-revocation : Carries (struck books (bookFor unit) (names unit) before between after c v) (struck ledgers (fresh unit) (names unit) before between after c v)
+    past-revocation : Carries (struck books (bookFor unit) (names unit) before between after c v)
+        (struck ledgers (fresh unit) (names unit) before between after c v)
     past-revocation = carries-step at-revocation (revoke v)
 
     revoked : Revoked ledgers (fresh unit) (names unit) before between after c v
@@ -127,7 +129,8 @@ module _ (unit : List ℕ) (before between after : List Call) (c v : Record) whe
       let d = ledger-removal unit before between after c v (revoked q) in
       let short = carries-run (leftOut books (bookFor unit) (names unit) before between after c v) (start q) in
       let long = carries-run (whole books (bookFor unit) (names unit) before between after c v) (start q) in
-      let others : otherAnswers books (bookFor unit) (names unit) before between after c v ≡ otherAnswers ledgers (fresh unit) (names unit) before between after c v =
+      let others : otherAnswers books (bookFor unit) (names unit) before between after c v
+      ≡ otherAnswers ledgers (fresh unit) (names unit) before between after c v =
       λ i. same-answers before (start q) i ++ (same-answers between (past-command q) i ++ same-answers after (past-revocation q) i) in
       record {
         same-answers = same-answers (leftOut books (bookFor unit) (names unit) before between after c v) (start q) ∙ d .same-answers ∙ sym others;
@@ -141,7 +144,8 @@ module _ (unit : List ℕ) (before between after : List Call) (c v : Record) whe
   pub whole-answers : Revoked books (bookFor unit) (names unit) before between after c v
       → answers books (whole books (bookFor unit) (names unit) before between after c v) (bookFor unit)
       ≡ answers books before (bookFor unit)
-      ++ (0 ∷ (answers books between (taken books (bookFor unit) (names unit) before between after c v) ++ (0 ∷ answers books after (struck books (bookFor unit) (names unit) before between after c v))))
+      ++ (0 ∷ (answers books between (taken books (bookFor unit) (names unit) before between after c v)
+      ++ (0 ∷ answers books after (struck books (bookFor unit) (names unit) before between after c v))))
   whole-answers q =
       rw (same-answers before (start q), same-answers between (past-command q), same-answers after (past-revocation q))
       (same-answers (whole books (bookFor unit) (names unit) before between after c v) (start q) ∙ ledger-answers unit before between after c v (revoked q))

@@ -4,6 +4,7 @@ ghost use mathlib.Core.Path.{_≡_};
 
 // The instants of the first date and of the last: 01-01-2001 00:00:00 L and 31-12-2099 23:59:59 S.
 pub const FIRST_INSTANT: u32 = 31615200;
+
 pub const LAST_INSTANT: u32 = 3155756399;
 
 // The greatest number of a message or a command: ten digits.
@@ -11,6 +12,7 @@ pub const MOST_NUMBER: u64 = 9999999999;
 
 // The greatest amount and the least: six digits before the point and three after it, in thousandths.
 pub const MOST_AMOUNT: i32 = 999999999;
+
 const LEAST_AMOUNT: i32 = -MOST_AMOUNT;
 
 // Whether some date gives the instant.

@@ -10,7 +10,9 @@ ghost use mathlib.Core.Path.{_≡_};
 fn is_ranged(x: Triple) -> bool
     ensures { λ r. ⌜ r ≡ isRanged x ⌝ }
 {
-    value_bounds::is_amount(x.low) & value_bounds::is_amount(x.high) & value_bounds::is_amount(x.gradient)
+    value_bounds::is_amount(x.low)
+        & value_bounds::is_amount(x.high)
+        & value_bounds::is_amount(x.gradient)
 }
 
 fn is_no_triple(x: Triple) -> bool

@@ -67,7 +67,8 @@ loop-again c =
     counted-on (a .floor) (l .loop .least) (l .loop .count) _ (a .t1) (l .loop .inv) h (fits (c .before))
 
 -- the loop is left at the last place, or at an order that does not fit
-counted : (c : tie.Left-loop Inv-loop μ-loop Inv-loop2 μ-loop2) → c .before .loop .count ≡ leading (c .before .before .args .floor) 0 (c .before .before .args .t1)
+counted : (c : tie.Left-loop Inv-loop μ-loop Inv-loop2 μ-loop2)
+    → c .before .loop .count ≡ leading (c .before .before .args .floor) 0 (c .before .before .args .t1)
 counted c =
     let l = c .before in
     let a = l .before .args in
