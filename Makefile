@@ -156,7 +156,7 @@ bench: $(TIMED) $(TIMED_PACE)
 	@$(if $(UNPROVED),echo "compiled natively from the crates' code without its proofs: the $(UNPROVED) below (on $(MACHINE))")
 	cd host/compare && HALIMPUNG_PACE_LIB='$(abspath $(TIMED_PACE))' $(CARGO) run --release --offline -q --features pace --bin bench
 	@$(MAKE) -s $(STACK)
-	@host/compare/stack $(STACK) host/reference/samples $(STACK)-plan.txt
+	@host/compare/stack $(STACK) examples $(STACK)-plan.txt
 
 SECONDS ?= 60
 FUZZ = target/fuzz
