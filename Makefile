@@ -1,6 +1,7 @@
 # make test: the whole gate. make check: prove what changed. make run: the example of document 01. make values: texts in, values out.
 # make read FILE=.. CA=.. IOA=..: a message file at an address of examples/plan.txt. make fmt: lay every file out.
 # make lib: the library for C hosts. make host: the host program target/host/halimpung-read. make test-host: both tried from C and the shell.
+# make examples: every example with the host program's answer.
 # make install PREFIX=.. DESTDIR=..: header, library and pkg-config file.
 # make test-reference: the reference, a second implementation in Rust, tried alone. make compare COUNT=.. SEED=..: the library against it,
 # over many inputs. make bench: both timed, the book's calls too, and the library's stack. (These three need cargo, and no network.)
@@ -8,7 +9,7 @@
 # make fuzz SECONDS=..: the library against the reference under libFuzzer, from the corpus of target/fuzz (needs clang with its runtime besides).
 # The library is x86-64 code. On another processor all of these build and run it with what the Rattle kit has there (tools/x86); make test-host
 # then goes without sanitizers, and make bench takes its times as with NATIVE=1.
-.PHONY: test check run read values fmt lib host install test-host test-host-valgrind test-reference compare bench fuzz
+.PHONY: test check run read values fmt lib host examples install test-host test-host-valgrind test-reference compare bench fuzz
 
 FILE ?= examples/rc.txt
 CA ?= 7
@@ -84,6 +85,10 @@ target/host/refusals.inc: host/refusal-words host/include/halimpung.h docs/REFUS
 target/host/halimpung-read: $(wildcard host/c/*.c host/c/*.h) host/include/halimpung.h target/host/refusals.inc $(LIB)
 	$(X86) cc $(STRICT) $(CFLAGS) -Ihost/include -Itarget/host -o $@ $(filter %.c,$^) $(LIB) $(LDFLAGS)
 
+# status 1: some are refused, and are to be
+examples: target/host/halimpung-read
+	@examples/show target/host/halimpung-read 2>&1; [ $$? -eq 1 ]
+
 install: $(LIB)
 	install -d '$(DESTDIR)$(PREFIX)/include' '$(DESTDIR)$(PREFIX)/lib/pkgconfig'
 	install -m 644 host/include/halimpung.h '$(DESTDIR)$(PREFIX)/include/halimpung.h'
@@ -108,6 +113,7 @@ test-host: target/host/halimpung-read target/host/entries-test
 	@$(X86) run target/host/entries-test examples
 	@host/test/program target/host/halimpung-read
 	@host/test/units target/host/halimpung-read
+	@host/test/examples target/host/halimpung-read
 	@host/test/words
 	@CC='$(CC)' CXX='$(CXX)' host/test/install '$(LIB)'
 
