@@ -91,7 +91,7 @@ install: $(LIB)
 	sed '/^#/d; s|@PREFIX@|$(PREFIX)|; s|@VERSION@|$(VERSION)|' host/halimpung.pc.in > '$(DESTDIR)$(PREFIX)/lib/pkgconfig/halimpung.pc'
 	chmod 644 '$(DESTDIR)$(PREFIX)/lib/pkgconfig/halimpung.pc'
 
-TESTS = $(wildcard host/test/*.c host/test/*.h) host/include/halimpung.h $(LIB)
+TESTS = $(wildcard host/test/*.c host/test/*.h) host/c/value.c host/c/value.h host/include/halimpung.h $(LIB)
 
 target/host/entries-test: $(TESTS)
 	@mkdir -p target/host

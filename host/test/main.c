@@ -11,5 +11,6 @@ int main(int argc, char **argv) {
     test_sizes();
     test_collect();
     test_dropped();
+    test_value();
     return checked();
 }
