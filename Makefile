@@ -167,6 +167,7 @@ test-host: needs-test-host target/host/halimpung-read target/host/entries-test
 	@host/test/units target/host/halimpung-read
 	@host/test/words
 	@CC='$(CC)' CXX='$(CXX)' host/test/install '$(LIB)'
+	@host/test/make
 
 # the library is not instrumented, so valgrind sees in it what AddressSanitizer does not
 test-host-valgrind: needs-test-host-valgrind target/host/entries-plain
