@@ -4,23 +4,12 @@
 #include <stdio.h>
 #include <string.h>
 
-#include "call.h"
 #include "check.h"
 #include "place.h"
+#include "samples.h"
 #include "tests.h"
 
-/* where the samples stand, from the examples */
-#define SAMPLES "../host/reference/samples/"
-
-static const struct sample {
-    const char *name, *type;
-    int fields; /* document 01's count */
-} samples[] = {
-    { "market", "CB", 26 }, { "mfrr", "CB", 12 }, { "rc", "RC", 5 },  { "mg", "MG", 7 }, { "eb", "EB", 8 },
-    { "lb", "LB", 10 },     { "sr", "SR", 9 },    { "vq", "VQ", 13 }, { "ri", "RI", 6 }, { "qr", "QR", 9 },
-};
-
-enum { NONE = -1, FIELDS_MOST = 26, NORMALISE = 1 };
+enum { NONE = -1, NORMALISE = 1 };
 
 /* A field as the test finds it, by itself: label and value by the first `=` of a line. */
 struct field {
@@ -55,22 +44,14 @@ static void expect_none(const struct text *form, const char *label) {
 
 /* the form of a sample as the library gives it, which is the sample itself */
 static struct text form_of(const struct sample *of) {
-    char name[64], plan[64];
+    struct asked asked = asked_for(of);
     struct text form;
-    snprintf(name, sizeof name, SAMPLES "%s.txt", of->name);
-    snprintf(plan, sizeof plan, "ca=7\nioa=300\nunit=UP_PROVA_1\ntype=%s\n", of->type);
-    struct asked asked = { of->name, 7, 300, words(plan), example(name) };
-    ask(NORMALISE, &asked, entry_rooms[NORMALISE], &form);
+    ask(NORMALISE, &asked, HALIMPUNG_NORMALISE_ROOM, &form);
     check(same(&form, &asked.file), "%s is not in written form", of->name);
     return form;
 }
 
-static struct text form_named(const char *name) {
-    for (size_t i = 0; i < sizeof samples / sizeof *samples; i++) {
-        if (strcmp(samples[i].name, name) == 0) return form_of(&samples[i]);
-    }
-    broken("no sample %s", name);
-}
+static struct text form_named(const char *name) { return form_of(sample(name)); }
 
 /* how many fields there are from the empty line to the separator */
 static int fields_of(struct text form, struct field *to) {
@@ -92,7 +73,7 @@ static int fields_of(struct text form, struct field *to) {
 
 static void every_field(void) {
     struct field fields[FIELDS_MOST];
-    for (size_t i = 0; i < sizeof samples / sizeof *samples; i++) {
+    for (int i = 0; i < SAMPLES; i++) {
         struct text form = form_of(&samples[i]);
         int count = fields_of(form, fields);
         check(count == samples[i].fields, "%s has %d fields", samples[i].name, count);
@@ -175,7 +156,7 @@ static void cut_short_of(const struct sample *of) {
 }
 
 static void cut_short(void) {
-    for (size_t i = 0; i < sizeof samples / sizeof *samples; i++) cut_short_of(&samples[i]);
+    for (int i = 0; i < SAMPLES; i++) cut_short_of(&samples[i]);
 }
 
 /* what is found in bytes that are no form is a part of them, up to the end of a line */
