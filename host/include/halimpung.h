@@ -129,7 +129,7 @@ uint32_t halimpung_read(uint32_t ca, uint32_t ioa, const uint8_t *plan, size_t p
    - banner lines; an empty line; a line for each field of the layout, in printed order; `+++++`; the summary row;
      `+++++`. LF after each line.
    - A field's line is its label, spaces up to 36 bytes, `=`, and, unless the value is blank, a space and the value.
-   host/c/value.c, in C for hosts to copy, gives the value of a label. */
+   host/c/value.c, in C for hosts to copy, finds the value of a label. */
 uint32_t halimpung_normalise(uint32_t ca, uint32_t ioa, const uint8_t *plan, size_t plan_len, const uint8_t *file, size_t file_len,
                              uint8_t *out, size_t out_len);
 
