@@ -1,4 +1,5 @@
-/* The command line, judged as a whole before anything is read, so that a slip of the pen in the last address prints nothing of the first. */
+/* The command line, judged as a whole before anything is read, so that a slip of the pen in the last address prints nothing of the
+   first. */
 #include "arguments.h"
 
 #include <string.h>
@@ -31,7 +32,8 @@ static enum asked judge_number(const char *text, struct wrong *wrong) {
 /* threes, one at least */
 static enum asked take_messages(struct words_left *from, struct arguments *to, struct wrong *wrong) {
     if (from->count == 0)
-        return nonsense(wrong, NULL, IN("CA IOA FILE or --units FILE is missing behind PLAN", "dopo PIANO manca CA IOA FILE o --units FILE"));
+        return nonsense(wrong, NULL,
+                        IN("CA IOA FILE or --units FILE is missing behind PLAN", "dopo PIANO manca CA IOA FILE o --units FILE"));
     if (from->count % 3 != 0)
         return nonsense(wrong, from->at[from->count - 1],
                         IN("the last file has not three words, CA IOA FILE", "l'ultimo file non ha tre parole, CA IOA FILE"));

@@ -54,7 +54,8 @@ enum asked take_options(struct words_left *from, struct arguments *to, struct wr
         enum asked asked = take_option(word, from, to, wrong);
         if (asked != READING) return asked;
         if (is(word, "--lang") && !choose_language(to->lang))
-            return nonsense(wrong, to->lang, IN("no language of --lang, which are en and it", "non è una lingua di --lang, che sono en e it"));
+            return nonsense(wrong, to->lang,
+                            IN("no language of --lang, which are en and it", "non è una lingua di --lang, che sono en e it"));
     }
     return READING;
 }
