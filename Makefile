@@ -118,13 +118,19 @@ $(LIB) $(PACE): target/staticlib/lib%.a: crates.txt $(shell find crates -name '*
 $(PACE): | $(LIB)
 
 # by way of another name: where the words and the header differ, no table is left that a second make would take
-target/host/refusals.inc: host/refusal-words host/include/halimpung.h docs/REFUSALS.md
+target/host/refusals.inc: host/refusal-words host/include/halimpung.h docs/REFUSALS.md docs/RIFIUTI.md
 	@mkdir -p target/host
-	host/refusal-words host/include/halimpung.h docs/REFUSALS.md > $@.new
+	host/refusal-words host/include/halimpung.h docs/REFUSALS.md docs/RIFIUTI.md > $@.new
 	@mv $@.new $@
 
-target/host/halimpung-read: $(wildcard host/c/*.c host/c/*.h) host/include/halimpung.h target/host/refusals.inc $(LIB)
+PROGRAM = $(wildcard host/c/*.c host/c/*.h) host/include/halimpung.h target/host/refusals.inc $(LIB)
+
+target/host/halimpung-read: $(PROGRAM)
 	$(X86) cc $(STRICT) $(CFLAGS) -Ihost/include -Itarget/host -o $@ $(filter %.c,$^) $(LIB) $(LDFLAGS)
+
+# the same for its tests
+target/host/halimpung-read-test: $(PROGRAM)
+	$(X86) cc $(STRICT) -g -O1 $(SANITIZED) -Ihost/include -Itarget/host -o $@ $(filter %.c,$^) $(LIB)
 
 # status 1: some are refused, and are to be
 examples: needs-host target/host/halimpung-read
@@ -163,14 +169,16 @@ target/host/entries-plain: $(TESTS)
 	@mkdir -p target/host
 	$(X86) cc $(STRICT) -g -O1 -Ihost/include -o $@ $(filter %.c,$^) $(LIB)
 
-test-host: needs-test-host target/host/halimpung-read target/host/entries-test
+test-host: needs-test-host target/host/halimpung-read target/host/halimpung-read-test target/host/entries-test
 	$(CC) $(STRICT) -fsyntax-only host/include/halimpung.h
 	$(CXX) -pedantic -Wall -Wextra -Werror -x c++ -fsyntax-only host/include/halimpung.h
 	@$(if $(SANITIZED),,echo 'on $(MACHINE): under an emulator, without sanitizers')
 	@$(X86) run target/host/entries-test examples
-	@host/test/program target/host/halimpung-read
-	@host/test/units target/host/halimpung-read
-	@host/test/examples target/host/halimpung-read
+	@host/test/program target/host/halimpung-read-test
+	@host/test/units target/host/halimpung-read-test
+	@host/test/forms target/host/halimpung-read-test
+	@host/test/languages target/host/halimpung-read-test
+	@host/test/examples target/host/halimpung-read-test
 	@host/test/words
 	@CC='$(CC)' CXX='$(CXX)' host/test/install '$(LIB)'
 	@host/test/make
