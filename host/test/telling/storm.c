@@ -7,6 +7,7 @@
 
 #include "halimpung.h"
 #include "language.h"
+#include "told.h"
 
 static struct told told;
 static unsigned long met[64];
@@ -64,11 +65,27 @@ static bool in_both_languages(uint32_t answer, const struct asked *it) {
     return told.count == count || bad("another count of lines in Italian", answer);
 }
 
+/* ---- more lines, and longer ones, than there is room for */
+
+bool try_rooms(void) {
+    memset(&told, 0, sizeof told);
+    for (int i = 0; i < TOLD_MOST + 9; i++) tell(&told, "%d", i);
+    if (told.count != TOLD_MOST || strcmp(told.lines[TOLD_MOST - 1], "63") != 0) return bad("lines past the last", 0);
+    for (int shift = 0; shift < 2; shift++) {
+        told.count = 0;
+        tell(&told, "%s", shift == 0 ? "" : "x");
+        for (int i = 0; i < TOLD_ROOM; i++) tell_on(&told, "\303\240");
+        if (!is_printable(told.lines[0]) || strlen(told.lines[0]) < TOLD_ROOM - 4) return bad("a line that is cut", 0);
+    }
+    return true;
+}
+
 /* ---- any answer */
 
 static bool try_numbers(const struct asked *it) {
     for (uint32_t number = 0; number < 50; number++) {
-        uint32_t details[] = { 0, random_below(30), random_below(300), random_below(70000), (uint32_t)it->file_length };
+        uint32_t length = (uint32_t)it->file_length, last = length > 0 ? length - 1 : 0;
+        uint32_t details[] = { 0, random_below(30), random_below(300), random_below(70000), last, length };
         for (size_t i = 0; i < sizeof details / sizeof *details; i++) {
             if (!in_both_languages((number << 16) + details[i], it)) return false;
         }

@@ -63,5 +63,5 @@ int main(int argc, char **argv) {
         if (!storm) print_told(&it);
         else if (!try_any_answer(&it) || !try_changed(&it, 3000)) return 1;
     }
-    return storm && !all_met() ? 1 : 0;
+    return storm && !(try_rooms() && all_met()) ? 1 : 0;
 }

@@ -2,6 +2,8 @@
 #ifndef TELLING_H
 #define TELLING_H
 
+#include <stdbool.h>
+
 #include "place.h"
 
 /* a question in rooms that may be changed */
@@ -17,8 +19,9 @@ uint32_t answer_to(const struct asked *it);
 /* Tells the place in heap blocks of the texts' sizes, so that a step outside of them is seen. */
 void tell_in_blocks(struct told *to, uint32_t answer, const struct asked *it);
 
-/* Any answers to cut texts, and the library's own to texts that were changed at random. False where something told is not as it should be;
-   then standard error says what. */
+/* More than there is room for; any answers to cut texts; the library's own answers to texts that were changed at random. False where
+   something told is not as it should be: then standard error says what. */
+bool try_rooms(void);
 bool try_any_answer(const struct asked *it);
 bool try_changed(const struct asked *it, unsigned rounds);
 
