@@ -81,14 +81,6 @@ target/host/refusals.inc: host/refusal-words host/include/halimpung.h docs/REFUS
 	host/refusal-words host/include/halimpung.h docs/REFUSALS.md > $@.new
 	@mv $@.new $@
 
-# the fields of the layouts, from their definitions
-target/host/fields.inc: host/field-words $(wildcard crates/value*/specs/*.antt crates/layout/specs/*.antt crates/reader_accent/specs/*.antt)
-	@mkdir -p target/host
-	host/field-words crates > $@.new
-	@mv $@.new $@
-
-target/host/halimpung-read: target/host/fields.inc
-
 target/host/halimpung-read: $(wildcard host/c/*.c host/c/*.h) host/include/halimpung.h target/host/refusals.inc $(LIB)
 	$(X86) cc $(STRICT) $(CFLAGS) -Ihost/include -Itarget/host -o $@ $(filter %.c,$^) $(LIB) $(LDFLAGS)
 
@@ -118,6 +110,14 @@ test-host: target/host/halimpung-read target/host/entries-test
 	@host/test/units target/host/halimpung-read
 	@host/test/words
 	@CC='$(CC)' CXX='$(CXX)' host/test/install '$(LIB)'
+
+# the fields of the layouts, from their definitions
+target/host/fields.inc: host/field-words $(wildcard crates/value*/specs/*.antt crates/layout/specs/*.antt crates/reader_accent/specs/*.antt)
+	@mkdir -p target/host
+	host/field-words crates > $@.new
+	@mv $@.new $@
+
+target/host/halimpung-read target/host/halimpung-read-test: target/host/fields.inc
 
 # what is told of a refusal, tried without the host program: all its sources but main.c
 target/host/telling: $(wildcard host/test/telling/*.[ch] host/c/*.[ch]) host/include/halimpung.h $(LIB)
