@@ -77,5 +77,5 @@ void tell_separators(struct told *to, struct lent file) {
         tell_on(to, found == 1 ? "%u" : ", %u", walk.line.number);
     }
     if (found == 0) tell(to, IN("no line is a separator (five or more +)", "nessuna riga è di separazione (cinque o più +)"));
-    tell(to, IN("the file has %u lines", "il file ha %u righe"), walk.line.number);
+    tell(to, IN("lines in the file: %u", "righe del file: %u"), walk.line.number);
 }
