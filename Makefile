@@ -123,7 +123,13 @@ target/host/refusals.inc: host/refusal-words host/include/halimpung.h docs/REFUS
 	host/refusal-words host/include/halimpung.h docs/REFUSALS.md docs/RIFIUTI.md > $@.new
 	@mv $@.new $@
 
-PROGRAM = $(wildcard host/c/*.c host/c/*.h) host/include/halimpung.h target/host/refusals.inc $(LIB)
+# the fields of the layouts, from their definitions
+target/host/fields.inc: host/field-words $(wildcard crates/value*/specs/*.antt crates/layout/specs/*.antt crates/reader_accent/specs/*.antt)
+	@mkdir -p target/host
+	host/field-words crates > $@.new
+	@mv $@.new $@
+
+PROGRAM = $(wildcard host/c/*.c host/c/*.h) host/include/halimpung.h target/host/refusals.inc target/host/fields.inc $(LIB)
 
 target/host/halimpung-read: $(PROGRAM)
 	$(X86) cc $(STRICT) $(CFLAGS) -Ihost/include -Itarget/host -o $@ $(filter %.c,$^) $(LIB) $(LDFLAGS)
@@ -169,7 +175,11 @@ target/host/entries-plain: $(TESTS)
 	@mkdir -p target/host
 	$(X86) cc $(STRICT) -g -O1 -Ihost/include -o $@ $(filter %.c,$^) $(LIB)
 
-test-host: needs-test-host target/host/halimpung-read target/host/halimpung-read-test target/host/entries-test
+# what is told of a refusal, tried without the host program: all its sources but main.c
+target/host/telling: $(wildcard host/test/telling/*.c host/test/telling/*.h) $(PROGRAM)
+	$(X86) cc $(STRICT) -g -O1 $(SANITIZED) -Ihost/c -Ihost/include -Itarget/host -o $@ $(filter-out host/c/main.c,$(filter %.c,$^)) $(LIB)
+
+test-host: needs-test-host target/host/halimpung-read target/host/halimpung-read-test target/host/entries-test target/host/telling
 	$(CC) $(STRICT) -fsyntax-only host/include/halimpung.h
 	$(CXX) -pedantic -Wall -Wextra -Werror -x c++ -fsyntax-only host/include/halimpung.h
 	@$(if $(SANITIZED),,echo 'on $(MACHINE): under an emulator, without sanitizers')
@@ -180,6 +190,8 @@ test-host: needs-test-host target/host/halimpung-read target/host/halimpung-read
 	@host/test/languages target/host/halimpung-read-test
 	@host/test/examples target/host/halimpung-read-test
 	@host/test/words
+	@host/test/fields
+	@host/test/places target/host/telling
 	@CC='$(CC)' CXX='$(CXX)' host/test/install '$(LIB)'
 	@host/test/make
 

@@ -7,14 +7,25 @@
 #include <stdint.h>
 
 enum { TOLD_MOST = 64, TOLD_ROOM = 512 };
-struct told { int count; char lines[TOLD_MOST][TOLD_ROOM]; };         /* each ended by a zero byte, without LF */
-struct lent { const uint8_t *at; size_t length; };
-struct question { uint32_t ca, ioa; struct lent plan, file; };         /* what the entry was asked */
-void tell_place(struct told *to, uint32_t answer, const struct question *of);
 
-/* until the header has it */
-#ifndef HALIMPUNG_VERSION
-#define HALIMPUNG_VERSION "0.2.0"
-#endif
+/* each line is ended by a zero byte, without LF, and is UTF-8 without control characters */
+struct told {
+    int count;
+    char lines[TOLD_MOST][TOLD_ROOM];
+};
+
+struct lent {
+    const uint8_t *at;
+    size_t length;
+};
+
+/* what the entry was asked */
+struct question {
+    uint32_t ca, ioa;
+    struct lent plan, file;
+};
+
+/* What a person needs to find the spot; nothing for an answer that is no refusal of a reader. Any bytes and any answer will do. */
+void tell_place(struct told *to, uint32_t answer, const struct question *of);
 
 #endif
