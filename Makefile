@@ -70,7 +70,7 @@ STACK = $(if $(filter %stack,$(UNPROVED)),target/native/stack,target/host/stack)
 # something is to be proved; cargo links with cc.)
 NEEDS_host = $(firstword $(CC))
 NEEDS_install = $(NEEDS_host)
-NEEDS_test-host = $(NEEDS_host) $(firstword $(CXX))
+NEEDS_test-host = $(NEEDS_host) $(firstword $(CXX)) python3
 NEEDS_test-host-valgrind = $(NEEDS_host) $(if $(filter x86_64,$(MACHINE)),valgrind)
 NEEDS_test-reference = cargo cc
 NEEDS_compare = $(NEEDS_host) $(NEEDS_test-reference)
@@ -129,7 +129,8 @@ target/host/fields.inc: host/field-words $(wildcard crates/value*/specs/*.antt c
 	host/field-words crates > $@.new
 	@mv $@.new $@
 
-PROGRAM = $(wildcard host/c/*.c host/c/*.h) host/include/halimpung.h target/host/refusals.inc target/host/fields.inc $(LIB)
+# value.c is for other hosts to copy
+PROGRAM = $(filter-out host/c/value.%,$(wildcard host/c/*.c host/c/*.h)) host/include/halimpung.h target/host/refusals.inc target/host/fields.inc $(LIB)
 
 target/host/halimpung-read: $(PROGRAM)
 	$(X86) cc $(STRICT) $(CFLAGS) -Ihost/include -Itarget/host -o $@ $(filter %.c,$^) $(LIB) $(LDFLAGS)

@@ -7,24 +7,15 @@
 #include "language.h"
 #include "names.h"
 #include "options.h"
+#include "parts.h"
 #include "sieve.h"
 
-/* A number as in a plan: decimal digits without leading zeros. It may lie outside a plan's range: the library refuses such an address. */
-static bool take_number(const char *text, uint32_t *to) {
-    uint64_t value = 0;
-    if (*text == '\0' || (*text == '0' && text[1] != '\0')) return false;
-    for (; *text != '\0'; text++) {
-        if (*text < '0' || *text > '9') return false;
-        value = value * 10 + (uint64_t)(*text - '0');
-        if (value > UINT32_MAX) return false;
-    }
-    *to = (uint32_t)value;
-    return true;
-}
+/* A number as in a plan. It may lie outside a plan's range: the library refuses such an address. */
+static bool is_number(const char *text, uint32_t *to) { return take_number(lent_text(text), to); }
 
 static enum asked judge_number(const char *text, struct wrong *wrong) {
     uint32_t number;
-    if (take_number(text, &number)) return READING;
+    if (is_number(text, &number)) return READING;
     return nonsense(wrong, text, IN("no CA or IOA: decimal digits without leading zeros, 4294967295 at most",
                                     "non è un CA o IOA: cifre decimali senza zeri iniziali, al massimo 4294967295"));
 }
@@ -101,8 +92,8 @@ enum asked take_arguments(int argc, char **argv, struct arguments *to, struct wr
 struct message message_at(const struct arguments *all, int place) {
     char **words = all->messages + 3 * place;
     struct message one = { 0, 0, words[2] };
-    take_number(words[0], &one.ca);
-    take_number(words[1], &one.ioa);
+    is_number(words[0], &one.ca);
+    is_number(words[1], &one.ioa);
     return one;
 }
 

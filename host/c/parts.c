@@ -29,6 +29,18 @@ struct lent trimmed(struct lent text) {
     return text;
 }
 
+bool take_number(struct lent text, uint32_t *to) {
+    uint64_t value = 0;
+    if (text.length == 0 || (text.at[0] == '0' && text.length > 1)) return false;
+    for (size_t i = 0; i < text.length; i++) {
+        if (text.at[i] < '0' || text.at[i] > '9') return false;
+        value = value * 10 + (uint64_t)(text.at[i] - '0');
+        if (value > UINT32_MAX) return false;
+    }
+    *to = (uint32_t)value;
+    return true;
+}
+
 struct lent cut_line(struct lent *rest) {
     struct lent line = before(*rest, '\n');
     *rest = behind(*rest, '\n');

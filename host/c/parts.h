@@ -15,6 +15,9 @@ struct lent behind(struct lent text, char byte);
 /* without blanks at its ends */
 struct lent trimmed(struct lent text);
 
+/* A number in decimal digits without leading zeros, of 32 bits at most. */
+bool take_number(struct lent text, uint32_t *to);
+
 /* Takes the first line off a text, up to LF or the end, and gives it without its LF. */
 struct lent cut_line(struct lent *rest);
 

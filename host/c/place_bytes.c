@@ -73,8 +73,8 @@ void tell_separators(struct told *to, struct lent file) {
     unsigned found = 0;
     while (next_line(&walk)) {
         if (!walk.line.separator) continue;
-        if (found++ == 0) tell(to, IN("separator lines (five or more +): ", "righe di separazione (cinque o più +): "));
-        tell_on(to, found == 1 ? "%u" : ", %u", walk.line.number);
+        if (found++ == 0) tell(to, IN("separators (five or more +):", "righe di separazione (cinque o più +):"));
+        tell_on(to, IN("%s line %u", "%s riga %u"), found == 1 ? "" : ",", walk.line.number);
     }
     if (found == 0) tell(to, IN("no line is a separator (five or more +)", "nessuna riga è di separazione (cinque o più +)"));
     tell(to, IN("lines in the file: %u", "righe del file: %u"), walk.line.number);

@@ -14,13 +14,7 @@ static bool value_behind(const char *key, struct lent line, struct lent *to) {
 
 bool number_behind(const char *key, struct lent line, uint32_t *to) {
     struct lent digits;
-    if (!value_behind(key, line, &digits) || digits.length < 1 || digits.length > 8 || digits.at[0] == '0') return false;
-    *to = 0;
-    for (size_t i = 0; i < digits.length; i++) {
-        if (digits.at[i] < '0' || digits.at[i] > '9') return false;
-        *to = *to * 10 + (uint32_t)(digits.at[i] - '0');
-    }
-    return true;
+    return value_behind(key, line, &digits) && take_number(digits, to) && *to > 0;
 }
 
 bool next_row(struct plan_walk *it) {

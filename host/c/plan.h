@@ -28,7 +28,7 @@ bool next_row(struct plan_walk *it);
 /* The row of an address. */
 bool find_address(struct lent plan, uint32_t ca, uint32_t ioa, struct plan_row *to);
 
-/* The number of a line such as ca=7, without leading zeros and of 8 digits at most: no address has more. */
+/* The number of a line such as ca=7; no address has a 0. */
 bool number_behind(const char *key, struct lent line, uint32_t *to);
 
 #endif

@@ -67,7 +67,7 @@ extern "C" {
 /* The refusal numbers of documents 01 and 02, list by list, in the order in which each list is asked. Reading and normalising answer the
    reader's and HALIMPUNG_ROOM, collecting its own five; the others are here so that a log or a display has one name for each number.
    (host/refusal-words reads this enum: one constant a line. The build fails unless exactly these numbers stand in the tables of
-   docs/REFUSALS.md.) */
+   docs/REFUSALS.md, and of docs/RIFIUTI.md in Italian.) */
 enum halimpung_refusal {
     /* the reader, and so reading and normalising */
     HALIMPUNG_PLAN = 13,          /* plan malformed. Detail: its first bad line from 1; 0 if it has no row */
@@ -78,7 +78,7 @@ enum halimpung_refusal {
     HALIMPUNG_LABEL_TWICE = 5,    /* label twice. Detail: field, first repeat from the top */
     HALIMPUNG_LABEL_MISSING = 6,  /* label missing. Detail: how many labels of the layout have no line */
     HALIMPUNG_VALUE = 7,          /* value. Detail: first bad field */
-    HALIMPUNG_RULE = 8,           /* rule across fields. Detail: lowest broken rule, 1 to 9 */
+    HALIMPUNG_RULE = 8,           /* rule across fields. Detail: lowest broken rule, from 1 */
     HALIMPUNG_UNIT = 9,           /* unit is not the plan's */
     HALIMPUNG_ROW = 10,           /* row differs: the summary row is not the body's values */
 

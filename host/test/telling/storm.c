@@ -153,7 +153,7 @@ static int lines_with(const char *beginning) {
 
 /* What must be told of the library's own answer, in English. Where it agrees with the detail the file was read as the library reads it. */
 static bool is_told(uint32_t answer) {
-    int detail = (int)HALIMPUNG_DETAIL(answer), separators = lines_with("separator lines");
+    int detail = (int)HALIMPUNG_DETAIL(answer), separators = lines_with("separators");
     switch (HALIMPUNG_NUMBER(answer)) {
     case HALIMPUNG_SEPARATORS:
         for (const char *at = told.lines[0]; separators != 0 && (at = strchr(at, ',')); at++) separators++;
