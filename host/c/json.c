@@ -1,9 +1,8 @@
 /* What came of a file as a JSON object on a line. */
 #include "json.h"
 
-#include <string.h>
-
 #include "halimpung.h"
+#include "parts.h"
 #include "utf8.h"
 #include "words.h"
 
@@ -34,28 +33,20 @@ static void put_pair(FILE *to, const char *key, const char *text) {
     put_string(to, text);
 }
 
-static bool is_text(const char *key, size_t length) {
-    return length == 4 && (memcmp(key, "type", 4) == 0 || memcmp(key, "unit", 4) == 0);
-}
+static bool is_text(struct lent key) { return same(key, lent_text("type")) || same(key, lent_text("unit")); }
 
 /* Of the library's line key=value: its values are digits, or letters, digits and _, or nothing. */
-static void put_line(FILE *to, const char *line, size_t length) {
-    const char *equals = memchr(line, '=', length);
-    size_t key = equals ? (size_t)(equals - line) : length;
-    size_t value = equals ? length - key - 1 : 0;
-    const char *quote = is_text(line, key) ? "\"" : "";
-    fprintf(to, ",\"%.*s\":%s", (int)key, line, quote);
-    if (value == 0) fputs("null", to);
-    fwrite(line + length - value, 1, value, to);
+static void put_line(FILE *to, struct lent line) {
+    struct lent key = before(line, '='), value = behind(line, '=');
+    const char *quote = is_text(key) ? "\"" : "";
+    fprintf(to, ",\"%.*s\":%s", (int)key.length, (const char *)key.at, quote);
+    if (value.length == 0) fputs("null", to);
+    fwrite(value.at, 1, value.length, to);
     fputs(quote, to);
 }
 
-/* each line is ended by LF */
-static void put_record(FILE *to, const char *text, size_t length) {
-    const char *end = text + length;
-    for (const char *stop; (stop = memchr(text, '\n', (size_t)(end - text))) != NULL; text = stop + 1) {
-        put_line(to, text, (size_t)(stop - text));
-    }
+static void put_record(FILE *to, struct lent text) {
+    while (text.length > 0) put_line(to, cut_line(&text));
 }
 
 /* the rule's words first, then what is told of the place */
@@ -98,7 +89,7 @@ void put_object(FILE *to, const struct outcome *it) {
         fputs(",\"result\":0", to);
         put_pair(to, "written", it->path);
     } else {
-        put_record(to, (const char *)it->text, it->answer);
+        put_record(to, (struct lent){ it->text, it->answer });
     }
     fputs("}\n", to);
 }
