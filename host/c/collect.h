@@ -3,6 +3,7 @@
 #ifndef COLLECT_H
 #define COLLECT_H
 
+#include <stdbool.h>
 #include <stddef.h>
 #include <stdint.h>
 
@@ -12,6 +13,7 @@
 
 struct collector {
     struct units from;
+    bool quiet;                             /* refusals are not said */
     uint8_t state[HALIMPUNG_COLLECT_STATE]; /* all zero at first */
     uint8_t file[HALIMPUNG_FILE_MOST];
     unsigned refused;   /* how many units were refused */

@@ -3,19 +3,24 @@
 
 #include <errno.h>
 #include <stdio.h>
-#include <string.h>
 
-bool unreadable(const char *name) {
-    fprintf(stderr, "%s: unreadable: %s\n", name, strerror(errno));
-    return false;
-}
+#include "language.h"
+#include "names.h"
+#include "progress.h"
+#include "reason.h"
 
-bool load(const char *name, uint8_t *into, size_t room, size_t *length) {
+const char *load(const char *name, uint8_t *into, size_t room, size_t *length) {
     FILE *from = fopen(name, "rb");
-    if (!from) return unreadable(name);
+    if (!from) return reason(errno);
+    errno = 0;
     *length = fread(into, 1, room, from);
     /* a directory opens and then cannot be read */
-    bool good = !ferror(from) || unreadable(name);
+    const char *why = ferror(from) ? reason(errno) : NULL;
     fclose(from);
-    return good;
+    return why;
+}
+
+void say_unreadable(const char *name, const char *why) {
+    put_name(people(), name);
+    fprintf(stderr, IN(": unreadable: %s\n", ": illeggibile: %s\n"), why);
 }

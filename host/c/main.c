@@ -1,26 +1,26 @@
-/* halimpung-read [-n] PLAN CA IOA FILE [CA IOA FILE]..: reads message files at their addresses of a plan, many in one run.
-   halimpung-read [-n] PLAN --units FILE: collects message files from a text of units (units.h), and reads each when it is whole.
-   Standard output: the six lines of each record, or with -n the file's written form. Standard error: refusals, and the count at the end.
-   Status: 0 all accepted, 1 some refused, 2 bad usage, a file that cannot be read or a line that is no unit. */
+/* halimpung-read: reads message files at their addresses of a plan, many in one run, given as files or as a text of units (units.h).
+   usage.c has the ways to call it, host/man/halimpung-read.1 what they do.
+   Standard output is for programs: a block or a JSON object a file. Standard error is for people: refusals in words, and the count.
+   Status: 0 all accepted, 1 some refused, 2 bad usage, a file that cannot be read or written or a line that is no unit. */
 #include <stdbool.h>
 #include <stdio.h>
 
 #include "arguments.h"
+#include "choice.h"
 #include "collect.h"
+#include "files.h"
 #include "halimpung.h"
+#include "language.h"
 #include "load.h"
+#include "names.h"
+#include "progress.h"
+#include "read.h"
 #include "status.h"
-#include "words.h"
+#include "usage.h"
 
 /* More than the largest plan, 64 rows of 52 bytes. Of a longer text the rest is not needed: its first bad line begins within those 3,328
    bytes or just after, and whether it ends in this room or not, it is bad there. */
 enum { PLAN_ROOM = 4096 };
-
-/* one byte more than a message may have, so that a longer one is seen to be longer */
-enum { FILE_ROOM = HALIMPUNG_FILE_MOST + 1 };
-
-static uint8_t plan[PLAN_ROOM];
-static size_t plan_len;
 
 struct tally {
     enum status worst;
@@ -33,64 +33,77 @@ static void add(struct tally *to, enum status status) {
     if (status > to->worst) to->worst = status;
 }
 
-/* A file's bytes, given or collected; its name is for the words of a refusal. */
-static enum status read_bytes(bool normalise, struct message one, const uint8_t *file, size_t file_len) {
-    static uint8_t out[HALIMPUNG_NORMALISE_ROOM];
-    uint32_t answer = normalise ? halimpung_normalise(one.ca, one.ioa, plan, plan_len, file, file_len, out, sizeof out)
-                                : halimpung_read(one.ca, one.ioa, plan, plan_len, file, file_len, out, sizeof out);
-    if (HALIMPUNG_REFUSED(answer)) {
-        say_refusal(stderr, one.name, answer);
-        return REFUSED;
-    }
-    fwrite(out, 1, answer, stdout);
-    /* at once, so that where both streams go to one place they keep the files' order */
-    fflush(stdout);
-    return ACCEPTED;
-}
-
-static enum status read_one(bool normalise, struct message one) {
-    static uint8_t file[FILE_ROOM];
-    size_t file_len;
-    if (!load(one.name, file, sizeof file, &file_len)) return FAILED;
-    return read_bytes(normalise, one, file, file_len);
-}
-
 /* the worst status of all; one bad file keeps no other from being read */
-static enum status read_messages(const struct arguments *all) {
+static enum status read_messages(const struct run *run) {
     struct tally tally = { ACCEPTED, 0, 0 };
-    for (int i = 0; i < all->count; i++) add(&tally, read_one(all->normalise, message_at(all, i)));
-    fprintf(stderr, "accepted %d of %d\n", tally.accepted, tally.count);
+    bool shown = shows_progress(run->all->quiet, run->all->count);
+    for (int i = 0; i < run->all->count; i++) {
+        struct message one = message_at(run->all, i);
+        if (shown) show_progress(i + 1, run->all->count);
+        add(&tally, read_message(run, &one));
+    }
+    if (!run->all->quiet) fprintf(people(), IN("accepted %d of %d\n", "accettati %d di %d\n"), tally.accepted, tally.count);
     return tally.worst;
 }
 
+/* a file that was collected; the place of its last unit stands for its name */
+static enum status read_collected(const struct run *run, const struct collector *from, size_t length, int place) {
+    const uint8_t *last = from->from.octets;
+    struct message one = { HALIMPUNG_UNIT_CA(last), HALIMPUNG_UNIT_IOA(last), from->from.place };
+    char name[64];
+    snprintf(name, sizeof name, "%u-%u-%d.txt", (unsigned)one.ca, (unsigned)one.ioa, place);
+    return read_bytes(run, &one, (struct lent){ from->file, length }, name);
+}
+
 /* the same for files that are collected; a refused unit keeps no later file from being read */
-static enum status read_units(const struct arguments *all) {
+static enum status read_units(const struct run *run) {
     static struct collector collector;
     struct tally tally = { ACCEPTED, 0, 0 };
-    if (!open_units(all->units, &collector.from)) return FAILED;
+    collector.quiet = run->all->quiet;
+    if (!open_units(run->all->units, &collector.from)) return FAILED;
     for (size_t length = next_file(&collector); length != 0; length = next_file(&collector)) {
-        const uint8_t *last = collector.from.octets;
-        struct message one = { HALIMPUNG_UNIT_CA(last), HALIMPUNG_UNIT_IOA(last), collector.from.place };
-        add(&tally, read_bytes(all->normalise, one, collector.file, length));
+        add(&tally, read_collected(run, &collector, length, tally.count + 1));
     }
     close_units(&collector.from);
-    fprintf(stderr, "accepted %d of %d, units refused: %u\n", tally.accepted, tally.count, collector.refused);
+    if (!run->all->quiet)
+        fprintf(people(), IN("accepted %d of %d, units refused: %u\n", "accettati %d di %d, unità di trasferimento rifiutate: %u\n"),
+                tally.accepted, tally.count, collector.refused);
     return collector.status > tally.worst ? collector.status : tally.worst;
+}
+
+static enum status read_all(const struct arguments *all) {
+    static uint8_t plan[PLAN_ROOM];
+    struct run run = { all, { plan, 0 } };
+    const char *why = all->directory ? directory_fault(all->directory) : NULL;
+    if (why) {
+        put_name(stderr, all->directory);
+        fprintf(stderr, IN(": cannot be written to: %s\n", ": non vi si può scrivere: %s\n"), why);
+        return FAILED;
+    }
+    why = load(all->plan, plan, sizeof plan, &run.plan.length);
+    if (why) {
+        say_unreadable(all->plan, why);
+        return FAILED;
+    }
+    return all->units ? read_units(&run) : read_messages(&run);
+}
+
+/* records that did not reach their place, on a full disk say, were not delivered */
+static enum status delivered(enum status status) {
+    if (fflush(stdout) == 0 && !ferror(stdout)) return status;
+    fputs(IN("standard output cannot be written\n", "lo standard output non si può scrivere\n"), people());
+    return FAILED;
 }
 
 int main(int argc, char **argv) {
     struct arguments all;
-    if (!take_arguments(argc, argv, &all)) {
-        fprintf(stderr, "usage: halimpung-read [-n] PLAN CA IOA FILE [CA IOA FILE]..\n"
-                        "       halimpung-read [-n] PLAN --units FILE\n");
-        return FAILED;
+    struct wrong wrong;
+    choose_by_environment();
+    switch (take_arguments(argc, argv, &all, &wrong)) {
+    case HELP: put_usage(stdout); return delivered(ACCEPTED);
+    case VERSION: puts("halimpung-read " HALIMPUNG_VERSION); return delivered(ACCEPTED);
+    case NONSENSE: say_wrong(&wrong); return FAILED;
+    case READING: break;
     }
-    if (!load(all.plan, plan, sizeof plan, &plan_len)) return FAILED;
-    enum status status = all.units ? read_units(&all) : read_messages(&all);
-    /* records that did not reach their place, on a full disk say, were not delivered */
-    if (ferror(stdout)) {
-        fprintf(stderr, "standard output cannot be written\n");
-        return FAILED;
-    }
-    return status;
+    return delivered(read_all(&all));
 }

@@ -1,9 +1,11 @@
 /* A text of units, one a line in hex. */
 #include "units.h"
 
+#include <errno.h>
 #include <string.h>
 
 #include "load.h"
+#include "reason.h"
 
 struct line {
     size_t length; /* also of what did not fit */
@@ -14,7 +16,8 @@ bool open_units(const char *name, struct units *to) {
     to->name = name;
     to->line = 0;
     to->text = fopen(name, "r");
-    return to->text || unreadable(name);
+    if (!to->text) say_unreadable(name, reason(errno));
+    return to->text != NULL;
 }
 
 void close_units(struct units *it) { fclose(it->text); }
@@ -61,7 +64,7 @@ static bool take_octets(const struct line *from, struct units *to) {
 enum found next_unit(struct units *from) {
     struct line line;
     while (take_line(from->text, &line)) {
-        snprintf(from->place, sizeof from->place, "%s, line %lu", from->name, ++from->line);
+        snprintf(from->place, sizeof from->place, "%s:%lu", from->name, ++from->line);
         if (!is_passed_over(&line)) return take_octets(&line, from) ? UNIT : BAD_LINE;
     }
     return ferror(from->text) ? UNREADABLE : NO_MORE;

@@ -14,7 +14,7 @@ struct units {
     const char *name; /* the text's file name */
     FILE *text;
     unsigned long line; /* how many lines were read */
-    char place[4200];   /* where the last line stands: "NAME, line N" */
+    char place[4200];   /* where the last line stands: "NAME:LINE" */
     size_t length;      /* of the last unit, in octets */
     uint8_t octets[UNIT_ROOM];
 };

@@ -22,8 +22,10 @@
    Threads and stack
    - The library has no variables, so calls may run at the same time on any threads, if no other thread writes to what they read, or
      touches what they write, meanwhile. No locks are taken and no signals are used.
-   - A call takes no heap and a bounded stack: 4,496 bytes were measured for reading and for normalising, 92 for collecting (tools/stack.c). Leave 6 KiB;
-     12 KiB where the loader binds symbols lazily: it looks memcpy up on the caller's stack, and the first call was measured at 8,408.
+   - A call takes no heap and a bounded stack, which is measured and not proved: by tools/stack.c, on x86-64 code, for
+     files of all ten layouts (make bench; docs/PERFORMANCE.md). It was 4,496 bytes for reading and for normalising, 92
+     for collecting. Leave 6 KiB; 12 KiB where the loader binds symbols lazily: it looks memcpy up on the caller's
+     stack, and the first call was measured at 8,408.
    - The code is x86-64 (System V calling convention) and calls memcpy and memset, nothing else. */
 #ifndef HALIMPUNG_H
 #define HALIMPUNG_H
@@ -34,6 +36,9 @@
 #ifdef __cplusplus
 extern "C" {
 #endif
+
+/* The version of header and library: the build takes it from here. */
+#define HALIMPUNG_VERSION "0.2.0"
 
 /* The largest message file; a longer one is refused with HALIMPUNG_SIZE, and one that is collected with HALIMPUNG_COLLECT_MOST. */
 #define HALIMPUNG_FILE_MOST 8192
@@ -50,6 +55,10 @@ extern "C" {
 #define HALIMPUNG_NUMBER(answer) ((uint32_t)(answer) >> 16)
 #define HALIMPUNG_DETAIL(answer) ((uint32_t)(answer) & 0xFFFFu)
 
+/* An instant of the six lines, which counts seconds from 2000-01-01 00:00:00 UTC, as one that counts from 1970:
+   790246800, which is 15-01-2025 10:00:00 S (Italian winter time), gives 1736931600, which is 09:00:00 UTC. */
+#define HALIMPUNG_UNIX(t) ((int64_t)(t) + 946684800)
+
 /* The address of a unit that was taken (a pointer to its octets): common address, and information object address. A file is read at the
    address of the unit that made it whole. */
 #define HALIMPUNG_UNIT_CA(unit) ((uint32_t)(unit)[4] | (uint32_t)(unit)[5] << 8)
@@ -58,7 +67,7 @@ extern "C" {
 /* The refusal numbers of documents 01 and 02, list by list, in the order in which each list is asked. Reading and normalising answer the
    reader's and HALIMPUNG_ROOM, collecting its own five; the others are here so that a log or a display has one name for each number.
    (host/refusal-words reads this enum: one constant a line. The build fails unless exactly these numbers stand in the tables of
-   docs/REFUSALS.md.) */
+   docs/REFUSALS.md, and of docs/RIFIUTI.md in Italian.) */
 enum halimpung_refusal {
     /* the reader, and so reading and normalising */
     HALIMPUNG_PLAN = 13,          /* plan malformed. Detail: its first bad line from 1; 0 if it has no row */
@@ -69,7 +78,7 @@ enum halimpung_refusal {
     HALIMPUNG_LABEL_TWICE = 5,    /* label twice. Detail: field, first repeat from the top */
     HALIMPUNG_LABEL_MISSING = 6,  /* label missing. Detail: how many labels of the layout have no line */
     HALIMPUNG_VALUE = 7,          /* value. Detail: first bad field */
-    HALIMPUNG_RULE = 8,           /* rule across fields. Detail: lowest broken rule, 1 to 9 */
+    HALIMPUNG_RULE = 8,           /* rule across fields. Detail: lowest broken rule, from 1 */
     HALIMPUNG_UNIT = 9,           /* unit is not the plan's */
     HALIMPUNG_ROW = 10,           /* row differs: the summary row is not the body's values */
 
@@ -101,13 +110,26 @@ enum halimpung_refusal {
     HALIMPUNG_BOOK_TYPE = 29      /* command: not a CB; revocation: not an RC */
 };
 
-/* Reads a file at an address of a plan, and writes the six lines of its record: result=0, type=, number=, unit=, start=, end=, each ended
-   by LF. Answers their length, or a refusal. HALIMPUNG_READ_ROOM bytes are always enough. */
+/* Reads a file at an address of a plan, and writes the six lines of its record: result=0, type=, number=, unit=,
+   start=, end=, each ended by LF. Answers their length, or a refusal. HALIMPUNG_READ_ROOM bytes are always enough.
+   - type=: the plan's type for the address, one of CB RC MG EB LB SR VQ RI QR; both layouts of a command are CB.
+   - number=: the number in the message's own identifier, without leading zeros: 0 to 9999999999, which takes more than
+     32 bits. It is the number by which an RC names a CB. An RC's number= is its own too; that of the command it revokes
+     is its field `Sequenza Comando`, which is taken from the written form (below), as any other value is.
+   - unit=: the plan's unit for the address, which is the file's.
+   - start=, end=: instants, in seconds since 2000-01-01 00:00:00 UTC (HALIMPUNG_UNIX), up to 3155756399, which takes
+     32 bits without a sign. Of an mFRR command they are TINI1 and TFIN2. Behind end= there is nothing where the end date
+     is blank, which it may be in a VQ alone. */
 uint32_t halimpung_read(uint32_t ca, uint32_t ioa, const uint8_t *plan, size_t plan_len, const uint8_t *file, size_t file_len,
                         uint8_t *out, size_t out_len);
 
-/* Brings a file to the written form of its record: what is written is accepted at the same address, gives the same record, and is its own
-   written form. Answers its length, or a refusal. HALIMPUNG_NORMALISE_ROOM bytes are always enough. */
+/* Brings a file to the written form of its record: what is written is accepted at the same address, gives the same
+   record, and is its own written form. Answers its length, or a refusal. HALIMPUNG_NORMALISE_ROOM bytes are always
+   enough. There is one such form for a record, so every value of a message can be taken from it without a parser:
+   - banner lines; an empty line; a line for each field of the layout, in printed order; `+++++`; the summary row;
+     `+++++`. LF after each line.
+   - A field's line is its label, spaces up to 36 bytes, `=`, and, unless the value is blank, a space and the value.
+   host/c/value.c, in C for hosts to copy, finds the value of a label. */
 uint32_t halimpung_normalise(uint32_t ca, uint32_t ioa, const uint8_t *plan, size_t plan_len, const uint8_t *file, size_t file_len,
                              uint8_t *out, size_t out_len);
 

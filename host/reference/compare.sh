@@ -5,7 +5,7 @@ cd "$(dirname "$0")" || exit 2
 requests=${1:-../../crates/cases/stdin}
 answers=${2:-../../crates/cases/stdout}
 export CARGO_TARGET_DIR="${CARGO_TARGET_DIR:-$(cd ../.. && pwd)/target/cargo}"
-[ -s "$requests" ] && [ -s "$answers" ] || { echo "compare.sh: no cases in $requests, $answers" >&2; exit 2; }
+if [ ! -s "$requests" ] || [ ! -s "$answers" ]; then echo "compare.sh: no cases in $requests, $answers" >&2; exit 2; fi
 cargo build --release -j1 --offline -q || exit 2
 "$CARGO_TARGET_DIR/release/cases" < "$requests" > "$CARGO_TARGET_DIR/answers.txt" || exit 2
 cut -d' ' -f1 "$requests" | paste -d'\t' - "$answers" "$CARGO_TARGET_DIR/answers.txt" |

@@ -1,3 +1,4 @@
+# shellcheck shell=sh
 # Counting checks in the shell tests; to be sourced. Each failure is said at once, the count at the end.
 passed=0
 failed=0

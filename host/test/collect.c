@@ -88,24 +88,24 @@ static void addresses(void) {
 
 /* an example as two sections; what is read is the example, at the address of the last unit */
 static void read_whole(void) {
-    struct text file = example("cb.txt"), last = last_section(2, checksum(file.bytes, file.length)), written[2];
+    struct text file = example("market.txt"), last = last_section(2, checksum(file.bytes, file.length)), written[2];
     struct collector one = fresh();
     size_t cut = 720;
-    taken("cb.txt", &one, file_ready((uint32_t)file.length));
-    give_section("cb.txt", &one, 1, file.bytes, cut);
-    taken("cb.txt", &one, last_segment(1, checksum(file.bytes, cut)));
-    give_section("cb.txt", &one, 2, file.bytes + cut, file.length - cut);
-    taken("cb.txt", &one, last_segment(2, checksum(file.bytes + cut, file.length - cut)));
-    expect("cb.txt", &one, last, (uint32_t)file.length);
-    struct asked given = { "cb.txt", 7, 301, example("plan.txt"), file }, collected = given;
+    taken("market.txt", &one, file_ready((uint32_t)file.length));
+    give_section("market.txt", &one, 1, file.bytes, cut);
+    taken("market.txt", &one, last_segment(1, checksum(file.bytes, cut)));
+    give_section("market.txt", &one, 2, file.bytes + cut, file.length - cut);
+    taken("market.txt", &one, last_segment(2, checksum(file.bytes + cut, file.length - cut)));
+    expect("market.txt", &one, last, (uint32_t)file.length);
+    struct asked given = { "market.txt", 7, 301, example("plan.txt"), file }, collected = given;
     collected.ca = HALIMPUNG_UNIT_CA(last.bytes);
     collected.ioa = HALIMPUNG_UNIT_IOA(last.bytes);
     memcpy(collected.file.bytes, one.file, file.length);
     for (int entry = 0; entry < ENTRIES; entry++) {
         uint32_t answer = ask(entry, &given, entry_rooms[entry], &written[0]);
-        check(!HALIMPUNG_REFUSED(answer), "cb.txt, %s: answer %u", entry_names[entry], (unsigned)answer);
+        check(!HALIMPUNG_REFUSED(answer), "market.txt, %s: answer %u", entry_names[entry], (unsigned)answer);
         check(answer == ask(entry, &collected, entry_rooms[entry], &written[1]) && same(&written[0], &written[1]),
-              "cb.txt, %s: collected, it is read otherwise", entry_names[entry]);
+              "market.txt, %s: collected, it is read otherwise", entry_names[entry]);
     }
 }
 

@@ -11,5 +11,7 @@ int main(int argc, char **argv) {
     test_sizes();
     test_collect();
     test_dropped();
+    test_six();
+    test_value();
     return checked();
 }

@@ -49,12 +49,12 @@ static void refused_plan(void) {
     planned("an unknown type", "type=RC", "type=XX", 4);
     planned("an address twice", "ioa=301", "ioa=300", 6);
     planned("a line missing", "unit=UP_PROVA_1\ntype=VQ", "type=VQ", 15);
-    planned("no LF at the end", "type=VQ\n", "type=VQ", 16);
-    planned("a line too many", "type=VQ\n", "type=VQ\n\n", 17);
+    planned("no LF at the end", "type=QR\n", "type=QR", 36);
+    planned("a line too many", "type=QR\n", "type=QR\n\n", 37);
 }
 
 static void refused_address(void) {
-    static const uint32_t none[][2] = { { 7, 304 }, { 8, 300 }, { 0, 300 }, { 7, 0 }, { 65543, 300 }, { 7, UINT32_MAX }, { UINT32_MAX, 300 } };
+    static const uint32_t none[][2] = { { 7, 309 }, { 8, 300 }, { 0, 300 }, { 7, 0 }, { 65543, 300 }, { 7, UINT32_MAX }, { UINT32_MAX, 300 } };
     for (size_t i = 0; i < sizeof none / sizeof *none; i++) {
         struct asked asked = revocation("an address that is not in the plan");
         asked.ca = none[i][0];
@@ -141,13 +141,16 @@ static void ruled(const char *name, uint32_t ioa, const char *from, const char *
 }
 
 static void refused_rule(void) {
-    struct asked ready = message("the example that ends before it starts", "rc-ends-before-it-starts.txt", 300);
+    struct asked ready = message("the example that ends before it starts", "refused/8-ends-before-it-starts.txt", 300);
     expect(&ready, HALIMPUNG_RULE, 1);
-    ruled("cb.txt", 301, "= GAUDI", "= SCWEB", 2);
-    ruled("cb.txt", 301, "h1    =", "h1    = 0.25;0.5;0.75;1", 3);
-    ruled("cb.txt", 301, "= 20,60,4", "= 60,20,4", 4);
-    ruled("lb.txt", 302, "Reintegro                           = NO", "Reintegro = SI", 6);
-    ruled("vq.txt", 303, "= MAN", "= RRT", 8);
+    ruled("market.txt", 301, "= SCWEB", "= GAUDI", 2);
+    ruled("market.txt", 301, "h1    =", "h1    = 0.25;0.5;0.75;1", 3);
+    ruled("market.txt", 301, "= 0,120,2.5", "= 130,120,2.5", 4);
+    ruled("eb.txt", 305, "= NO", "= SI", 5);
+    ruled("lb.txt", 302, "= NO", "= SI", 6);
+    ruled("sr.txt", 306, "= 12.5;10", "= 12.5;-10", 7);
+    ruled("vq.txt", 303, "= RAT", "= RRT", 8);
+    ruled("qr.txt", 308, "(MW)             =", "(MW)             = 20", 9);
 }
 
 static void refused_unit(void) {
@@ -168,8 +171,8 @@ static void first_of_two(void) {
     asked.ioa = 1;
     asked.file = empty();
     expect(&asked, HALIMPUNG_ADDRESS, 0);
-    change(&asked.plan, "type=VQ\n", "type=VQ");
-    expect(&asked, HALIMPUNG_PLAN, 16);
+    change(&asked.plan, "type=QR\n", "type=QR");
+    expect(&asked, HALIMPUNG_PLAN, 36);
     changed("another unit, in the body alone", "= UP_PROVA_1", "= UP_PROVA_2", HALIMPUNG_UNIT, 0);
 }
 

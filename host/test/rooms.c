@@ -34,7 +34,7 @@ static void every_room_of(const char *name, uint32_t ioa) {
 
 /* what is refused for another reason is not asked for its room */
 static void refused_first(void) {
-    struct asked asked = { "refused, and no room", 7, 300, example("plan.txt"), example("rc-ends-before-it-starts.txt") };
+    struct asked asked = { "refused, and no room", 7, 300, example("plan.txt"), example("refused/8-ends-before-it-starts.txt") };
     for (int entry = 0; entry < ENTRIES; entry++) {
         struct text written;
         check(HALIMPUNG_NUMBER(ask(entry, &asked, 0, &written)) == HALIMPUNG_RULE, "%s, %s", asked.what, entry_names[entry]);
@@ -43,9 +43,15 @@ static void refused_first(void) {
 
 void test_rooms(void) {
     every_room_of("rc.txt", 300);
-    every_room_of("cb.txt", 301);
+    every_room_of("market.txt", 301);
+    every_room_of("mfrr.txt", 301);
     every_room_of("lb.txt", 302);
     every_room_of("vq.txt", 303);
     every_room_of("vq-accented.txt", 303);
+    every_room_of("mg.txt", 304);
+    every_room_of("eb.txt", 305);
+    every_room_of("sr.txt", 306);
+    every_room_of("ri.txt", 307);
+    every_room_of("qr.txt", 308);
     refused_first();
 }

@@ -8,5 +8,7 @@ void test_rooms(void);   /* outputs of every length */
 void test_sizes(void);   /* the smallest and largest inputs */
 void test_collect(void); /* collecting files from their units */
 void test_dropped(void); /* each refusal of collecting */
+void test_six(void);     /* the six lines: what the header says of them */
+void test_value(void);   /* values by their labels, out of a written form */
 
 #endif

@@ -12,7 +12,7 @@ pub struct Sample {
 
 macro_rules! sample {
     ($name:literal, $code:literal, $file:literal, $row:expr) => {
-        Sample { name: $name, code: $code, file: include_str!(concat!("../../reference/samples/", $file)), row: $row }
+        Sample { name: $name, code: $code, file: include_str!(concat!("../../../examples/", $file)), row: $row }
     };
 }
 

@@ -6,16 +6,16 @@ use std::hint::black_box;
 use std::time::Instant;
 
 const SAMPLES: [(&str, &str, &[u8]); 10] = [
-    ("CB market", "CB", include_bytes!("../../samples/market.txt")),
-    ("CB mFRR", "CB", include_bytes!("../../samples/mfrr.txt")),
-    ("RC", "RC", include_bytes!("../../samples/rc.txt")),
-    ("MG", "MG", include_bytes!("../../samples/mg.txt")),
-    ("EB", "EB", include_bytes!("../../samples/eb.txt")),
-    ("LB", "LB", include_bytes!("../../samples/lb.txt")),
-    ("SR", "SR", include_bytes!("../../samples/sr.txt")),
-    ("VQ", "VQ", include_bytes!("../../samples/vq.txt")),
-    ("RI", "RI", include_bytes!("../../samples/ri.txt")),
-    ("QR", "QR", include_bytes!("../../samples/qr.txt")),
+    ("CB market", "CB", include_bytes!("../../../../examples/market.txt")),
+    ("CB mFRR", "CB", include_bytes!("../../../../examples/mfrr.txt")),
+    ("RC", "RC", include_bytes!("../../../../examples/rc.txt")),
+    ("MG", "MG", include_bytes!("../../../../examples/mg.txt")),
+    ("EB", "EB", include_bytes!("../../../../examples/eb.txt")),
+    ("LB", "LB", include_bytes!("../../../../examples/lb.txt")),
+    ("SR", "SR", include_bytes!("../../../../examples/sr.txt")),
+    ("VQ", "VQ", include_bytes!("../../../../examples/vq.txt")),
+    ("RI", "RI", include_bytes!("../../../../examples/ri.txt")),
+    ("QR", "QR", include_bytes!("../../../../examples/qr.txt")),
 ];
 
 fn main() {

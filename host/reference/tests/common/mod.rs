@@ -4,16 +4,16 @@
 use halimpung_reference::{read, Record, Refusal};
 
 pub const SAMPLES: [(&str, &str); 10] = [
-    ("CB", include_str!("../../samples/market.txt")),
-    ("CB", include_str!("../../samples/mfrr.txt")),
-    ("RC", include_str!("../../samples/rc.txt")),
-    ("MG", include_str!("../../samples/mg.txt")),
-    ("EB", include_str!("../../samples/eb.txt")),
-    ("LB", include_str!("../../samples/lb.txt")),
-    ("SR", include_str!("../../samples/sr.txt")),
-    ("VQ", include_str!("../../samples/vq.txt")),
-    ("RI", include_str!("../../samples/ri.txt")),
-    ("QR", include_str!("../../samples/qr.txt")),
+    ("CB", include_str!("../../../../examples/market.txt")),
+    ("CB", include_str!("../../../../examples/mfrr.txt")),
+    ("RC", include_str!("../../../../examples/rc.txt")),
+    ("MG", include_str!("../../../../examples/mg.txt")),
+    ("EB", include_str!("../../../../examples/eb.txt")),
+    ("LB", include_str!("../../../../examples/lb.txt")),
+    ("SR", include_str!("../../../../examples/sr.txt")),
+    ("VQ", include_str!("../../../../examples/vq.txt")),
+    ("RI", include_str!("../../../../examples/ri.txt")),
+    ("QR", include_str!("../../../../examples/qr.txt")),
 ];
 
 pub const MARKET: usize = 0;
