@@ -13,7 +13,8 @@ use Rattle.book_ledger.specs.Keepers.{run, answers}
 use Rattle.book_ledger.specs.Ledger.{fresh, answer, inForce, ledgers}
 use Rattle.value_name.specs.Names.{isUnit}
 use Rattle.record.specs.declared.Record.{Record}
-use Rattle.book_theorems.proofs.Carried.{Carries, carries-formed, same-floor, same-code, carries-step, same-asked, carries-run, same-answers, same-accepted}
+use Rattle.book_theorems.proofs.Carried.{Carries, carries-formed, same-floor, same-code, carries-step, same-asked, carries-run, same-answers}
+use Rattle.book_theorems.proofs.Carried.{same-accepted}
 use Rattle.book_theorems.proofs.Fitting.{fits-fresh}
 use Rattle.book_theorems.specs.Books.{books, bookFor, Kept}
 use Rattle.text.proofs.Tests.{by-test}

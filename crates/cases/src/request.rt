@@ -20,8 +20,8 @@ pub(crate) struct Part {
     pub(crate) to: usize,
 }
 
-// What a request asks for: a file's reading, the normaliser or one of the two entries on it, one of its two times, what the program prints, a book, or a transfer.
-// `Blind` is the program with a plan that cannot be read; `Unknown` is a line that is not of the form.
+// What a request asks for: a file's reading, the normaliser or one of the two entries on it, one of its two times, what the program prints, a book,
+// or a transfer. `Blind` is the program with a plan that cannot be read; `Unknown` is a line that is not of the form.
 pub(crate) enum Kind {
     Read,
     Norm,

@@ -35,7 +35,8 @@ use native.Mathlib.Omega.{arith}
 
 -- ---- files with the same row and the same parameters
 
-pub same-given : (t : MessageType) (unit f g : List ℕ) → Sound t f → Sound t g → rowIn f ≡ rowIn g → given t f ≡ given t g → messageOf t unit f ≡ messageOf t unit g
+pub same-given : (t : MessageType) (unit f g : List ℕ) → Sound t f → Sound t g → rowIn f ≡ rowIn g → given t f ≡ given t g
+    → messageOf t unit f ≡ messageOf t unit g
 unfolding recordIn entriesIn
 same-given t unit f g sf sg r e =
     sound-reading t unit f sf ∙ ap₂ byGiven r e ∙ sym (sound-reading t unit g sg)
@@ -162,7 +163,8 @@ module _ (t : MessageType) (unit file : List ℕ) where
 
 -- ---- the theorem
 
-same-pairs : {R : List ℕ → List ℕ → Type 0} → ((s : List ℕ) → R s s) → (ts : List (List ℕ)) {us vs : List (List ℕ)} → Pairwise R us vs → Pairwise R (ts ++ us) (ts ++ vs)
+same-pairs : {R : List ℕ → List ℕ → Type 0} → ((s : List ℕ) → R s s) → (ts : List (List ℕ)) {us vs : List (List ℕ)} → Pairwise R us vs
+    → Pairwise R (ts ++ us) (ts ++ vs)
 same-pairs r [] p = p
 same-pairs r (s ∷ ts) p = next (r s) (same-pairs r ts p)
 
@@ -243,7 +245,8 @@ module _ (t : MessageType) (unit before a x b rest : List ℕ) (begins : beginsL
       ∙ ap (λ (ts : List (List ℕ)). texts before ++ ts)
       (texts-line (part label) rest (part-none 10 (λ q. omega (arith, q)) label f) (part-none 13 (λ q. omega (arith, q)) label r))
 
-  line-param : (label : List ℕ) → any (is 61) label ≡ false → trim label ≡ label → paramIn (accentsOf t) (trim (part label ++ 61 ∷ value)) ≡ some (param (respell (accentsOf t) label) (trim value))
+  line-param : (label : List ℕ) → any (is 61) label ≡ false → trim label ≡ label
+      → paramIn (accentsOf t) (trim (part label ++ 61 ∷ value)) ≡ some (param (respell (accentsOf t) label) (trim value))
   unfolding paramIn
   line-param label e h =
       ap (respelt (accentsOf t)) (param-of-line (part label) value (part-none 61 (λ q. omega (arith, q)) label e))

@@ -19,7 +19,8 @@ use Rattle.text.specs.Lists.{count, sift}
 use Rattle.text.specs.Puts.{roomOf}
 use Rattle.text_keyline.specs.Keylines.{lineOf, wholeUpto, numberAt}
 use Rattle.text_lines.specs.Entries.{placeOf, entryOf, entries, stands, again, missing, valueAt, column}
-use Rattle.text_lines.specs.Lines.{allowed, allowedFrom, allowedUpto, lines, textOf, texts, isSep, seps, mark, marked, ifInside, ifOutside, inside, outside, framed, paramOf, paramIn, params}
+use Rattle.text_lines.specs.Lines.{allowed, allowedFrom, allowedUpto, lines, textOf, texts, isSep, seps, mark, marked, ifInside, ifOutside, inside, outside}
+use Rattle.text_lines.specs.Lines.{framed, paramOf, paramIn, params}
 use Rattle.text_lines.specs.Spellings.{labelRoom, opens, isAccented, respell}
 use Rattle.text_room.specs.Rooms.{keptIn}
 use Rattle.value.specs.Kinds.{shapeOf, valueOf}
@@ -36,7 +37,8 @@ abbrev head : List ℕ
 head = bytes "Identificatore messaggio=VQ-0000000010\nNome UPA/UCA=U\nData Ora Inizio=15-01-2025 14:00:00 S\nData Ora Fine=\nStato Sart/Report=E\n"
 
 abbrev tail : List ℕ → List ℕ
-tail setting = bytes "Regolazione=TENSIONE (MT)\nImpostazione Sart/Report=\nImpostazione RAT=" ++ setting ++ bytes "\nVariazione=-1.5\nPotenza reattiva=\nNote=\nData Creazione Msg=15-01-2025 13:55:00 S\n"
+tail setting =
+    bytes "Regolazione=TENSIONE (MT)\nImpostazione Sart/Report=\nImpostazione RAT=" ++ setting ++ bytes "\nVariazione=-1.5\nPotenza reattiva=\nNote=\nData Creazione Msg=15-01-2025 13:55:00 S\n"
 
 abbrev row : List ℕ → List ℕ
 row setting = bytes "VQ-0000000010;U;15-01-2025 14:00:00 S;;E;RAT;TENSIONE (MT);;" ++ setting ++ bytes ";-1.5;;;15-01-2025 13:55:00 S\n"

@@ -8,7 +8,8 @@ use Rattle.value_name.specs.declared.MessageType.the-variants.{Cb, Rc, Mg, Eb, 
 use Rattle.text.specs.Bytes.{bytes}
 use Rattle.value.specs.declared.Kind.{Kind}
 use Rattle.value.specs.declared.Shape.{Shape}
-use Rattle.value.specs.declared.Shape.the-variants.{IsId, IsUnit, IsWhen, IsAmount, IsCount, IsReason, IsNote, IsWord, IsProfile, IsBands, IsTriples, IsVoltage, IsRegulator, IsChange, IsReactive}
+use Rattle.value.specs.declared.Shape.the-variants.{IsId, IsUnit, IsWhen, IsAmount, IsCount, IsReason, IsNote, IsWord, IsProfile, IsBands, IsTriples, IsVoltage}
+use Rattle.value.specs.declared.Shape.the-variants.{IsRegulator, IsChange, IsReactive}
 use Rattle.value_word.specs.Names.{wNormale, wStai, wMantieniDifferenza, wSi, wNo, wGaudi, wScweb, wSa, wDa, wSospensione, wProgramma, wI, wE, wRrt, wMan}
 use Rattle.value_word.specs.Names.{wProfiloMemorizzato, wPotenzaReattiva, wRiservaAScendere, wRiservaASalire, wFinoAPmin, wFinoAPmax}
 use mathlib.Core.Bool.{true, false}

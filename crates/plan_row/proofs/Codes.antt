@@ -150,5 +150,6 @@ type-told s t e = at-line (lineOf (bytes "type=") s) refl e
     at-line Bad i f = let z : _≡_ {A = ℕ} 0 1 = cc in absurd (omega arith)
     at-line (Ends k) i f =
         let w = line-told (bytes "type=") s k i in
-        let n : firstOf 10 s ≡ 7 = omega (arith, line-first (bytes "type=") s type-clean (w .0), ap length (line-value (bytes "type=") s type-clean (w .0)), two f) in
+        let n : firstOf 10 s ≡ 7 =
+        omega (arith, line-first (bytes "type=") s type-clean (w .0), ap length (line-value (bytes "type=") s type-clean (w .0)), two f) in
         (n, omega (arith, n, upto-less s (w .1)))

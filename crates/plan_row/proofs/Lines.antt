@@ -306,7 +306,9 @@ module _ (s : List ℕ) (b : Bool) (told : b ≡ starts (bytes "unit=") s) where
           let z = eqb-false m 0 (q .0) in
           let w : within 1 16 (length (unit-value s)) ≡ true =
           within-tells 1 16 (length (unit-value s)) .1 (omega (arith, v .1, z), omega (arith, v .1, ltb-false 16 m (q .1))) in
-          let a : all isUnitByte (unit-value s) ≡ true = ap (all isUnitByte) (v .0) ∙ run-front isUnitByte m (drop 5 s) (counted (bytes "unit=") s unit-clean unit-begins isUnitByte refl m run) in
+          let a : all isUnitByte (unit-value s) ≡ true =
+          ap (all isUnitByte) (v .0)
+          ∙ run-front isUnitByte m (drop 5 s) (counted (bytes "unit=") s unit-clean unit-begins isUnitByte refl m run) in
           rw (line-ends (bytes "unit=") s unit-clean unit-begins isUnitByte refl m run n g, w, a)
           (ap To (line-place (bytes "unit=") s unit-clean unit-begins isUnitByte refl m run n g))
 

@@ -38,7 +38,8 @@ module _ (file : List ℕ) (x : Reading) where
 -- the answer of refusals 7 to 10 for a unit
 abbrev judgedFor : List ℕ → Located → List ℕ → Answer
 judgedFor file x unit =
-    answer (valued (x .layout) unit (partOf file (x .row)) (columnAt (x .layout) file (x .places))) (columnRecord (x .layout) (columnAt (x .layout) file (x .places)))
+    answer (valued (x .layout) unit (partOf file (x .row)) (columnAt (x .layout) file (x .places)))
+    (columnRecord (x .layout) (columnAt (x .layout) file (x .places)))
 
 module _ (file unit : List ℕ) (x : Located) where
   continued-no : (x .number ≡ 0 → ⊥) → refused (x .number) (x .detail) ≡ continued file unit x

@@ -74,7 +74,8 @@ unfolding cellsOf
 start l col = record { done = []; count-is = refl; rest = prefixed-none (typed 1 (kindsOf l) col); front = refl; kept = refl }
 
 typed-at : (l : Layout) (col : List (List ℕ)) (k : ℕ) (x : List ℕ) → k < sizeOf l → drop k col ≡ x ∷ drop (k + 1) col
-    → typed (k + 1) (drop k (kindsOf l)) (drop k col) ≡ joined (k + 1) (valueOf (kindAt l (k + 1)) x) (typed (k + 1 + 1) (drop (k + 1) (kindsOf l)) (drop (k + 1) col))
+    → typed (k + 1) (drop k (kindsOf l)) (drop k col)
+    ≡ joined (k + 1) (valueOf (kindAt l (k + 1)) x) (typed (k + 1 + 1) (drop (k + 1) (kindsOf l)) (drop (k + 1) col))
 unfolding typed
 typed-at l col k x h e =
     let j : k < length (kindsOf l) = omega (arith, kinds-length l) in

@@ -13,7 +13,8 @@ use Rattle.text_room.specs.Rooms.{keptIn}
 use Rattle.value.proofs.Fit.{InRoom, StoredAs, Stored, in-room}
 use Rattle.value.specs.declared.Kind.{Kind}
 use Rattle.value.specs.declared.Shape.{Shape}
-use Rattle.value.specs.declared.Shape.the-variants.{IsId, IsUnit, IsWhen, IsAmount, IsCount, IsReason, IsNote, IsWord, IsProfile, IsBands, IsTriples, IsVoltage, IsRegulator, IsChange, IsReactive}
+use Rattle.value.specs.declared.Shape.the-variants.{IsId, IsUnit, IsWhen, IsAmount, IsCount, IsReason, IsNote, IsWord, IsProfile, IsBands, IsTriples, IsVoltage}
+use Rattle.value.specs.declared.Shape.the-variants.{IsRegulator, IsChange, IsReactive}
 use Rattle.value.specs.declared.Value.{Value}
 use borrow.Author.Tests.{leb-true}
 use lib.Dec.{leb}
@@ -49,7 +50,8 @@ AllSuit l k (d ∷ ds) = SuitsAs l k (d .blank) (d .shape) × AllSuit l (suc k) 
 
 all-suit : (l : Layout) → AllSuit l 1 (kindsOf l)
 unfolding AllSuit SuitsAs kindsOf fieldsOf market command technical mfrr rc mg eb lb sr vq ri qr
-all-suit Market = (refl, (refl, (tt, (tt, (tt, (tt, ((refl, refl), ((refl, refl), ((refl, refl), (tt, (tt, ((refl, refl), (tt, (tt, ((refl, refl), ((refl, refl), (tt, ((refl, refl), (tt, (tt, (tt, (tt, (tt, (tt, (tt, (refl, tt))))))))))))))))))))))))))
+all-suit Market =
+    (refl, (refl, (tt, (tt, (tt, (tt, ((refl, refl), ((refl, refl), ((refl, refl), (tt, (tt, ((refl, refl), (tt, (tt, ((refl, refl), ((refl, refl), (tt, ((refl, refl), (tt, (tt, (tt, (tt, (tt, (tt, (tt, (refl, tt))))))))))))))))))))))))))
 all-suit Mfrr = (refl, (refl, (tt, (tt, (tt, (tt, (tt, ((refl, refl), (tt, (tt, (tt, (tt, tt))))))))))))
 all-suit Revocation = (refl, (refl, (tt, (tt, (tt, tt)))))
 all-suit Generic = (refl, (refl, (tt, (tt, ((refl, refl), ((refl, refl), (tt, tt)))))))

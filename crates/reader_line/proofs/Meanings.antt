@@ -29,11 +29,13 @@ use native.Mathlib.Omega.{arith}
 -- ---- a line is one kind
 
 -- below one separator, and a separator
-pub as-row : (sp : List Spelling) (t : MessageType) (n at : ℕ) (l : List ℕ) → eqb n 1 ≡ true → item (at + length l) (isSep (trim l)) 0 0 (trimmedAt at l) ≡ itemIn sp t n at l
+pub as-row : (sp : List Spelling) (t : MessageType) (n at : ℕ) (l : List ℕ) → eqb n 1 ≡ true
+    → item (at + length l) (isSep (trim l)) 0 0 (trimmedAt at l) ≡ itemIn sp t n at l
 unfolding itemIn
 as-row sp t n at l e = rw (or-right (isSep (trim l)) (eqb n 1) e)
 
-pub as-separator : (sp : List Spelling) (t : MessageType) (n at : ℕ) (l : List ℕ) → isSep (trim l) ≡ true → item (at + length l) true 0 0 (trimmedAt at l) ≡ itemIn sp t n at l
+pub as-separator : (sp : List Spelling) (t : MessageType) (n at : ℕ) (l : List ℕ) → isSep (trim l) ≡ true
+    → item (at + length l) true 0 0 (trimmedAt at l) ≡ itemIn sp t n at l
 unfolding itemIn
 as-separator sp t n at l e = rw e
 
@@ -99,7 +101,8 @@ no-field : (ls : List (List ℕ)) (l : List ℕ) → any (is 61) l ≡ false →
 unfolding fieldIn
 no-field ls l e = rw e
 
-pub its-field : (sp : List Spelling) (ls : List (List ℕ)) (l : List ℕ) → any (is 61) l ≡ true → placeOf ls (respell sp (trim (upto (is 61) l))) ≡ fieldIn sp ls l
+pub its-field : (sp : List Spelling) (ls : List (List ℕ)) (l : List ℕ) → any (is 61) l ≡ true
+    → placeOf ls (respell sp (trim (upto (is 61) l))) ≡ fieldIn sp ls l
 unfolding fieldIn
 its-field sp ls l e = rw e
 
@@ -107,7 +110,8 @@ plain-field : (ls : List (List ℕ)) (l : List ℕ) → any (is 61) l ≡ true �
 unfolding respell
 plain-field ls l e = its-field [] ls l e
 
-pub with-value : (end at : ℕ) (l : List ℕ) (f g : ℕ) (v : Span) → v ≡ valueSpan at l → (eqb f 0 && eqb g 0) ≡ false → item end false f g v ≡ fielded end f g at l
+pub with-value : (end at : ℕ) (l : List ℕ) (f g : ℕ) (v : Span) → v ≡ valueSpan at l → (eqb f 0 && eqb g 0) ≡ false
+    → item end false f g v ≡ fielded end f g at l
 unfolding fielded
 with-value end at l f g v v-is z = rw (z, v-is)
 

@@ -11,7 +11,8 @@ use Rattle.text_lines.proofs.Params.{no-param}
 use Rattle.text_lines.proofs.Steps.{lines-step}
 use Rattle.text_lines.specs.Entries.{Entry, placeOf, entryOf, entries, again, column}
 use Rattle.text_lines.specs.Order.{Perm, done, keep, swap, both}
-use Rattle.text_lines.specs.Lines.{Param, allowed, allowedFrom, allowedUpto, lines, textOf, texts, seps, inside, outside, framed, paramOf, respelt, paramIn, params}
+use Rattle.text_lines.specs.Lines.{Param, allowed, allowedFrom, allowedUpto, lines, textOf, texts, seps, inside, outside, framed, paramOf, respelt, paramIn}
+use Rattle.text_lines.specs.Lines.{params}
 use Rattle.text_lines.specs.Spellings.{Spelling, labelRoom}
 use Rattle.value_name.specs.declared.MessageType.{MessageType}
 use Rattle.value_name.specs.declared.MessageType.the-variants.{Cb, Rc, Mg, Eb, Lb, Sr, Vq, Ri, Qr}
@@ -42,7 +43,8 @@ clean-of s = record { some-bytes = s .some-bytes; not-long = s .not-long; clean 
 -- what is left to judge of them
 pub clean-reading : (t : MessageType) (unit file : List ℕ) → Clean t file
     → messageOf t unit file
-    ≡ answer (refusal 4 (seps (texts file)) (not (framed (texts file))) ∷ labelled (layoutIn t (given t file)) unit (rowIn file) (entriesIn t file)) (recordIn t file)
+    ≡ answer (refusal 4 (seps (texts file)) (not (framed (texts file))) ∷ labelled (layoutIn t (given t file)) unit (rowIn file) (entriesIn t file))
+    (recordIn t file)
 unfolding messageOf reading answer
 clean-reading t unit file c =
     rw (le-leb 1 (length file) (c .some-bytes), le-leb (length file) 8192 (c .not-long), c .clean, le-ltb (length file) (length file) (le-refl (length file)))
@@ -300,7 +302,8 @@ texts-decide t unit f g e cf cg = clean-reading t unit f cf ∙ ap byTexts e ∙
     byTexts ts =
         let ps = params (accentsOf t) (outside ts) in
         let l = layoutIn t ps in
-        answer (refusal 4 (seps ts) (not (framed ts)) ∷ labelled l unit (getD (inside ts) 0 []) (entries (labelsOf l) ps)) (columnRecord l (column 1 (labelsOf l) (entries (labelsOf l) ps)))
+        answer (refusal 4 (seps ts) (not (framed ts)) ∷ labelled l unit (getD (inside ts) 0 []) (entries (labelsOf l) ps))
+        (columnRecord l (column 1 (labelsOf l) (entries (labelsOf l) ps)))
 
 pub ends-alike : (t : MessageType) (unit f g : List ℕ) → texts f ≡ texts g → Sound t f → Sound t g → messageOf t unit f ≡ messageOf t unit g
 ends-alike t unit f g e sf sg = texts-decide t unit f g e (clean-of sf) (clean-of sg)

@@ -10,7 +10,8 @@ use Rattle.layout.specs.declared.Layout.the-variants.{Revocation}
 use Rattle.text_lines.specs.Entries.{placeOf, entryOf, entries, stands, again, missing, valueAt, column}
 use Rattle.reader_accent.specs.Accents.{accentsOf}
 use Rattle.text_lines.specs.Spellings.{labelRoom, opens, isAccented, respell}
-use Rattle.text_lines.specs.Lines.{allowed, allowedFrom, allowedUpto, lines, textOf, texts, isSep, seps, mark, marked, ifInside, ifOutside, inside, outside, framed, paramOf, paramIn, params}
+use Rattle.text_lines.specs.Lines.{allowed, allowedFrom, allowedUpto, lines, textOf, texts, isSep, seps, mark, marked, ifInside, ifOutside, inside, outside}
+use Rattle.text_lines.specs.Lines.{framed, paramOf, paramIn, params}
 use Rattle.value_name.specs.Names.{exactly, identifierOf, isUnit, sequenceOf}
 use Rattle.text_keyline.specs.Keylines.{lineOf, wholeUpto, numberAt}
 use Rattle.plan_row.specs.Rows.{unitAt, typeFrom, typeAt, planRowOf as rowAt}
@@ -132,7 +133,8 @@ cases =
     -- 9: another unit
     ∷ filed (of (identifier ++ bytes "Nome UPA/UCA                        = UP_PROVA_2\n" ++ start ++ end ++ sequence) row) (refused 9 0)
     -- 10: 18 for 17
-    ∷ filed (of (identifier ++ unit ++ start ++ end ++ sequence) (bytes "RC-0000000042;UP_PROVA_1;15-01-2025 10:00:00 S;15-01-2025 10:30:00 S;18\n")) (refused 10 0)
+    ∷ filed (of (identifier ++ unit ++ start ++ end ++ sequence) (bytes "RC-0000000042;UP_PROVA_1;15-01-2025 10:00:00 S;15-01-2025 10:30:00 S;18\n"))
+    (refused 10 0)
     ∷ []
 
 -- every input of the table is answered as it says

@@ -33,7 +33,8 @@ pub record Reads (ca ioa : ℕ) (plan file : List ℕ) (x : Reading) : Type 0 wh
   pub readable : x .number ≡ 0 → isBad (valuesOf (x .layout) (columnAt (x .layout) file (x .places))) ≡ false
   pub own-row : x .number ≡ 0 → HoldsText file (x .row) (rowOf (x .layout) (columnAt (x .layout) file (x .places)))
   pub content-is : x .number ≡ 0
-      → recordWith (x .layout) (columnAt (x .layout) file (x .places)) (x .cells) (x .gradients) ≡ columnRecord (x .layout) (columnAt (x .layout) file (x .places))
+      → recordWith (x .layout) (columnAt (x .layout) file (x .places)) (x .cells) (x .gradients)
+      ≡ columnRecord (x .layout) (columnAt (x .layout) file (x .places))
   pub answers : concluded file x ≡ readOf ca ioa plan file
 
 -- the row of a file with one line between its separators
@@ -76,7 +77,8 @@ module _ (c i : ℕ) (plan file : List ℕ) (x : Reading) (is : x ≡ readingOf 
         rw (ap (λ (y : Reading). y .row) taken-is, column-here, layout-here)
         (subst (HoldsText file (rowPlace file)) (told .row-is) (row-there file (told .frame)))
 
-    its-content : recordWith (x .layout) (columnAt (x .layout) file (x .places)) (x .cells) (x .gradients) ≡ columnRecord (x .layout) (columnAt (x .layout) file (x .places))
+    its-content : recordWith (x .layout) (columnAt (x .layout) file (x .places)) (x .cells) (x .gradients)
+        ≡ columnRecord (x .layout) (columnAt (x .layout) file (x .places))
     its-content =
         ap (λ (y : Reading). recordWith (y .layout) (columnAt (y .layout) file (y .places)) (y .cells) (y .gradients)) taken-is
         ∙ record-is c i plan file z ∙ content-is c i plan file z ∙ rw (column-here, layout-here) refl

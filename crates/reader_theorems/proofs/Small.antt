@@ -176,7 +176,8 @@ reading-small t unit file r =
     detail-step 2 0 (not (within 1 8192 (length file))) _ r (λ e. omega arith)
     (λ e.
     let size = within-tells 1 8192 (length file) .0 (not-false (within 1 8192 (length file)) e) in
-    detail-step 3 (allowedUpto (accentsOf t) file) (ltb (allowedUpto (accentsOf t) file) (length file)) _ r (λ e. omega (arith, ltb-true (allowedUpto (accentsOf t) file) (length file) e, size .1))
+    detail-step 3 (allowedUpto (accentsOf t) file) (ltb (allowedUpto (accentsOf t) file) (length file)) _ r
+    (λ e. omega (arith, ltb-true (allowedUpto (accentsOf t) file) (length file) e, size .1))
     (λ e.
     detail-step 4 (seps (texts file)) (not (framed (texts file))) _ r (λ e. omega (arith, seps-le file, size .1))
     (λ e. labelled-small (layoutIn t (given t file)) unit (rowIn file) (given t file) r)))

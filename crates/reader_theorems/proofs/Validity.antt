@@ -33,7 +33,8 @@ good-of (bad k) e = absurd (false≢true (sym e))
 good-of (good vs) e = refl
 
 -- the record of a column that was read
-body-valid : (l : Layout) (col : List (List ℕ)) → isBad (valuesOf l col) ≡ false → all tidy col ≡ true → brokenIn (columnRecord l col) ≡ 0 → Valid (columnRecord l col)
+body-valid : (l : Layout) (col : List (List ℕ)) → isBad (valuesOf l col) ≡ false → all tidy col ≡ true → brokenIn (columnRecord l col) ≡ 0
+    → Valid (columnRecord l col)
 unfolding valuesOf columnRecord
 body-valid l col e neat z =
     record {

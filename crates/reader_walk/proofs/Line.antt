@@ -204,7 +204,8 @@ module _ (t : MessageType) (file : List ℕ) (f : Frame) (m : Marks) (spans : Li
         inside = rw (inside-same done x one) (w .inside);
         row = w .row ∙ sym (row-other done x b);
         first = rw (field-spots sp ls one, sym first-spot) (note-fields file ls m spans (spots sp ls done) p (w .first) i (field-le sp ls l) (first-few t));
-        second = rw (field-spots sp ks one, sym second-spot) (note-fields file ks o others (spots sp ks done) p (w .second) j (field-le sp ks l) (second-few t));
+        second =
+            rw (field-spots sp ks one, sym second-spot) (note-fields file ks o others (spots sp ks done) p (w .second) j (field-le sp ks l) (second-few t));
       }
 
   walked-in : After (itemIn (accentsOf t) t (f .seps) at l) (done ++ onto (lineIf (f .seps) at l) [])

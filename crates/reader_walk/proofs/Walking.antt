@@ -128,7 +128,8 @@ begin t s =
       counted = omega arith;
       done = [];
       all = refl;
-      walked = record { inside = refl; row = refl; first = nothing-kept (accentsOf t) s (firstLabels t); second = nothing-kept (accentsOf t) s (secondLabels t) };
+      walked =
+          record { inside = refl; row = refl; first = nothing-kept (accentsOf t) s (firstLabels t); second = nothing-kept (accentsOf t) s (secondLabels t) };
     }
 
 -- ---- the places, with the first set back

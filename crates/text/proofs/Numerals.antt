@@ -15,7 +15,8 @@ use lib.Seq.{take-suc}
 use mathlib.Core.Bool.{Bool, true, false, _&&_, and-false, cond, true≢false}
 use mathlib.Core.List.{List, [], _∷_, _++_}
 use mathlib.Core.Path.{_≡_, refl, sym, ap, _∙_}
-use native.Mathlib.Nat.{le-refl, pow-suc, pow-succ', one-le-pow, pow-le-pow-right, mul-le-mul-right, mod-eq-of-lt, div-one, div-div-eq-div-mul, le-div-iff-mul-le, div-lt-iff-lt-mul}
+use native.Mathlib.Nat.{le-refl, pow-suc, pow-succ', one-le-pow, pow-le-pow-right, mul-le-mul-right, mod-eq-of-lt, div-one, div-div-eq-div-mul}
+use native.Mathlib.Nat.{le-div-iff-mul-le, div-lt-iff-lt-mul}
 use native.Mathlib.Numerals.{add-one}
 use native.Mathlib.Omega.{arith}
 

@@ -49,7 +49,8 @@ puts-of k e p = record { place = omega (arith, e, p .0); bytes = p .1 }
 pub puts-none : (l : List ℕ) (at : ℕ) → Run l at [] at l
 puts-none l at = record { place = omega arith; bytes = refl }
 
-pub then : {l : List ℕ} {at : ℕ} {t : List ℕ} {a : ℕ} {l₁ : List ℕ} {u : List ℕ} {b : ℕ} {l₂ : List ℕ} → Run l at t a l₁ → Run l₁ a u b l₂ → Run l at (t ++ u) b l₂
+pub then : {l : List ℕ} {at : ℕ} {t : List ℕ} {a : ℕ} {l₁ : List ℕ} {u : List ℕ} {b : ℕ} {l₂ : List ℕ} → Run l at t a l₁ → Run l₁ a u b l₂
+    → Run l at (t ++ u) b l₂
 then {l} {at} {t} {a} {l₁} {u} {b} {l₂} p q =
     record {
       place = omega (arith, p .place, q .place, length-append t u);

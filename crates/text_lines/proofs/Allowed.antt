@@ -147,7 +147,8 @@ module _ (sp : List Spelling) where
         let one : 0 < suc (length (a .back)) = omega arith in
         omega (
           arith,
-          ap (allowedFrom sp n) (a .cut) ∙ run-on (a .front) (224 ∷ rest) n (a .front-plain) ∙ ap (λ (x : ℕ). length (a .front) + allowedFrom sp x (224 ∷ rest)) m,
+          ap (allowedFrom sp n) (a .cut) ∙ run-on (a .front) (224 ∷ rest) n (a .front-plain)
+              ∙ ap (λ (x : ℕ). length (a .front) + allowedFrom sp x (224 ∷ rest)) m,
           accent-on (suc (length (a .back))) rest one ∙ ap (λ (x : ℕ). 1 + allowedFrom sp x rest) o,
         )
 
@@ -207,7 +208,8 @@ module _ (sp : List Spelling) (good : allGood sp ≡ true) (r : List ℕ) where
           clear =
               ap (λ (l : List ℕ). all ofLine (take (length (accented .front) + 1 + plainRun beyond) l)) (accented .cut)
               ∙ ap (all ofLine) (take-past (accented .front) 224 beyond (plainRun beyond))
-              ∙ all-append ofLine (accented .front) (224 ∷ take (plainRun beyond) beyond) (plain-line (accented .front) (accented .front-plain)) (run-clear beyond);
+              ∙ all-append ofLine (accented .front) (224 ∷ take (plainRun beyond) beyond) (plain-line (accented .front) (accented .front-plain))
+              (run-clear beyond);
         }
 
   -- where a line opens so, the first run stops at E0

@@ -40,7 +40,8 @@ value-swap : (k : ℕ) (x y : Entry) (es : List Entry) → eqb (y .at) (x .at) �
 unfolding valueAt
 value-swap k x y es d = go (eqb k (x .at)) (eqb k (y .at)) refl refl
   where
-    go : (a b : Bool) → eqb k (x .at) ≡ a → eqb k (y .at) ≡ b → cond (eqb k (x .at)) (x .value) (cond (eqb k (y .at)) (y .value) (valueAt k es)) ≡ cond (eqb k (y .at)) (y .value) (cond (eqb k (x .at)) (x .value) (valueAt k es))
+    go : (a b : Bool) → eqb k (x .at) ≡ a → eqb k (y .at) ≡ b → cond (eqb k (x .at)) (x .value) (cond (eqb k (y .at)) (y .value) (valueAt k es))
+        ≡ cond (eqb k (y .at)) (y .value) (cond (eqb k (x .at)) (x .value) (valueAt k es))
     go true true p q = absurd (eqb-false (y .at) (x .at) d (sym (eqb-true k (y .at) q) ∙ eqb-true k (x .at) p))
     go true false p q = rw (p, q)
     go false true p q = rw (p, q)

@@ -4,7 +4,8 @@ use Prim.Native.Nat.{ℕ, zero, suc, _+_, _-_, _≤_, _<_}
 use Rattle.text_lines.proofs.Params.{equals-trim, no-param, param-split}
 use Rattle.text_lines.proofs.Steps.{lines-step}
 use Rattle.text_lines.specs.Entries.{Entry, placeOf, entryOf, entries, valueAt, column}
-use Rattle.text_lines.specs.Lines.{Marked, Param, allowed, allowedFrom, allowedUpto, push, lines, textOf, texts, isSep, mark, marked, ifOutside, outside, paramOf, respelt, paramIn, params}
+use Rattle.text_lines.specs.Lines.{Marked, Param, allowed, allowedFrom, allowedUpto, push, lines, textOf, texts, isSep, mark, marked, ifOutside, outside}
+use Rattle.text_lines.specs.Lines.{paramOf, respelt, paramIn, params}
 use Rattle.text_lines.specs.Spellings.{Spelling, opens, labelRoom}
 use Rattle.text.proofs.Cuts.{same-refl}
 use Rattle.text.proofs.Tests.{by-test, and-parts}
@@ -166,9 +167,11 @@ module _ (sp : List Spelling) where
 
   -- where no byte of a label's part is left, a byte is one that is allowed anywhere
   plain-here : (b : ℕ) (bs : List ℕ) → (allowed b bs || (is 224 b && false)) ≡ true → allowed b bs ≡ true
-  plain-here b bs h = by-test (allowed b bs) (λ e. e) (λ e. by-test (is 224 b) (λ t. absurd (false≢true (rw (e, t) at h))) (λ t. absurd (false≢true (rw (e, t) at h))))
+  plain-here b bs h =
+      by-test (allowed b bs) (λ e. e) (λ e. by-test (is 224 b) (λ t. absurd (false≢true (rw (e, t) at h))) (λ t. absurd (false≢true (rw (e, t) at h))))
 
-  push-neat : (n b : ℕ) (bs : List ℕ) (ls : List (List ℕ)) → (allowed b bs || (is 224 b && ltb 0 n)) ≡ true → is 10 b ≡ false → Neat (n - 1) ls ≡ true → Neat n (push b ls) ≡ true
+  push-neat : (n b : ℕ) (bs : List ℕ) (ls : List (List ℕ)) → (allowed b bs || (is 224 b && ltb 0 n)) ≡ true → is 10 b ≡ false → Neat (n - 1) ls ≡ true
+      → Neat n (push b ls) ≡ true
   unfolding all upto
   push-neat zero b bs [] h e k = rw (longer b [] (inner b bs (plain-here b bs h) e) refl)
   push-neat (suc n) b bs [] h e k = rw (nothing-after n)

@@ -88,7 +88,8 @@ by-refusal true false g f p q n d k j h e = let z : 16 ≡ k = cc in λ y. omega
 by-refusal false m g f p q n d k j h e = let z : n ≡ k = cc in λ y. h refl (z ∙ y)
 
 -- and it goes by the first three tests
-same-chosen : (b m g f h : Bool) (p : Span) (q : Part) (s : Span) (t : Part) (n d : ℕ) → timeRefusal (chosen b m g f p q n d) ≡ timeRefusal (chosen b m g h s t n d)
+same-chosen : (b m g f h : Bool) (p : Span) (q : Part) (s : Span) (t : Part) (n d : ℕ)
+    → timeRefusal (chosen b m g f p q n d) ≡ timeRefusal (chosen b m g h s t n d)
 unfolding chosen
 same-chosen true true true true true p q s t n d = refl
 same-chosen true true true true false p q s t n d = refl
@@ -169,7 +170,8 @@ module _ (w : Which) (ca ioa : ℕ) (plan file sheet : List ℕ) where
       let n = eqb-true (answer .number) 0 (c .0) in
       let h = time-holds w file in
       let k : to ≤ length file = omega (arith, h .inside, c .4) in
-      let text : part from to file ≡ valueAt (fieldNo w) (entries (labelsOf Market) (given Cb file)) = ap₂ (λ (a b : ℕ). part a b file) (sym (c .3)) (sym (c .4)) ∙ h .holds in
+      let text : part from to file ≡ valueAt (fieldNo w) (entries (labelsOf Market) (given Cb file)) =
+      ap₂ (λ (a b : ℕ). part a b file) (sym (c .3)) (sym (c .4)) ∙ h .holds in
       let read = ap (valueOf (kindAt Market (fieldNo w))) text ∙ time-read w answer file (taken ca ioa plan file n) (c .1) in
       let some = filled-some w (part from to file) value read (c .2) in
       (n, read, omega (arith, some, length-part from to file k), k)
@@ -200,6 +202,7 @@ module _ (w : Which) (ca ioa : ℕ) (plan file sheet : List ℕ) where
       part-none (Refused k d) n = refl
 
 -- no refusal depends on which time is asked for
-pub same-refusal : (ca ioa : ℕ) (plan file sheet : List ℕ) → timeRefusal (timeOf StartUp ca ioa plan file sheet) ≡ timeRefusal (timeOf Ramp ca ioa plan file sheet)
+pub same-refusal : (ca ioa : ℕ) (plan file sheet : List ℕ)
+    → timeRefusal (timeOf StartUp ca ioa plan file sheet) ≡ timeRefusal (timeOf Ramp ca ioa plan file sheet)
 same-refusal ca ioa plan file sheet =
     ap timeRefusal (sym (time-is StartUp ca ioa plan file sheet)) ∙ same-chosen _ _ _ _ _ _ _ _ _ _ _ ∙ ap timeRefusal (time-is Ramp ca ioa plan file sheet)

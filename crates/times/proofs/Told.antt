@@ -143,7 +143,8 @@ refusal-none (Refused n d) h = absurd (miss (0 ∷ 1 ∷ []) 2 tt h)
 
 -- ---- it lies in the file or in the sheet
 
-within-cond : (file sheet : List ℕ) (b : Bool) (t u : Time) → (b ≡ true → StandsIn file sheet t) → (b ≡ false → StandsIn file sheet u) → StandsIn file sheet (cond b t u)
+within-cond : (file sheet : List ℕ) (b : Bool) (t u : Time) → (b ≡ true → StandsIn file sheet t) → (b ≡ false → StandsIn file sheet u)
+    → StandsIn file sheet (cond b t u)
 within-cond file sheet true t u f g = f refl
 within-cond file sheet false t u f g = g refl
 
@@ -172,5 +173,6 @@ module _ (w : Which) (ca ioa : ℕ) (plan file sheet : List ℕ) where
   pub located-within : (t : Time) → t ≡ timeOf w ca ioa plan file sheet → StandsIn file sheet t
   located-within t e = subst (StandsIn file sheet) (sym e) time-within
 
-  pub located-part : (t : Time) (r : List ℕ) → t ≡ timeOf w ca ioa plan file sheet → r ≡ partIn t file sheet → r ≡ partIn (timeOf w ca ioa plan file sheet) file sheet
+  pub located-part : (t : Time) (r : List ℕ) → t ≡ timeOf w ca ioa plan file sheet → r ≡ partIn t file sheet
+      → r ≡ partIn (timeOf w ca ioa plan file sheet) file sheet
   located-part t r e f = f ∙ ap (λ (x : Time). partIn x file sheet) e

@@ -62,7 +62,8 @@ unfolding fieldsOf market command technical
 unit-read l col m e = rw m (unit-value (textAt col 2) (fieldOf (columnRecord Market col .cells) 2) (field-read Market col (rw m at e) 1 (ltb-true _ _ refl)))
 
 -- a record with the texts of one column that is the record of another
-pub unit-is : (l k : Layout) (col others : List (List ℕ)) (cells : List Cell) (gs : List Triple) → recordWith l col cells gs ≡ columnRecord k others → l ≡ Market
+pub unit-is : (l k : Layout) (col others : List (List ℕ)) (cells : List Cell) (gs : List Triple) → recordWith l col cells gs ≡ columnRecord k others
+    → l ≡ Market
     → isBad (valuesOf l col) ≡ false → isBad (valuesOf k others) ≡ false → unitOf (recordWith l col cells gs) ≡ textAt col 2
 unfolding unitOf recordWith columnRecord recordOf
 unit-is l k col others cells gs e m good goods =

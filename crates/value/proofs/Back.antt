@@ -14,10 +14,12 @@ use Rattle.text.proofs.Numerals.{whole-some}
 use Rattle.text.proofs.Tables.{all-at}
 use Rattle.text.specs.Bytes.{all, upto}
 use Rattle.text.specs.Digits.{numberFrom, digitsOf}
-use Rattle.value.specs.Kinds.{idFrom, countFrom, dateFrom, amountFrom, gotWord, listFrom, triplesFrom, settingFrom, voltage, regulator, change, reactive, shapeOf, valueOf}
+use Rattle.value.specs.Kinds.{idFrom, countFrom, dateFrom, amountFrom, gotWord, listFrom, triplesFrom, settingFrom, voltage, regulator, change, reactive}
+use Rattle.value.specs.Kinds.{shapeOf, valueOf}
 use Rattle.value.specs.Texts.{Rooms, valueText}
 use Rattle.value.specs.Valid.{Kept, Fits, Holds}
-use Rattle.value.specs.Valid.Fits.{id, unit, when, amount, count, reason, note, chosen, profile, bands, triples, in-kv, kv-word, in-rat, rat-word, in-change, in-mvar, mvar-word}
+use Rattle.value.specs.Valid.Fits.{id, unit, when, amount, count, reason, note, chosen, profile, bands, triples, in-kv, kv-word, in-rat, rat-word}
+use Rattle.value.specs.Valid.Fits.{in-change, in-mvar, mvar-word}
 use Rattle.value.specs.Valid.Holds.{blank, filled}
 use Rattle.value.specs.declared.Got.the-variants.{Read, Bad}
 use Rattle.value.specs.declared.Kind.{Kind}

@@ -23,16 +23,19 @@ use Rattle.text.specs.Bytes.{tidy}
 use Rattle.text.specs.Puts.{roomOf}
 use Rattle.text.specs.declared.digits.Digits.{Digits}
 use Rattle.text.specs.declared.digits.Digits.the-variants.{Are, Not}
-use Rattle.value.specs.Kinds.{idFrom, countFrom, dateFrom, amountFrom, gotWord, listFrom, settingFrom, voltage, regulator, change, reactive, shapeOf, valueOf}
+use Rattle.value.specs.Kinds.{idFrom, countFrom, dateFrom, amountFrom, gotWord, listFrom, settingFrom, voltage, regulator, change, reactive, shapeOf}
+use Rattle.value.specs.Kinds.{valueOf}
 use Rattle.value.specs.Texts.{Rooms}
 use Rattle.value.specs.Valid.{Kept, Fits, Holds}
-use Rattle.value.specs.Valid.Fits.{id, unit, when, amount, count, reason, note, chosen, profile, bands, triples, in-kv, kv-word, in-rat, rat-word, in-change, in-mvar, mvar-word}
+use Rattle.value.specs.Valid.Fits.{id, unit, when, amount, count, reason, note, chosen, profile, bands, triples, in-kv, kv-word, in-rat, rat-word}
+use Rattle.value.specs.Valid.Fits.{in-change, in-mvar, mvar-word}
 use Rattle.value.specs.Valid.Holds.{blank, filled}
 use Rattle.value.specs.declared.Got.{Got}
 use Rattle.value.specs.declared.Got.the-variants.{Read, Bad}
 use Rattle.value.specs.declared.Kind.{Kind}
 use Rattle.value.specs.declared.Shape.{Shape}
-use Rattle.value.specs.declared.Shape.the-variants.{IsId, IsUnit, IsWhen, IsAmount, IsCount, IsReason, IsNote, IsWord, IsProfile, IsBands, IsTriples, IsVoltage, IsRegulator, IsChange, IsReactive}
+use Rattle.value.specs.declared.Shape.the-variants.{IsId, IsUnit, IsWhen, IsAmount, IsCount, IsReason, IsNote, IsWord, IsProfile, IsBands, IsTriples}
+use Rattle.value.specs.declared.Shape.the-variants.{IsVoltage, IsRegulator, IsChange, IsReactive}
 use Rattle.value.specs.declared.Value.{Value}
 use Rattle.value.specs.declared.Value.the-variants.{Id, When, Amount, Count, Reason, Note, Word, List as Numbers, Triples, Unit as UnitOf}
 use Rattle.value_word.proofs.RoundTrip.{word-range}

@@ -12,7 +12,8 @@ use Rattle.text.proofs.Trims.{tidy-none, tidy-empty}
 use Rattle.text.specs.Bytes.{within, isPlain, isBlank, tidy}
 use Rattle.value.specs.Texts.{Rooms, valueText}
 use Rattle.value.specs.Valid.{Fits, Holds}
-use Rattle.value.specs.Valid.Fits.{id, unit, when, amount, count, reason, note, chosen, profile, bands, triples, in-kv, kv-word, in-rat, rat-word, in-change, in-mvar, mvar-word}
+use Rattle.value.specs.Valid.Fits.{id, unit, when, amount, count, reason, note, chosen, profile, bands, triples, in-kv, kv-word, in-rat, rat-word}
+use Rattle.value.specs.Valid.Fits.{in-change, in-mvar, mvar-word}
 use Rattle.value.specs.Valid.Holds.{blank, filled}
 use Rattle.value.specs.declared.Kind.{Kind}
 use Rattle.value.specs.declared.Shape.{Shape}

@@ -17,9 +17,11 @@ use Rattle.value.specs.declared.Got.{Got}
 use Rattle.value.specs.declared.Got.the-variants.{Read, Bad}
 use Rattle.value.specs.declared.Kind.{Kind}
 use Rattle.value.specs.declared.Shape.{Shape}
-use Rattle.value.specs.declared.Shape.the-variants.{IsId, IsUnit, IsWhen, IsAmount, IsCount, IsReason, IsNote, IsWord, IsProfile, IsBands, IsTriples, IsVoltage, IsRegulator, IsChange, IsReactive}
+use Rattle.value.specs.declared.Shape.the-variants.{IsId, IsUnit, IsWhen, IsAmount, IsCount, IsReason, IsNote, IsWord, IsProfile, IsBands, IsTriples}
+use Rattle.value.specs.declared.Shape.the-variants.{IsVoltage, IsRegulator, IsChange, IsReactive}
 use Rattle.value.specs.declared.Value.{Value}
-use Rattle.value.specs.declared.Value.the-variants.{Blank, Id, Unit, When, Amount, Count, Reason, Note, Word, List as Numbers, Triples, Voltage, Regulator, Change, Reactive}
+use Rattle.value.specs.declared.Value.the-variants.{Blank, Id, Unit, When, Amount, Count, Reason, Note, Word, List as Numbers, Triples, Voltage}
+use Rattle.value.specs.declared.Value.the-variants.{Regulator, Change, Reactive}
 use Rattle.value_word.specs.Names.{wQZero, wMaxSottoeccitazione}
 use Rattle.value_word.specs.Words.{wordIn, voltIn}
 use Rattle.value_word.specs.declared.Word.{Word as WordRead}

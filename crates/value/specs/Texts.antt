@@ -7,7 +7,8 @@ use Rattle.value_name.specs.Names.{identifierText, sequenceText}
 use Rattle.value_name.specs.declared.MessageType.{MessageType}
 use Rattle.value_number.specs.Number.{areShort, numberText}
 use Rattle.value.specs.declared.Value.{Value}
-use Rattle.value.specs.declared.Value.the-variants.{Blank, Id, Unit, When, Amount, Count, Reason, Note, Word, List as Numbers, Triples, Voltage, Regulator, Change, Reactive}
+use Rattle.value.specs.declared.Value.the-variants.{Blank, Id, Unit, When, Amount, Count, Reason, Note, Word, List as Numbers, Triples, Voltage}
+use Rattle.value.specs.declared.Value.the-variants.{Regulator, Change, Reactive}
 use Rattle.value_word.specs.Words.{word, isJoined}
 use denote.Ref.{RefT}
 use denote.Triple.Both.{Both}

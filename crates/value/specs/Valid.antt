@@ -12,7 +12,8 @@ use Rattle.value.specs.Kinds.{voltage, regulator, change, reactive}
 use Rattle.value.specs.Texts.{Rooms}
 use Rattle.value.specs.declared.Kind.{Kind}
 use Rattle.value.specs.declared.Shape.{Shape}
-use Rattle.value.specs.declared.Shape.the-variants.{IsId, IsUnit, IsWhen, IsAmount, IsCount, IsReason, IsNote, IsWord, IsProfile, IsBands, IsTriples, IsVoltage, IsRegulator, IsChange, IsReactive}
+use Rattle.value.specs.declared.Shape.the-variants.{IsId, IsUnit, IsWhen, IsAmount, IsCount, IsReason, IsNote, IsWord, IsProfile, IsBands, IsTriples}
+use Rattle.value.specs.declared.Shape.the-variants.{IsVoltage, IsRegulator, IsChange, IsReactive}
 use Rattle.value.specs.declared.Value.{Value}
 use Rattle.value.specs.declared.Value.the-variants.{Blank, Id, Unit, When, Amount, Count, Reason, Note, Word, List as Numbers, Triples}
 use Rattle.value_word.specs.Names.{wVMax, wVMin, wQZero, wMaxSottoeccitazione, wFinoAPmax}

@@ -3,7 +3,8 @@ use Prim.Native.Nat.{ℕ}
 use Rattle.value_ask.specs.Values.{isFilled, numberIn, countIn, sizeIn, instantIn, amountIn, wordNumber, triplesIn, notNegative}
 use Rattle.value.proofs.Value.{the-type}
 use Rattle.value.specs.declared.Value.{Value}
-use Rattle.value.specs.declared.Value.the-variants.{Blank, Id, Unit, When, Amount, Count, Reason, Note, Word, List as Numbers, Triples, Voltage, Regulator, Change, Reactive}
+use Rattle.value.specs.declared.Value.the-variants.{Blank, Id, Unit, When, Amount, Count, Reason, Note, Word, List as Numbers, Triples, Voltage, Regulator}
+use Rattle.value.specs.declared.Value.the-variants.{Change, Reactive}
 use denote.Enum.Declared.{tagOf}
 use lib.IntN.{pos}
 use mathlib.Core.Bool.{true, false, true≢false}

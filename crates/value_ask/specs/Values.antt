@@ -3,7 +3,8 @@ use Prim.Native.Nat.{ℕ}
 use Rattle.value_date.specs.Date.{instantOf}
 use Rattle.value_list.specs.declared.Numbers.{Numbers as Few}
 use Rattle.value.specs.declared.Value.{Value}
-use Rattle.value.specs.declared.Value.the-variants.{Blank, Id, Unit, When, Amount, Count, Reason, Note, Word, List as Numbers, Triples, Voltage, Regulator, Change, Reactive}
+use Rattle.value.specs.declared.Value.the-variants.{Blank, Id, Unit, When, Amount, Count, Reason, Note, Word, List as Numbers, Triples, Voltage, Regulator}
+use Rattle.value.specs.declared.Value.the-variants.{Change, Reactive}
 use lib.Dec.{eqb}
 use lib.IntN.{ℤ, pos}
 use lib.Signed.{leZ}

@@ -1,7 +1,8 @@
 -- Laws of the definitions of `specs/Date.antt`: the shape along the bytes, the fields that it makes digits, and the calendar.
 -- Assumes nothing.
 use Prim.Native.Nat.{ℕ, zero, suc, _+_, _-_, _*_, _%_, _^_, _≤_, _<_}
-use Rattle.value_date.specs.Date.{fitsByte, shaped, dateShape, fieldAt, dateParts, leap, daysIn, isReal, Real, dateOf, daysOf, hoursAhead, dayText, timeText, letter, letterText, dateText}
+use Rattle.value_date.specs.Date.{fitsByte, shaped, dateShape, fieldAt, dateParts, leap, daysIn, isReal, Real, dateOf, daysOf, hoursAhead, dayText}
+use Rattle.value_date.specs.Date.{timeText, letter, letterText, dateText}
 use Rattle.value_date.specs.declared.Date.{Date}
 use Rattle.value_date.specs.declared.Dated.the-variants.{Is, Bad}
 use Rattle.text.proofs.Cuts.{drop-step}

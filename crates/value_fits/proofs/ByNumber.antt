@@ -5,7 +5,8 @@ use Rattle.value_name.specs.declared.MessageType.{MessageType}
 use Rattle.value_name.specs.declared.MessageType.the-variants.{Cb, Rc, Mg, Eb, Lb, Sr, Vq, Ri, Qr}
 use Rattle.value.proofs.Shape.{the-type}
 use Rattle.value.specs.declared.Shape.{Shape}
-use Rattle.value.specs.declared.Shape.the-variants.{IsId, IsUnit, IsWhen, IsAmount, IsCount, IsReason, IsNote, IsWord, IsProfile, IsBands, IsTriples, IsVoltage, IsRegulator, IsChange, IsReactive}
+use Rattle.value.specs.declared.Shape.the-variants.{IsId, IsUnit, IsWhen, IsAmount, IsCount, IsReason, IsNote, IsWord, IsProfile, IsBands, IsTriples, IsVoltage}
+use Rattle.value.specs.declared.Shape.the-variants.{IsRegulator, IsChange, IsReactive}
 use denote.Enum.Declared.{tagOf}
 use lib.Dec.{eqb, leb}
 use lib.ListN.{getD}
@@ -21,7 +22,8 @@ messageTypes = Cb ∷ Rc ∷ Mg ∷ Eb ∷ Lb ∷ Sr ∷ Vq ∷ Ri ∷ Qr ∷ []
 
 -- the shapes from 0 to 14: none has the number 0, and the words of 7 are not told by it
 abbrev shapes : List Shape
-shapes = IsUnit ∷ IsUnit ∷ IsWhen ∷ IsAmount ∷ IsCount ∷ IsReason ∷ IsNote ∷ IsWord 0 0 ∷ IsProfile ∷ IsBands ∷ IsTriples ∷ IsVoltage ∷ IsRegulator ∷ IsChange ∷ IsReactive ∷ []
+shapes =
+    IsUnit ∷ IsUnit ∷ IsWhen ∷ IsAmount ∷ IsCount ∷ IsReason ∷ IsNote ∷ IsWord 0 0 ∷ IsProfile ∷ IsBands ∷ IsTriples ∷ IsVoltage ∷ IsRegulator ∷ IsChange ∷ IsReactive ∷ []
 
 abbrev pub shapeAt : ℕ → Shape
 shapeAt n = cond (leb 21 n) (IsId (getD messageTypes (n - 21) Cb)) (getD shapes n IsUnit)

@@ -15,13 +15,16 @@ use Rattle.text.proofs.Tests.{told, Tells, leb-tells, itself, _and_, and-parts,
 use Rattle.text.specs.Bytes.{tidy}
 use Rattle.value.specs.Texts.{Rooms}
 use Rattle.value.specs.Valid.{Kept, Fits, Holds}
-use Rattle.value.specs.Valid.Fits.{id, unit, when, amount, count, reason, note, chosen, profile, bands, triples, in-kv, kv-word, in-rat, rat-word, in-change, in-mvar, mvar-word}
+use Rattle.value.specs.Valid.Fits.{id, unit, when, amount, count, reason, note, chosen, profile, bands, triples, in-kv, kv-word, in-rat, rat-word, in-change}
+use Rattle.value.specs.Valid.Fits.{in-mvar, mvar-word}
 use Rattle.value.specs.Valid.Holds.{blank, filled}
 use Rattle.value.specs.declared.Kind.{Kind}
 use Rattle.value.specs.declared.Shape.{Shape}
-use Rattle.value.specs.declared.Shape.the-variants.{IsId, IsUnit, IsWhen, IsAmount, IsCount, IsReason, IsNote, IsWord, IsProfile, IsBands, IsTriples, IsVoltage, IsRegulator, IsChange, IsReactive}
+use Rattle.value.specs.declared.Shape.the-variants.{IsId, IsUnit, IsWhen, IsAmount, IsCount, IsReason, IsNote, IsWord, IsProfile, IsBands, IsTriples, IsVoltage}
+use Rattle.value.specs.declared.Shape.the-variants.{IsRegulator, IsChange, IsReactive}
 use Rattle.value.specs.declared.Value.{Value}
-use Rattle.value.specs.declared.Value.the-variants.{Blank, Id, Unit as UnitOf, When, Amount, Count, Reason, Note, Word, List as Numbers, Triples, Voltage, Regulator, Change, Reactive}
+use Rattle.value.specs.declared.Value.the-variants.{Blank, Id, Unit as UnitOf, When, Amount, Count, Reason, Note, Word, List as Numbers, Triples, Voltage}
+use Rattle.value.specs.declared.Value.the-variants.{Regulator, Change, Reactive}
 use borrow.Author.Tests.{lt-ltb, ltb-true, eq-eqb, eqb-true, not-true}
 use lib.Dec.{eqb, ltb, leb, lit≤}
 use lib.ListN.{length, take}

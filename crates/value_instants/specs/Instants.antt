@@ -1,5 +1,5 @@
--- The date that a clock shows, by its letter, and the instants that dates give. Document 01, "Values" (the instant) and "The book of commands" (what no valid CB record gives).
--- Days are counted from the first of 2000, years from 2000.
+-- The date that a clock shows, by its letter, and the instants that dates give. Document 01, "Values" (the instant) and "The book of commands" (what
+-- no valid CB record gives). Days are counted from the first of 2000, years from 2000.
 use Prim.Native.Nat.{ℕ, zero, suc, _+_, _-_, _*_, _/_, _%_}
 use Rattle.value_date.specs.Date.{daysOf, instantOf}
 use Rattle.value_date.specs.declared.Date.{Date}

@@ -61,7 +61,9 @@ module _ (sep : ℕ) (s : List ℕ) (at e : ℕ) (inside : at ≤ length s) (ee 
   part-next ne =
       by-test (any (is sep) (drop at s))
       (λ h. let q : at + (firstOf sep (drop at s) + 1) ≡ e + 1 = omega arith in
-      let d : past (is sep) (drop at s) ≡ drop (e + 1) s = past-drop (is sep) (drop at s) ∙ drop-drop (firstOf sep (drop at s) + 1) at s ∙ ap (λ (k : ℕ). drop k s) q in
+      let d : past (is sep) (drop at s) ≡ drop (e + 1) s =
+      past-drop (is sep) (drop at s) ∙ drop-drop (firstOf sep (drop at s) + 1) at s
+      ∙ ap (λ (k : ℕ). drop k s) q in
       cut-some sep (drop at s) h ∙ rw (d, part-is))
       (λ n. absurd (ne (omega (arith, ap length (upto-all (is sep) (drop at s) n), length-drop at s))))
 

@@ -2,7 +2,8 @@
 -- Assumes nothing.
 use Prim.Native.Nat.{ℕ, zero, suc, _+_, _-_, _≤_, _<_}
 use Rattle.value_list.proofs.Cuts.{part-is, Sofar, read-count, all-read, all-room}
-use Rattle.value_list.specs.Forms.{amountRead, amountOf, numbersIn, numbersOf, listOf, listed, tripleOf, oneOf, oneIn, tripleIn, noTriple, gradientsOf, gradientsRead, gradientsIn}
+use Rattle.value_list.specs.Forms.{amountRead, amountOf, numbersIn, numbersOf, listOf, listed, tripleOf, oneOf, oneIn, tripleIn, noTriple, gradientsOf}
+use Rattle.value_list.specs.Forms.{gradientsRead, gradientsIn}
 use Rattle.value_list.specs.Lists.{someOf}
 use Rattle.value_list.specs.declared.Listed.{Listed}
 use Rattle.value_list.specs.declared.Listed.the-variants.{Are, Bad}
@@ -49,7 +50,8 @@ zeros-at z (a ∷ l) k (suc i) = zeros-at z l k i
 
 -- four places of a room, as the numbers that stand in front of its zeros
 four-places : (l values : List ℤ) (k n : ℕ) → l ++ replicate k (pos 0) ≡ values → length l ≡ n
-    → Are (record { count = n; first = getD values 0 (pos 0); second = getD values 1 (pos 0); third = getD values 2 (pos 0); fourth = getD values 3 (pos 0) }) ≡ listed (some l)
+    → Are (record { count = n; first = getD values 0 (pos 0); second = getD values 1 (pos 0); third = getD values 2 (pos 0); fourth = getD values 3 (pos 0) })
+    ≡ listed (some l)
 unfolding numbersOf
 four-places l values k n p e = λ i. Are (record { count = sym e i; first = place 0 i; second = place 1 i; third = place 2 i; fourth = place 3 i })
   where

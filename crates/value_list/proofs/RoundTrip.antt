@@ -4,7 +4,9 @@ use Prim.Native.Nat.{ℕ, _-_, _≤_}
 use Rattle.value_list.proofs.Back.{list-back, each-take, each-at, Known, list-known}
 use Rattle.value_list.proofs.Lines.{placesOf}
 use Rattle.value_list.proofs.Texts.{triple-bytes}
-use Rattle.value_list.specs.Forms.{amountRead, amountOf, numbersOf, listOf, listed, numbersIn, numbersText, tripleOf, oneOf, oneIn, tripleIs, tripleIn, noTriple, gradientsOf, gradientsRead, gradientsIn, tripleText, gradientsText, InRange, ValidNumbers, TripleRange, Each, ValidGradients}
+use Rattle.value_list.specs.Forms.{amountRead, amountOf, numbersOf, listOf, listed, numbersIn, numbersText, tripleOf, oneOf, oneIn, tripleIs, tripleIn}
+use Rattle.value_list.specs.Forms.{noTriple, gradientsOf, gradientsRead, gradientsIn, tripleText, gradientsText, InRange, ValidNumbers, TripleRange, Each}
+use Rattle.value_list.specs.Forms.{ValidGradients}
 use Rattle.value_list.specs.Lists.{someOf, listText}
 use Rattle.value_list.specs.declared.Listed.the-variants.{Are}
 use Rattle.value_list.specs.declared.Numbers.{Numbers}

@@ -167,7 +167,8 @@ module _ (sep : ℕ) (other : isOfNumber sep ≡ false) (s : List ℕ) (at : ℕ
           ∙ rw is-point (body-on sep other 46 (drop (at + w .count + 1) s) refl refl)
 
       pub whole-pointed : (m : Bool) (r : NumberAt)
-          → r ≡ ended (withSign m (joinedDigits (Are (w .value)) (fractionOf (46 ∷ partBody sep (drop (at + w .count + 1) s))))) (partEnd sep s (at + w .count + 1))
+          → r ≡ ended (withSign m (joinedDigits (Are (w .value)) (fractionOf (46 ∷ partBody sep (drop (at + w .count + 1) s)))))
+          (partEnd sep s (at + w .count + 1))
           → r ≡ ended (withSign m (unsignedOf (partBody sep (drop at s)))) (partEnd sep s at)
       whole-pointed m r e =
           let z = end-step sep other s (at + w .count) point-inside (rw is-point) ∙ whole-end in

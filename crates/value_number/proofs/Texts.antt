@@ -1,5 +1,5 @@
--- Writing: one step of the fraction's text along the number of its decimals, the texts' lengths, and the text of a number from the parts that the code computes.
--- Assumes nothing.
+-- Writing: one step of the fraction's text along the number of its decimals, the texts' lengths, and the text of a number from the parts that the
+-- code computes. Assumes nothing.
 use Prim.Native.Nat.{ℕ, zero, suc, _+_, _-_, _/_, _%_, _≤_, _<_}
 use Rattle.value_number.specs.Number.{fractionText, decimalsText, signText, numberText}
 use Rattle.text.proofs.Numerals.{length-text}

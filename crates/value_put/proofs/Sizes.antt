@@ -8,7 +8,8 @@ use Rattle.value_number.proofs.RoundTrip.{number-short}
 use Rattle.value_put.specs.Rooms.{Narrow}
 use Rattle.value.specs.Texts.{Rooms, valueText}
 use Rattle.value.specs.declared.Value.{Value}
-use Rattle.value.specs.declared.Value.the-variants.{Blank, Id, Unit, When, Amount, Count, Reason, Note, Word, List as Numbers, Triples, Voltage, Regulator, Change, Reactive}
+use Rattle.value.specs.declared.Value.the-variants.{Blank, Id, Unit, When, Amount, Count, Reason, Note, Word, List as Numbers, Triples, Voltage, Regulator}
+use Rattle.value.specs.declared.Value.the-variants.{Change, Reactive}
 use Rattle.value_word.proofs.RoundTrip.{word-short}
 use lib.ListN.{length, take, length-take}
 use mathlib.Core.List.{List}

@@ -4,7 +4,8 @@ use Prim.Native.String.{String}
 use Rattle.text.specs.Bytes.{bytes}
 use Rattle.value_word.specs.Names.{wNormale, wStai, wMantieniDifferenza, wSi, wNo, wGaudi, wScweb, wSa, wDa, wSospensione, wInserimento, wProgramma}
 use Rattle.value_word.specs.Names.{wI, wE, wRrt, wRts, wRat, wMan, wProfiloMemorizzato, wVsrif, wTensioneMt, wPotenzaReattiva}
-use Rattle.value_word.specs.Names.{wVMax, wVMin, wQZero, wMaxSovraeccitazione, wMaxSottoeccitazione, wRiservaAScendere, wRiservaASalire, wFinoAPmin, wFinoAPmax}
+use Rattle.value_word.specs.Names.{wVMax, wVMin, wQZero, wMaxSovraeccitazione, wMaxSottoeccitazione, wRiservaAScendere, wRiservaASalire, wFinoAPmin}
+use Rattle.value_word.specs.Names.{wFinoAPmax}
 use Rattle.value_word.specs.Words.{commandWords, modeWords, settingWords, words, word}
 use mathlib.Core.Path.{_≡_, refl}
 

@@ -17,7 +17,8 @@ use Rattle.record_valid.specs.Valid.{HoldAll}
 use Rattle.record_valid.specs.Valid.HoldAll.{end as ends, next as nexts}
 use Rattle.value.specs.Texts.{Rooms, rooms, valueText}
 use Rattle.value.specs.Valid.{Kept, Fits, Holds}
-use Rattle.value.specs.Valid.Fits.{id, unit, when, amount, count, reason, note, chosen, profile, bands, triples, in-kv, kv-word, in-rat, rat-word, in-change, in-mvar, mvar-word}
+use Rattle.value.specs.Valid.Fits.{id, unit, when, amount, count, reason, note, chosen, profile, bands, triples, in-kv, kv-word, in-rat, rat-word, in-change}
+use Rattle.value.specs.Valid.Fits.{in-mvar, mvar-word}
 use Rattle.value.specs.Valid.Holds.{blank, filled}
 use Rattle.value.specs.declared.Kind.{Kind}
 use Rattle.value.specs.declared.Shape.{Shape}

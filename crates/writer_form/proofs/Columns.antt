@@ -17,7 +17,8 @@ use Rattle.value.specs.Valid.{Holds}
 use Rattle.value.specs.Valid.Holds.{blank, filled}
 use Rattle.value.specs.declared.Kind.{Kind}
 use Rattle.value.specs.declared.Value.{Value}
-use Rattle.value.specs.declared.Value.the-variants.{Blank, Id, Unit, When, Amount, Count, Reason, Note, Word, List as Numbers, Triples, Voltage, Regulator, Change, Reactive}
+use Rattle.value.specs.declared.Value.the-variants.{Blank, Id, Unit, When, Amount, Count, Reason, Note, Word, List as Numbers, Triples, Voltage, Regulator}
+use Rattle.value.specs.declared.Value.the-variants.{Change, Reactive}
 use Rattle.writer_form.specs.Held.{Spoken, Held}
 use Rattle.writer_form.specs.Written.{valuesIn}
 use borrow.Author.Tests.{not-true, not-false}

@@ -12,7 +12,9 @@ enum-known-n : tie.Need-enum-known-n
 enum-known-n c = search needs
 
 cast-result : tie.Need-cast-result
-cast-result c = let q = length-fair _ _ _ _ _ _ _ (c .before .before .before .before .before .normalise .ensures) _ (c .before .n .given .1) in record { fits = omega (arith, q) }
+cast-result c =
+    let q = length-fair _ _ _ _ _ _ _ (c .before .before .before .before .before .normalise .ensures) _ (c .before .n .given .1) in
+    record { fits = omega (arith, q) }
 
 enum-known-number : tie.Need-enum-known-number
 enum-known-number c = search needs
@@ -24,10 +26,14 @@ mul-result : tie.Need-mul-result
 mul-result c = search needs
 
 cast-result-3 : tie.Need-cast-result-3
-cast-result-3 c = let q = refused-fair _ _ _ _ _ _ _ (c .before .before .before .before .before .normalise .ensures) _ _ (c .before .number .given .1) in record { fits = omega (arith, q .1) }
+cast-result-3 c =
+    let q = refused-fair _ _ _ _ _ _ _ (c .before .before .before .before .before .normalise .ensures) _ _ (c .before .number .given .1) in
+    record { fits = omega (arith, q .1) }
 
 add-result : tie.Need-add-result
-add-result c = let q = refused-fair _ _ _ _ _ _ _ (c .before .before .before .before .before .normalise .ensures) _ _ (c .before .number .given .1) in omega (arith, q .0, q .1)
+add-result c =
+    let q = refused-fair _ _ _ _ _ _ _ (c .before .before .before .before .before .normalise .ensures) _ _ (c .before .number .given .1) in
+    omega (arith, q .0, q .1)
 
 same-length : tie.Need-same-length
 same-length c = search needs

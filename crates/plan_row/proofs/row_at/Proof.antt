@@ -1,6 +1,7 @@
 -- Line by line: the first that is bad, or all four. (o, w, v and z are the places where the `ca`, the `ioa`, the `unit` and the `type` were read.)
 use Prim.Native.Nat.{ℕ, _+_, _≤_, _<_}
-use Rattle.plan_row.proofs.Readers.{At, bad-ca, ca-told, at-two, bad-ioa, ioa-told, at-three, twice, bad-unit, unit-from, at-four, bad-type, at-five, good-row}
+use Rattle.plan_row.proofs.Readers.{At, bad-ca, ca-told, at-two, bad-ioa, ioa-told, at-three, twice, bad-unit, unit-from, at-four, bad-type, at-five}
+use Rattle.plan_row.proofs.Readers.{good-row}
 use Rattle.plan_row.proofs.row_at.Statement.{statement}
 use Rattle.plan_row.proofs.row_at.Tie as tie
 use Rattle.text_keyline.specs.Keylines.{below}

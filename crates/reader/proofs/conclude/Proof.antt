@@ -19,7 +19,9 @@ accept-requires : tie.Need-accept-requires
 accept-requires c κs = search needs
 
 returns-2 : tie.Need-returns-2
-returns-2 c = c .accept .ensures ∙ ap accepted (c .before .record-of .ensures) ∙ concluded-yes _ (c .before .before .before .before .before .before .before .before .args .x) (c .before .before .before .before .before .if1 .left)
+returns-2 c =
+    c .accept .ensures ∙ ap accepted (c .before .record-of .ensures) ∙ concluded-yes _
+    (c .before .before .before .before .before .before .before .before .args .x) (c .before .before .before .before .before .if1 .left)
 
 pub conclude-spec : {M : Type 1} → statement M
 conclude-spec =

@@ -120,7 +120,8 @@ loop-again c =
     let z = still (l .loop .inv) (t .loop-test .taken) in
     record {
       going = λ e.
-          goes-on _ _ _ _ _ (located l .locate .ensures) (one g .if1 .left) _ (g .gradients-of .ensures) _ _ _ (running (l .loop .inv) (t .loop-test .taken)) (t .loop-test .taken)
+          goes-on _ _ _ _ _ (located l .locate .ensures) (one g .if1 .left) _ (g .gradients-of .ensures) _ _ _ (running (l .loop .inv) (t .loop-test .taken))
+          (t .loop-test .taken)
           _ (good c .value-in .ensures) _ (c .before .got .given .1);
       over = λ n. absurd (n z);
       told = λ n. absurd (n z);
@@ -136,7 +137,8 @@ stops c =
       going = λ e. absurd (omega (arith, e));
       over = λ n. refl;
       told = λ n y e.
-          stopped _ _ _ _ _ (located l .locate .ensures) (one g .if1 .left) _ (g .gradients-of .ensures) _ _ _ (running (l .loop .inv) (t .loop-test .taken)) (t .loop-test .taken)
+          stopped _ _ _ _ _ (located l .locate .ensures) (one g .if1 .left) _ (g .gradients-of .ensures) _ _ _ (running (l .loop .inv) (t .loop-test .taken))
+          (t .loop-test .taken)
           _ (v .value-in .ensures) (c .enum-told .given .1) e;
     }
 

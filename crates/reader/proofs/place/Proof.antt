@@ -24,10 +24,14 @@ unplaced-requires-2 : tie.Need-unplaced-requires-2
 unplaced-requires-2 c κs = search needs
 
 returns-2 : tie.Need-returns-2
-returns-2 c = c .unplaced2 .ensures ∙ absent _ _ (c .before .before .before .before .before .before .args .m) _ (c .before .before .before .before .if1 .left) _ (c .before .before .before .size .ensures) (c .before .if2 .taken)
+returns-2 c =
+    c .unplaced2 .ensures ∙ absent _ _ (c .before .before .before .before .before .before .args .m) _ (c .before .before .before .before .if1 .left) _
+    (c .before .before .before .size .ensures) (c .before .if2 .taken)
 
 returns-3 : tie.Need-returns-3
-returns-3 c = all-there _ _ (c .before .before .before .before .before .args .m) _ (c .before .before .before .if1 .left) _ (c .before .before .size .ensures) (c .if2 .left)
+returns-3 c =
+    all-there _ _ (c .before .before .before .before .before .args .m) _ (c .before .before .before .if1 .left) _ (c .before .before .size .ensures)
+    (c .if2 .left)
 
 pub place-spec : {M : Type 1} → statement M
 place-spec =

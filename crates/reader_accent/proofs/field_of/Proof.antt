@@ -8,7 +8,8 @@ use borrow.Author.Needs.{needs}
 use mathlib.Core.Path.{sym, ap, _∙_}
 
 returns : tie.Need-returns
-returns c = c .mode-of .ensures ∙ ap (λ (t : MessageType). accentField t (c .before .before .before .before .args .s .now)) (sym (c .before .enum-told .given .1))
+returns c =
+    c .mode-of .ensures ∙ ap (λ (t : MessageType). accentField t (c .before .before .before .before .args .s .now)) (sym (c .before .enum-told .given .1))
 
 returns-2 : tie.Need-returns-2
 returns-2 c =

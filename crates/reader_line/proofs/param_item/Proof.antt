@@ -93,7 +93,8 @@ returns-3 c =
     let left = t .before .before .if1 .left in
     a-label (z .args .t) _ (z .args .at) _ _ (f .first .ensures) left _ (t .trim .ensures) _ _
     (both .before .second-of .ensures) (both .first-of .ensures) _
-    (c .trim-span .ensures ∙ value-place (z .args .s .now) (z .args .at) (z .args .end) _ (z .pre .0) (z .pre .1) (f .first .ensures) left) (c .before .if2 .left)
+    (c .trim-span .ensures ∙ value-place (z .args .s .now) (z .args .at) (z .args .end) _ (z .pre .0) (z .pre .1) (f .first .ensures) left)
+    (c .before .if2 .left)
 
 pub param-item-spec : {M : Type 1} → statement M
 param-item-spec =

@@ -26,7 +26,9 @@ shl-t6 : tie.Need-shl-t6
 shl-t6 c = search needs
 
 add-t7 : tie.Need-add-t7
-add-t7 c = let z = c .before .before .before .before in record { fits = note-fits (z .args .m) (z .args .k) (c .before .before .before .if1 .left) (z .pre .0) (z .pre .1) }
+add-t7 c =
+    let z = c .before .before .before .before in
+    record { fits = note-fits (z .args .m) (z .args .k) (c .before .before .before .if1 .left) (z .pre .0) (z .pre .1) }
 
 returns-3 : tie.Need-returns-3
 returns-3 c = note-new _ _ (c .before .before .before .if1 .left) (c .before .before .before .before .pre .0) (c .before .if2 .left)

@@ -39,7 +39,8 @@ second-near : (c : tie.After-line-of Inv-loop μ-loop) → c .line-of .result .s
 second-near c = second-le _ _ _ _ _ (item-is _ _ _ _ _ (c .line-of .ensures))
 
 ended-at : (c : tie.After-line-of Inv-loop μ-loop)
-    → c .line-of .result .end ≡ c .before .before .loop .at + lineRun (accentsOf (begun c .args .t)) (drop (c .before .before .loop .at) (begun c .args .s .now))
+    → c .line-of .result .end ≡ c .before .before .loop .at + lineRun (accentsOf (begun c .args .t))
+    (drop (c .before .before .loop .at) (begun c .args .s .now))
 ended-at c = end-is _ _ _ _ _ (c .line-of .ensures)
 
 kept-first : (c : tie.After-note Inv-loop μ-loop) → c .note .result .into ≤ 26
@@ -56,7 +57,8 @@ line-of-requires c κs = let z = c .before .before .before in (c .before .loop .
 
 break-at-requires : tie.Need-break-at-requires Inv-loop μ-loop
 break-at-requires c κs =
-    end-near _ (accents-good (begun c .args .t)) (begun c .args .s .now) (c .before .before .loop .at) (c .line-of .result .end) (c .before .loop-test .taken) (ended-at c)
+    end-near _ (accents-good (begun c .args .t)) (begun c .args .s .now) (c .before .before .loop .at) (c .line-of .result .end) (c .before .loop-test .taken)
+    (ended-at c)
 
 enum-known-n : tie.Need-enum-known-n Inv-loop μ-loop
 enum-known-n c = search needs
@@ -97,7 +99,8 @@ add-at c =
     let told = frame .before .before .before in
     let ended = sym (told .n .given .1) ∙ told .before .before .break-at .ensures in
     let near =
-    past-near _ (accents-good (begun line .args .t)) (begun line .args .s .now) (line .before .before .loop .at) (line .line-of .result .end) (line .before .loop-test .taken) (ended-at line)
+    past-near _ (accents-good (begun line .args .t)) (begun line .args .s .now) (line .before .before .loop .at) (line .line-of .result .end)
+    (line .before .loop-test .taken) (ended-at line)
     _ ended in
     omega (arith, near, begun line .good .1 .0)
 
@@ -106,7 +109,8 @@ loop-less c =
     let frame = framed (c .before) in
     let line = lined frame in
     let told = frame .before .before .before in
-    shorter _ (accents-good (begun line .args .t)) _ _ _ (line .before .loop-test .taken) (ended-at line) _ (sym (told .n .given .1) ∙ told .before .before .break-at .ensures)
+    shorter _ (accents-good (begun line .args .t)) _ _ _ (line .before .loop-test .taken) (ended-at line) _
+    (sym (told .n .given .1) ∙ told .before .before .break-at .ensures)
 
 loop-again : tie.Need-loop-again Inv-loop μ-loop
 loop-again c =

@@ -56,7 +56,8 @@ loop-again c =
     (omega (arith, k), l .loop .inv .1, l .loop .inv .2 ∙ front-on rises _ (l .before .args .n) (l .before .args .t1) (l .loop .i) h k (sym (c .before .rises .ensures) ∙ not-false _ (c .if2 .left)))
 
 returns-3 : tie.Need-returns-3 Inv-loop μ-loop
-returns-3 c = sym (c .before .loop .inv .2 ∙ front-end rises (c .before .before .args .n) (c .before .before .args .t1) (c .before .loop .i) (omega (arith, c .loop-test .left, c .before .loop .inv .1)))
+returns-3 c =
+    sym (c .before .loop .inv .2 ∙ front-end rises (c .before .before .args .n) (c .before .before .args .t1) (c .before .loop .i) (omega (arith, c .loop-test .left, c .before .loop .inv .1)))
 
 pub all-rise-spec : {M : Type 1} → statement M
 all-rise-spec =

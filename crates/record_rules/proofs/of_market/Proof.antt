@@ -37,14 +37,16 @@ returns-4 c =
     let three = c .before .before in
     let two = three .before .before in
     broken-here _ _ _ (c .before .sloped .ensures) (c .if4 .taken) ∙ holds-on _ _ _ (three .before .profiled .ensures) (three .if3 .left)
-    ∙ holds-on _ _ _ (two .before .updated .ensures) (two .if2 .left) ∙ holds-on _ _ _ (two .before .before .before .in-order .ensures) (two .before .before .if1 .left)
+    ∙ holds-on _ _ _ (two .before .updated .ensures) (two .if2 .left)
+    ∙ holds-on _ _ _ (two .before .before .before .in-order .ensures) (two .before .before .if1 .left)
 
 returns-5 : tie.Need-returns-5
 returns-5 c =
     let three = c .before .before in
     let two = three .before .before in
     lowest-none ∙ holds-on _ _ _ (c .before .sloped .ensures) (c .if4 .left) ∙ holds-on _ _ _ (three .before .profiled .ensures) (three .if3 .left)
-    ∙ holds-on _ _ _ (two .before .updated .ensures) (two .if2 .left) ∙ holds-on _ _ _ (two .before .before .before .in-order .ensures) (two .before .before .if1 .left)
+    ∙ holds-on _ _ _ (two .before .updated .ensures) (two .if2 .left)
+    ∙ holds-on _ _ _ (two .before .before .before .in-order .ensures) (two .before .before .if1 .left)
 
 pub of-market-spec : {M : Type 1} → statement M
 of-market-spec =

@@ -8,7 +8,9 @@ use mir.ValLaws.{toZ-ofZ}
 
 returns : tie.Need-returns
 unfolding rises
-returns c = let t = c .before .before .before .before .args .t in rw (toZ-ofZ w32 (t .low) (search needs), toZ-ofZ w32 (t .high) (search needs), toZ-ofZ w32 (t .gradient) (search needs))
+returns c =
+    let t = c .before .before .before .before .args .t in
+    rw (toZ-ofZ w32 (t .low) (search needs), toZ-ofZ w32 (t .high) (search needs), toZ-ofZ w32 (t .gradient) (search needs))
 
 pub rises-spec : {M : Type 1} → statement M
 rises-spec = tie.close (tie.spec returns)

@@ -35,7 +35,8 @@ unfolding inTable table
 returns c =
     let l = c .before .before .before .before in
     let h : l .loop .k < length table = c .before .before .before .loop-test .taken in
-    let e : meets (l .before .line-of .result) (getD table (l .loop .k) (line 0 0 0 0 0 0 0)) ≡ true = ap (meets (l .before .line-of .result)) (sym (c .before .before .table-row .ensures)) ∙ sym (c .before .fits2 .ensures) ∙ c .if1 .taken in
+    let e : meets (l .before .line-of .result) (getD table (l .loop .k) (line 0 0 0 0 0 0 0)) ≡ true =
+    ap (meets (l .before .line-of .result)) (sym (c .before .before .table-row .ensures)) ∙ sym (c .before .fits2 .ensures) ∙ c .if1 .taken in
     rw (sym (l .before .line-of .ensures)) (sym (l .loop .inv .1 ∙ any-here (meets (l .before .line-of .result)) (line 0 0 0 0 0 0 0) table (l .loop .k) h e))
 
 add-k : tie.Need-add-k Inv-loop μ-loop
@@ -49,7 +50,8 @@ unfolding table
 loop-again c =
     let l = c .before .before .before .before in
     let h : l .loop .k < length table = c .before .before .before .loop-test .taken in
-    let e : meets (l .before .line-of .result) (getD table (l .loop .k) (line 0 0 0 0 0 0 0)) ≡ false = ap (meets (l .before .line-of .result)) (sym (c .before .before .table-row .ensures)) ∙ sym (c .before .fits2 .ensures) ∙ c .if1 .left in
+    let e : meets (l .before .line-of .result) (getD table (l .loop .k) (line 0 0 0 0 0 0 0)) ≡ false =
+    ap (meets (l .before .line-of .result)) (sym (c .before .before .table-row .ensures)) ∙ sym (c .before .fits2 .ensures) ∙ c .if1 .left in
     (omega (arith, h), l .loop .inv .1 ∙ any-on (meets (l .before .line-of .result)) (line 0 0 0 0 0 0 0) table (l .loop .k) h e)
 
 returns-2 : tie.Need-returns-2 Inv-loop μ-loop

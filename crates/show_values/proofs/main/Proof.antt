@@ -36,7 +36,8 @@ front-requires : tie.Need-front-requires Inv-loop μ-loop
 front-requires c κs = search needs
 
 loop-holds : tie.Need-loop-holds Inv-loop μ-loop
-loop-holds c = (short (c .before .before .before .read-full .result) (c .front .result .now) (c .before .before .before .read-full .last .1 .0) (c .front .ensures) (search needs), omega arith)
+loop-holds c =
+    (short (c .before .before .before .read-full .result) (c .front .result .now) (c .before .before .before .read-full .last .1 .0) (c .front .ensures) (search needs), omega arith)
 
 rest-requires : tie.Need-rest-requires Inv-loop μ-loop
 rest-requires c κs = search needs

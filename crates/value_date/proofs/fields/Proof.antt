@@ -30,7 +30,9 @@ pair-requires-5 : tie.Need-pair-requires-5
 pair-requires-5 c κs = shape-asks _ 17 2 (c .before .before .before .before .before .before .pre) (lit≤ tt) refl
 
 shared-slice-read-legal : tie.Need-shared-slice-read-legal
-shared-slice-read-legal c = let s = c .before .before .before .before .before .before .before .before in omega (arith, shape-length dateShape (s .args .s .now) (s .pre))
+shared-slice-read-legal c =
+    let s = c .before .before .before .before .before .before .before .before in
+    omega (arith, shape-length dateShape (s .args .s .now) (s .pre))
 
 returns : tie.Need-returns
 unfolding dateParts

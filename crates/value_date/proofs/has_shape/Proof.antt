@@ -37,7 +37,9 @@ returns-2 c =
     let f = c .before in
     let l = f .before .before .before .before in
     let a = l .before .before .before .before .args in
-    let no : fitsByte (getD (a .shape .now) (l .loop .i) 0) (getD (a .s .now) (l .loop .i) 0) ≡ false = sym (f .fits-byte .ensures) ∙ not-true _ (c .if2 .taken) in
+    let no : fitsByte (getD (a .shape .now) (l .loop .i) 0) (getD (a .s .now) (l .loop .i) 0) ≡ false =
+    sym (f .fits-byte .ensures)
+    ∙ not-true _ (c .if2 .taken) in
     sym (sym (l .loop .inv .2) ∙ shape-off (a .shape .now) (a .s .now) (l .loop .i) (omega arith) (omega arith) no)
 
 add-i : tie.Need-add-i Inv-loop μ-loop
@@ -51,7 +53,9 @@ loop-again c =
     let f = c .before in
     let l = f .before .before .before .before in
     let a = l .before .before .before .before .args in
-    let fits : fitsByte (getD (a .shape .now) (l .loop .i) 0) (getD (a .s .now) (l .loop .i) 0) ≡ true = sym (f .fits-byte .ensures) ∙ not-false _ (c .if2 .left) in
+    let fits : fitsByte (getD (a .shape .now) (l .loop .i) 0) (getD (a .s .now) (l .loop .i) 0) ≡ true =
+    sym (f .fits-byte .ensures)
+    ∙ not-false _ (c .if2 .left) in
     (omega arith, omega arith, sym (shape-on (a .shape .now) (a .s .now) (l .loop .i) (omega arith) (omega arith) fits) ∙ l .loop .inv .2)
 
 returns-3 : tie.Need-returns-3 Inv-loop μ-loop

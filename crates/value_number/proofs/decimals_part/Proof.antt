@@ -67,7 +67,8 @@ abbrev scaled-at : tie.After-struct-known4 → tie.After-scale
 scaled-at c = c .before .before
 
 inside : (c : tie.After-struct-known4)
-    → start (led-at (scaled-at c .before)) .args .at + led-at (scaled-at c .before) .lead .result .count ≤ length (start (led-at (scaled-at c .before)) .args .s .now)
+    → start (led-at (scaled-at c .before)) .args .at + led-at (scaled-at c .before) .lead .result .count ≤ length
+    (start (led-at (scaled-at c .before)) .args .s .now)
 inside c =
     let l = led-at (scaled-at c .before) in
     let a = start l in

@@ -17,7 +17,10 @@ are-none-requires : tie.Need-are-none-requires
 are-none-requires c κs = search needs
 
 returns-3 : tie.Need-returns-3
-returns-3 c = let a = c .before .before .before .before .args in rw (c .before .are-ranged .ensures, c .are-none .ensures) (these-triples (a .values) (a .n) (c .before .before .before .if1 .left) (c .before .before .if2 .left) (search needs))
+returns-3 c =
+    let a = c .before .before .before .before .args in
+    rw (c .before .are-ranged .ensures, c .are-none .ensures)
+    (these-triples (a .values) (a .n) (c .before .before .before .if1 .left) (c .before .before .if2 .left) (search needs))
 
 pub are-listed-spec : {M : Type 1} → statement M
 are-listed-spec =

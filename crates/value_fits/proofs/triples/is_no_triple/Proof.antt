@@ -7,7 +7,9 @@ use borrow.Author.Needs.{needs}
 
 returns : tie.Need-returns
 unfolding isNoTriple
-returns c = let x = c .before .before .before .before .before .before .args .x in rw (zero-bits (x .low) (search needs), zero-bits (x .high) (search needs), zero-bits (x .gradient) (search needs))
+returns c =
+    let x = c .before .before .before .before .before .before .args .x in
+    rw (zero-bits (x .low) (search needs), zero-bits (x .high) (search needs), zero-bits (x .gradient) (search needs))
 
 pub is-no-triple-spec : {M : Type 1} → statement M
 is-no-triple-spec = tie.close (tie.spec returns)

@@ -16,7 +16,8 @@ returns : tie.Need-returns
 unfolding numbersText tripleText
 returns c =
     let t = c .before .before .before .before .before .before .args .t in
-    rw (toZ-ofZ w32 (t .low) (search needs), toZ-ofZ w32 (t .high) (search needs), toZ-ofZ w32 (t .gradient) (search needs)) at (c .before .before .put .ensures)
+    rw (toZ-ofZ w32 (t .low) (search needs), toZ-ofZ w32 (t .high) (search needs), toZ-ofZ w32 (t .gradient) (search needs)) at
+    (c .before .before .put .ensures)
 
 pub put-triple-spec : {M : Type 1} → statement M
 put-triple-spec = tie.close (tie.spec put-requires same-length returns)
