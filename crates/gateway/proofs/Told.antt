@@ -41,8 +41,10 @@ module _ (ca ioa : ℕ) (plan file : List ℕ) (x : Reading) (is : x ≡ reading
     refused-as = concluded-no file x no ∙ reads .answers
 
     pub small-refusal : (x .detail < 65536) × (x .number ≤ 13)
-    small-refusal =
-        (omega (arith, detail-small ca ioa plan file, ap (λ (a : Answer). a .detail) refused-as), omega (arith, number-small ca ioa plan file, ap (λ (a : Answer). a .number) refused-as))
+    small-refusal = (
+      omega (arith, detail-small ca ioa plan file, ap (λ (a : Answer). a .detail) refused-as),
+      omega (arith, number-small ca ioa plan file, ap (λ (a : Answer). a .number) refused-as),
+    )
 
     pub refused-told : (out : List ℕ) → Ends out answer (x .number * 65536 + x .detail) out
     refused-told out = subst (λ (a : Answer). Ends out a (x .number * 65536 + x .detail) out) refused-as (refused-end out (x .number) (x .detail) no)

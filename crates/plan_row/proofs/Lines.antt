@@ -178,7 +178,13 @@ module _ (key : List ℕ) (most : ℕ) (s : List ℕ) where
             refused-whole most (valueIn key s)
             (by-eq (r .count) (runOf isDigit left)
             (λ run. refused-other 10 (valueIn key s) (line-more key s clean begins isDigit refl (r .count) (whole-run run) n g))
-            (λ more. refused-long 10 (valueIn key s) (omega (arith, more, count-is, run-within isDigit 10 refl left, ap length (line-value key s clean begins)))))
+            (λ more. refused-long 10 (valueIn key s) (omega (
+              arith,
+              more,
+              count-is,
+              run-within isDigit 10 refl left,
+              ap length (line-value key s clean begins),
+            ))))
 
         module _ (g : getD s (length key + r .count) 0 ≡ 10) where
           abbrev digits : List ℕ

@@ -58,7 +58,14 @@ module _ (t : MessageType) (file : List ℕ) (at n h : ℕ) (x : Expected) (hx :
 
   pub expected-fits : at ≤ length file → at + h ≤ length file
   expected-fits a =
-      omega (arith, ap length (begins .cut), length-append label (begins .front ++ 61 ∷ drop h (drop at file)), length-append (begins .front) (61 ∷ drop h (drop at file)), begins .size, length-drop at file)
+      omega (
+        arith,
+        ap length (begins .cut),
+        length-append label (begins .front ++ 61 ∷ drop h (drop at file)),
+        length-append (begins .front) (61 ∷ drop h (drop at file)),
+        begins .size,
+        length-drop at file,
+      )
 
   -- the line ends where the bytes behind '=' do
   pub expected-end : (end k : ℕ) → k ≡ plainRun (drop (at + h) file) → end ≡ at + h + k → end ≡ at + plainRun (drop at file)

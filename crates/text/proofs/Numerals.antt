@@ -106,7 +106,13 @@ module _ (s : List ℕ) (most i v : ℕ) (low : i ≤ most) (so-far : skip isDig
   pub lead-end : i ≤ length s → (ltb i (length s) && ltb i most) ≡ false → record { count = i; value = v } ≡ leadOf most s
   lead-end h n =
       by-le (length s) i (λ k. led (omega (arith, run-end isDigit s i so-far h k)))
-      (λ k. let m : ltb i most ≡ false = rw (lt-ltb i (length s) k) at n in led (omega (arith, ltb-false i most m, ap length so-far, skip-length isDigit (drop i s), length-drop i s)))
+      (λ k. let m : ltb i most ≡ false = rw (lt-ltb i (length s) k) at n in led (omega (
+        arith,
+        ltb-false i most m,
+        ap length so-far,
+        skip-length isDigit (drop i s),
+        length-drop i s,
+      )))
 
 -- digits write less than the power of ten of their count
 number-below : (acc : ℕ) (s : List ℕ) → all isDigit s ≡ true → numberFrom acc s < (acc + 1) * 10 ^ length s

@@ -53,7 +53,12 @@ module _ (p : ℕ → Bool) (no-zero : p 0 ≡ false) where
   kept-front n s h k i e =
       let z : keptIn n s ≡ s ++ replicate (n - length s) 0 = rw (le-leb (length s) n h) in
       let w : k ≤ length s + (n - length s) =
-      omega (arith, subst (λ (x : List ℕ). k ≤ length x) z i, length-append {A = ℕ} s (replicate (n - length s) 0), length-replicate {A = ℕ} (n - length s) 0) in
+      omega (
+        arith,
+        subst (λ (x : List ℕ). k ≤ length x) z i,
+        length-append {A = ℕ} s (replicate (n - length s) 0),
+        length-replicate {A = ℕ} (n - length s) 0,
+      ) in
       rw z (past-text s (n - length s) k w (subst (λ (x : List ℕ). all p (take k x) ≡ true) z e))
 
 -- a text that can stand as a value

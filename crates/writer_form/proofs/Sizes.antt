@@ -190,7 +190,14 @@ row-short : (l : Layout) (col : List (List ℕ)) (ks : List Kind) → ((k : ℕ)
 unfolding rowOf piecesOf
 row-short l col ks h =
     let fields = map (textAt col) (rowFields l) in
-    omega (arith, row-weight (fields ++ bandsIn l col), weigh-append length fields (bandsIn l col), weigh-map length (textAt col) (capAt ks) h (rowFields l), bands-short l col, h 6)
+    omega (
+      arith,
+      row-weight (fields ++ bandsIn l col),
+      weigh-append length fields (bandsIn l col),
+      weigh-map length (textAt col) (capAt ks) h (rowFields l),
+      bands-short l col,
+      h 6,
+    )
 
 -- the row between its separators
 block-length : (row : List ℕ) → length (linesText (block row)) ≡ length row + 13

@@ -74,8 +74,10 @@ loop-less c = search needs
 
 loop-again : tie.Need-loop-again Inv-loop μ-loop Inv-loop2 μ-loop2
 loop-again c =
-    let l = c .before .before .before .before .before .before in
-    (omega arith, l .loop .inv .1 ∙ four-on (l .before .args .keys .now) _ (l .loop .k) (c .before .before .before .before .before .loop-test .taken) (c .if1 .left))
+    let l = c .before .before .before .before .before .before in (
+      omega arith,
+      l .loop .inv .1 ∙ four-on (l .before .args .keys .now) _ (l .loop .k) (c .before .before .before .before .before .loop-test .taken) (c .if1 .left),
+    )
 
 loop2-holds : tie.Need-loop2-holds Inv-loop μ-loop Inv-loop2 μ-loop2
 loop2-holds c = c .before .loop .inv

@@ -67,8 +67,12 @@ skip-mark-requires : tie.Need-skip-mark-requires Inv-loop μ-loop
 skip-mark-requires c κs =
     let s = c .before .before .before .loop .inv in
     let h = c .before .before .loop-test .taken in
-    let f = c .before .field .ensures in
-    (s .near, s .inside, s .placed .ordered _ (field-some _ _ _ _ _ _ _ _ s h _ f) (field-in _ _ _ _ _ _ _ _ s h _ f), s .placed .inside _ (field-some _ _ _ _ _ _ _ _ s h _ f) (field-in _ _ _ _ _ _ _ _ s h _ f))
+    let f = c .before .field .ensures in (
+      s .near,
+      s .inside,
+      s .placed .ordered _ (field-some _ _ _ _ _ _ _ _ s h _ f) (field-in _ _ _ _ _ _ _ _ s h _ f),
+      s .placed .inside _ (field-some _ _ _ _ _ _ _ _ s h _ f) (field-in _ _ _ _ _ _ _ _ s h _ f),
+    )
 
 enum-known-next : tie.Need-enum-known-next Inv-loop μ-loop
 enum-known-next c = search needs

@@ -30,7 +30,11 @@ returns : tie.Need-returns Inv-loop μ-loop
 returns c =
     let l = c .before .before .before in
     let s = l .before .args .s .now in
-    omega (arith, ap length (l .loop .inv .1 ∙ end-here isBlank 0 s (l .loop .e) (c .before .before .loop-test .taken) (l .loop .inv .0) (ne-eqb _ _ (c .if1 .taken))), length-take (l .loop .e) s)
+    omega (
+      arith,
+      ap length (l .loop .inv .1 ∙ end-here isBlank 0 s (l .loop .e) (c .before .before .loop-test .taken) (l .loop .inv .0) (ne-eqb _ _ (c .if1 .taken))),
+      length-take (l .loop .e) s,
+    )
 
 sub-e : tie.Need-sub-e Inv-loop μ-loop
 sub-e c = search needs

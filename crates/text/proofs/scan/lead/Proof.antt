@@ -39,8 +39,10 @@ loop-less c = search needs
 
 loop-again : tie.Need-loop-again Inv-loop μ-loop Inv-loop2 μ-loop2
 loop-again c =
-    let l = c .before .before .before in
-    (omega arith, l .loop .inv .1 ∙ skip-over isBlank (l .before .before .args .s .now) (l .loop .n) 8 (sym (c .before .eight-are .ensures) ∙ not-false _ (c .if1 .left)))
+    let l = c .before .before .before in (
+      omega arith,
+      l .loop .inv .1 ∙ skip-over isBlank (l .before .before .args .s .now) (l .loop .n) 8 (sym (c .before .eight-are .ensures) ∙ not-false _ (c .if1 .left)),
+    )
 
 loop2-holds : tie.Need-loop2-holds Inv-loop μ-loop Inv-loop2 μ-loop2
 loop2-holds c = search needs
@@ -52,7 +54,11 @@ returns : tie.Need-returns Inv-loop μ-loop Inv-loop2 μ-loop2
 returns c =
     let l = c .before .before .before in
     let s = l .before .before .before .before .args .s .now in
-    omega (arith, ap length (l .loop2 .inv .1 ∙ skip-here isBlank 0 s (l .loop2 .n) (c .before .before .loop2-test .taken) (ne-eqb _ _ (c .if2 .taken))), length-drop (l .loop2 .n) s)
+    omega (
+      arith,
+      ap length (l .loop2 .inv .1 ∙ skip-here isBlank 0 s (l .loop2 .n) (c .before .before .loop2-test .taken) (ne-eqb _ _ (c .if2 .taken))),
+      length-drop (l .loop2 .n) s,
+    )
 
 add-n-2 : tie.Need-add-n-2 Inv-loop μ-loop Inv-loop2 μ-loop2
 add-n-2 c = search needs

@@ -51,7 +51,12 @@ add-w : tie.Need-add-w Inv-loop μ-loop
 add-w c =
     let l = c .before .before in
     let s = l .before .before .before in
-    omega (arith, l .loop .inv .2, word-room (s .before .args .s .now) (l .loop .k) (s .shared-slice-known .given) (omega arith), c .shared-slice-known2 .given (l .loop .k - 1))
+    omega (
+      arith,
+      l .loop .inv .2,
+      word-room (s .before .args .s .now) (l .loop .k) (s .shared-slice-known .given) (omega arith),
+      c .shared-slice-known2 .given (l .loop .k - 1),
+    )
 
 loop-less : tie.Need-loop-less Inv-loop μ-loop
 loop-less c = search needs

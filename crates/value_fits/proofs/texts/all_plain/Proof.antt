@@ -41,8 +41,10 @@ loop-less c = search needs
 
 loop-again : tie.Need-loop-again Inv-loop μ-loop
 loop-again c =
-    let l = c .before .before .before .before in
-    (omega arith, l .loop .inv .1 ∙ all-on isPlain 0 _ _ (c .before .before .before .loop-test .taken) (within-tells 32 126 _ .1 (c .before .if1 .left, c .if2 .left)))
+    let l = c .before .before .before .before in (
+      omega arith,
+      l .loop .inv .1 ∙ all-on isPlain 0 _ _ (c .before .before .before .loop-test .taken) (within-tells 32 126 _ .1 (c .before .if1 .left, c .if2 .left)),
+    )
 
 returns-3 : tie.Need-returns-3 Inv-loop μ-loop
 returns-3 c = sym (c .before .loop .inv .1 ∙ all-end isPlain _ _ (c .loop-test .left))

@@ -48,8 +48,11 @@ loop-again c =
     let l = c .before .before .before .before in
     let a = l .before .args in
     let t = c .before .before .before .loop-test .taken in
-    let h : l .loop .i < length (a .t1) = omega (arith, l .before .pre, l .loop .inv .1, t) in
-    (omega arith, l .loop .inv .1, l .loop .inv .2 ∙ front-on isRanged _ (a .n) (a .t1) (l .loop .i) h t (sym (c .before .is-ranged .ensures) ∙ not-false _ (c .if1 .left)))
+    let h : l .loop .i < length (a .t1) = omega (arith, l .before .pre, l .loop .inv .1, t) in (
+      omega arith,
+      l .loop .inv .1,
+      l .loop .inv .2 ∙ front-on isRanged _ (a .n) (a .t1) (l .loop .i) h t (sym (c .before .is-ranged .ensures) ∙ not-false _ (c .if1 .left)),
+    )
 
 returns-2 : tie.Need-returns-2 Inv-loop μ-loop
 returns-2 c =

@@ -52,14 +52,25 @@ at-next : (c : tie.After-nth Inv-loop μ-loop) → toZ w32 (ofZ w32 (c .nth .res
 at-next c =
     let l = c .before .before .before .before .before .before .before in
     toZ-ofZ w32 (c .nth .result) (record { sfits = c .nth .ok }) ∙ c .nth .ensures
-    ∙ held-at (start-of l .args .x) (l .loop .i) (omega (arith, c .before .before .before .before .before .before .loop-test .taken, l .before .before .before .before .before .before .before .held .ensures))
+    ∙ held-at (start-of l .args .x) (l .loop .i) (omega (
+      arith,
+      c .before .before .before .before .before .before .loop-test .taken,
+      l .before .before .before .before .before .before .before .held .ensures,
+    ))
 
 -- the place in the loop stays near
 near : (l : tie.At-loop Inv-loop μ-loop) → l .loop .p ≤ start-of l .args .at + 51
 near l =
     let s = start-of l in
     let x = s .args .x in
-    omega (arith, place-near numberText (s .args .sep) 12 number-short (l .loop .inv .2), length-drop 1 (listOf x), l .before .before .before .before .before .before .before .held .ensures, l .before .before .before .put .ensures .0, number-short (toZ w32 (ofZ w32 (x .first))))
+    omega (
+      arith,
+      place-near numberText (s .args .sep) 12 number-short (l .loop .inv .2),
+      length-drop 1 (listOf x),
+      l .before .before .before .before .before .before .before .held .ensures,
+      l .before .before .before .put .ensures .0,
+      number-short (toZ w32 (ofZ w32 (x .first))),
+    )
 
 put-byte-requires : tie.Need-put-byte-requires Inv-loop μ-loop
 put-byte-requires c κs = let n = near (c .before .before) in search needs
@@ -81,8 +92,11 @@ loop-again c =
     let m = c .before .before in
     let b = c .before .before .before .before .before .before .before in
     let l = b .before .before .before in
-    let h = l .before .before .before .before .before .before .before .held .ensures in
-    (omega arith, omega arith, next-put numberText _ (pos 0) _ (l .loop .inv .2) (at-next (m .before)) (omega arith) (puts-of 1 refl (b .put-byte .ensures)) (puts (m .put2 .ensures)))
+    let h = l .before .before .before .before .before .before .before .held .ensures in (
+      omega arith,
+      omega arith,
+      next-put numberText _ (pos 0) _ (l .loop .inv .2) (at-next (m .before)) (omega arith) (puts-of 1 refl (b .put-byte .ensures)) (puts (m .put2 .ensures)),
+    )
 
 same-length : tie.Need-same-length Inv-loop μ-loop
 same-length c = let k = same-room _ _ (c .before .loop .inv .2) in search needs

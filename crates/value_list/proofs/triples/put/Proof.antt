@@ -60,7 +60,15 @@ near : (l : tie.At-loop Inv-loop μ-loop) → l .loop .p ≤ start-of l .args .a
 near l =
     let s = start-of l in
     let h = l .before .before .before .before .before .before .before in
-    omega (arith, place-near tripleText 59 38 triple-short (l .loop .inv .2), length-drop 1 (list-of s), all-of h, h .at-most-16 .ensures, l .before .before .before .put-triple .ensures .0, triple-short (getD (s .args .t3) 0 noTriple))
+    omega (
+      arith,
+      place-near tripleText 59 38 triple-short (l .loop .inv .2),
+      length-drop 1 (list-of s),
+      all-of h,
+      h .at-most-16 .ensures,
+      l .before .before .before .put-triple .ensures .0,
+      triple-short (getD (s .args .t3) 0 noTriple),
+    )
 
 put-byte-requires : tie.Need-put-byte-requires Inv-loop μ-loop
 put-byte-requires c κs = let n = near (c .before .before) in search needs
