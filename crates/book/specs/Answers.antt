@@ -8,6 +8,8 @@ use Rattle.book.specs.declared.InForce.the-variants.{Refused, Nothing, N
 use Rattle.book.specs.declared.Outcome.{Outcome}
 use Rattle.book_ledger.specs.Calls.{Call, ask, Deed, couldAsk}
 use Rattle.book_ledger.specs.Ledger.{fresh, rungsOf, isFull, answer, effect, step, inForce}
+use Rattle.book_places.specs.declared.Tally.{Tally}
+use Rattle.book_places.specs.declared.Tally.the-variants.{Malformed, Holds}
 use Rattle.value_name.specs.Names.{isUnit}
 use Rattle.text.specs.Refusals.{refusal, firstNumber}
 use Rattle.text.specs.Said.{Said, said}
@@ -50,6 +52,12 @@ deedOutcomeOf d b = outcome (deedNumber d b) (deedNext d b)
 -- THE DEFINITION: a fresh book for a unit. 21, the code is bad, with the all-zero book
 unfoldable pub freshOf : List ℕ → Outcome
 freshOf unit = cond (isUnit unit) (outcome 0 (bookOf (fresh unit))) (outcome 21 zeroBook)
+
+-- ---- how many orders a book holds: 20, or their count
+
+abbrev pub ofTally : Tally → Said
+ofTally Malformed = said 20 0 []
+ofTally (Holds n) = said 0 0 (n ∷ [])
 
 -- ---- the question which order is in force
 

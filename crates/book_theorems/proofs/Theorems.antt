@@ -1,8 +1,8 @@
 -- Demand 3 of the book with its 96 places: the ledger's theorems, carried over. Assumes nothing.
 use Prim.Native.Nat.{ℕ, zero, suc}
 use Rattle.book.proofs.Formed.{shelf-book}
-use Rattle.book.specs.Answers.{callNumber, nextOf, deedNumber, deedNext, freshOf, found, foundNumber, askedAs, ofInForce, askedOf}
-use Rattle.book.specs.Places.{shelf, zeroBook, formedUnit, formedBook}
+use Rattle.book.specs.Answers.{callNumber, nextOf, deedNumber, deedNext, freshOf, found, foundNumber, askedAs, ofInForce, ofTally, askedOf}
+use Rattle.book.specs.Places.{shelf, zeroBook, formedUnit, formedBook, tallyOf}
 use Rattle.book.specs.declared.Book.{Book}
 use Rattle.book_ledger.proofs.Agreement.{same-answer, same-in-force}
 use Rattle.book_ledger.proofs.Removal.{removal as ledger-removal, whole-answers as ledger-answers}
@@ -163,3 +163,9 @@ refused-same k b refused h u =
 pub deed-same : (d : Deed) (b : Book) → (deedNumber d b ≡ 0 → ⊥) → deedNext d b ≡ b
 unfolding deedNext
 deed-same d b refused = rw (ne-eqb (deedNumber d b) 0 refused)
+
+-- ---- what the tally says
+
+pub tally-says : (b : Book) → ofTally (tallyOf b) ≡ cond (formedBook b) (said 0 0 (length (shelf b .orders) ∷ [])) (said 20 0 [])
+unfolding tallyOf
+tally-says b = by-test (formedBook b) (λ e. rw e) (λ e. rw e)

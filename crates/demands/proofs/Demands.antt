@@ -4,7 +4,7 @@ use Rattle.book.specs.Answers.{freshOf, ofInForce, askedOf}
 use Rattle.book_ledger.specs.History.{ledgerOf}
 use Rattle.book_ledger.specs.Ledger.{inForce}
 use Rattle.book_source.proofs.Given.{given-tells}
-use Rattle.book_theorems.proofs.Theorems.{kept, unkept, found-says, asked-refusal, removal, refused-same, deed-same}
+use Rattle.book_theorems.proofs.Theorems.{kept, unkept, found-says, asked-refusal, removal, refused-same, deed-same, tally-says}
 use Rattle.book_theorems.proofs.Lift.{deed-formed}
 use Rattle.book_theorems.specs.Books.{history}
 use Rattle.demands.proofs.Answers as answers
@@ -101,5 +101,6 @@ demand-3 =
       could-come = given-tells;
       asked = asked-refusal;
       left-out = removal;
+      tallied = tally-says;
       deeds-keep = deed-formed;
     }

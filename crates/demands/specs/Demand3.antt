@@ -1,8 +1,8 @@
 -- Demand 3, sentence by sentence: what `Kept`, `Revoked` and `LeftOut` say is in book_theorems/specs/Books.antt and book_ledger/specs/Demand.antt; `ofInForce`,
 -- what the answer to the question says, in book/specs/Answers.antt.
 use Prim.Native.Nat.{ℕ, _≤_}
-use Rattle.book.specs.Answers.{callNumber, ofInForce, foundNumber, askedOf, freshOf, deedOutcomeOf}
-use Rattle.book.specs.Places.{shelf, formedBook}
+use Rattle.book.specs.Answers.{callNumber, ofTally, ofInForce, foundNumber, askedOf, freshOf, deedOutcomeOf}
+use Rattle.book.specs.Places.{shelf, formedBook, tallyOf}
 use Rattle.book.specs.declared.Book.{Book}
 use Rattle.book_ledger.specs.Calls.{Call, ask, names, Deed}
 use Rattle.book_ledger.specs.Demand.{Revoked, LeftOut}
@@ -18,7 +18,7 @@ use Rattle.value_name.specs.Names.{isUnit}
 use lib.Dec.{eqb}
 use lib.ListN.{length}
 use mathlib.Core.Bool.{true, false, cond}
-use mathlib.Core.List.{List, []}
+use mathlib.Core.List.{List, [], _∷_}
 use mathlib.Core.Logic.{_↔_}
 use mathlib.Core.Path.{_≡_}
 
@@ -45,5 +45,7 @@ pub record Demand3 : Type 0 where
   pub left-out : (unit : List ℕ) (before between later : List Call) (c v : Record)
       → Revoked books (bookFor unit) (names unit) before between later c v
       → LeftOut books (bookFor unit) (names unit) before between later c v
+  -- how many orders a book holds: 20 where it is malformed, else their count
+  pub tallied : (b : Book) → ofTally (tallyOf b) ≡ cond (formedBook b) (said 0 0 (length (shelf b .orders) ∷ [])) (said 20 0 [])
   -- what the deeds without a message do, held or struck: a book that is not malformed stays so
   pub deeds-keep : (d : Deed) (b : Book) → length (b .orders) ≡ 96 → formedBook b ≡ true → formedBook (deedOutcomeOf d b .book) ≡ true
