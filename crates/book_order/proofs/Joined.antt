@@ -10,7 +10,7 @@ four : (a b c d : Bool) → ((a && b) && c) && d ≡ a && (b && (c && d))
 four true b c d = three b c d
 four false b c d = refl
 
-pub five : (a b c d e : Bool) → (((a && b) && c) && d) && e ≡ a && (b && (c && (d && e)))
+five : (a b c d e : Bool) → (((a && b) && c) && d) && e ≡ a && (b && (c && (d && e)))
 five true b c d e = four b c d e
 five false b c d e = refl
 

@@ -120,19 +120,28 @@ fn fits_layout(l: Layout, apart: u32, second: i32) -> bool
     }
 }
 
-// Whether some valid CB record gives the order, struck or not.
+// Whether some valid CB record gives the order, struck or not. One test after another: an order that is held passes them all, and tests that are joined
+// would have to be kept until the last of them.
 pub fn could_come(o: Order) -> bool
     ensures { λ r. ⌜ r ≡ couldCome o ⌝ }
 {
     if o.end < o.start {
         return false;
     }
+    if value_bounds::MOST_NUMBER < o.number {
+        return false;
+    }
+    if !value_bounds::is_instant(o.start) {
+        return false;
+    }
+    if !value_bounds::is_instant(o.end) {
+        return false;
+    }
+    if !value_bounds::is_amount(o.first) {
+        return false;
+    }
     let l = o.layout;
-    (o.number <= value_bounds::MOST_NUMBER)
-        & value_bounds::is_instant(o.start)
-        & value_bounds::is_instant(o.end)
-        & value_bounds::is_amount(o.first)
-        & fits_layout(l, o.end - o.start, o.second)
+    fits_layout(l, o.end - o.start, o.second)
 }
 
 // Whether some valid CB record brings the order: it is not struck.
