@@ -107,7 +107,10 @@ enum halimpung_refusal {
     HALIMPUNG_BOOK_STRUCK = 26,   /* revocation: already struck */
     HALIMPUNG_BOOK_CLOSE = 27,    /* close: instant below the floor */
     HALIMPUNG_BOOK_ASKED = 28,    /* in force: instant below the floor */
-    HALIMPUNG_BOOK_TYPE = 29      /* command: not a CB; revocation: not an RC */
+    HALIMPUNG_BOOK_TYPE = 29,     /* command: not a CB; revocation: not an RC */
+
+    /* a saved book: saving 20, then 11; reading back this */
+    HALIMPUNG_SAVED_TEXT = 50     /* text of no saved book. Detail: its first bad line, from 1 */
 };
 
 /* Reads a file at an address of a plan, and writes the six lines of its record: result=0, type=, number=, unit=,

@@ -67,8 +67,8 @@ fn make(size: usize, unit: [u8; 16], floor: u32, orders: [Order; 96]) -> Book
     }
 }
 
-// The all-zero book.
-fn zero() -> Book
+// The all-zero book, which every call refuses.
+pub fn zero() -> Book
     ensures { λ r. ⌜ r ≡ zeroBook ⌝ }
 {
     make(0, [0; 16], 0, [book_order::EMPTY; 96])

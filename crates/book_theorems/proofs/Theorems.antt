@@ -30,7 +30,7 @@ use native.Mathlib.Omega.{arith}
 
 -- ---- the first half: the book is the one that the calls that it accepted define
 
-fresh-carries : (unit : List ℕ) → isUnit unit ≡ true → Carries (bookFor unit) (fresh unit)
+pub fresh-carries : (unit : List ℕ) → isUnit unit ≡ true → Carries (bookFor unit) (fresh unit)
 unfolding freshOf
 fresh-carries unit e = record { is-book = rw (e, bookFor); fits = fits-fresh unit e }
 
@@ -54,11 +54,11 @@ unfolding formedBook zeroBook formedUnit isUnit
 zero-malformed = refl
 
 module _ (unit : List ℕ) (bad : isUnit unit ≡ false) where
-  bad-malformed : formedBook (bookFor unit) ≡ false
+  pub bad-malformed : formedBook (bookFor unit) ≡ false
   unfolding freshOf
   bad-malformed = rw (bad, bookFor) zero-malformed
 
-  bad-step : (k : Call) → nextOf k (bookFor unit) ≡ bookFor unit
+  pub bad-step : (k : Call) → nextOf k (bookFor unit) ≡ bookFor unit
   unfolding nextOf
   bad-step k = rw bad-malformed
 
@@ -66,7 +66,7 @@ module _ (unit : List ℕ) (bad : isUnit unit ≡ false) where
   bad-run [] = refl
   bad-run (k ∷ ks) = ap (run books ks) (bad-step k) ∙ bad-run ks
 
-  bad-code : (k : Call) → callNumber k (bookFor unit) ≡ 20
+  pub bad-code : (k : Call) → callNumber k (bookFor unit) ≡ 20
   unfolding callNumber
   bad-code k = rw bad-malformed
 

@@ -119,7 +119,7 @@ fn run_read(line: &[u8], r: Request) {
 }
 
 // The largest buffer of an entry, each byte of which is AA hex.
-fn untouched() -> [u8; 65536]
+pub(crate) fn untouched() -> [u8; 65536]
     ensures { λ r. ⌜ 65536 ≡ length r ⌝ }
 {
     [170; 65536]

@@ -1,4 +1,5 @@
 // `book UNIT CALLS`: a fresh book for a unit, and calls on it one after another.
+use crate::answers::untouched;
 use crate::request::Part;
 use crate::request::call;
 use crate::request::call::Act;
@@ -13,8 +14,10 @@ use record::Record;
 use said::say;
 use said::say_blank;
 use said::say_code;
+use said::say_hex;
 use said::say_number;
 use said::say_unknown;
+use saved::Saved;
 use text::put;
 use text::scan;
 
@@ -89,6 +92,37 @@ fn give(b: Book, act: Act, line: &[u8], c: Call) -> Book {
     give_read(b, act, &plan, n, text_of(line, c.file))
 }
 
+fn say_saved(s: Saved, out: &[u8]) {
+    match s {
+        Saved::To(n) => {
+            say(b"t:");
+            say_hex(scan::front(out, n));
+        }
+        Saved::Refused(number, detail) => say_code(number, detail),
+    }
+}
+
+fn save_in(b: Book, out: &mut [u8]) {
+    let s = saved::save(b, out);
+    say_saved(s, out);
+}
+
+// `S:ROOM`: into a buffer of so many bytes, at most 65,536.
+fn save(b: Book, room: u32) -> Book {
+    let size = room as usize;
+    if 65536 < size {
+        return not_called(b);
+    }
+    let mut space = untouched();
+    save_in(b, &mut space[..size]);
+    b
+}
+
+// `L:TEXT`: the book read, or the all-zero book, is the book from then on.
+fn load(text: &[u8]) -> Book {
+    handed(saved::read(text))
+}
+
 fn not_called(b: Book) -> Book {
     say_unknown();
     b
@@ -101,6 +135,8 @@ fn answer(b: Book, line: &[u8], c: Call) -> Book {
         Act::Command | Act::Revoke => give(b, act, line, c),
         Act::Close => close(b, c.t),
         Act::Ask => ask(b, c.t),
+        Act::Save => save(b, c.t),
+        Act::Load => load(text_of(line, c.file)),
         Act::Unknown => not_called(b),
     }
 }

@@ -9,3 +9,4 @@ pub mod Unique
 pub mod Demands
 pub mod Request1
 pub mod Request2
+pub mod Request4

@@ -4,7 +4,7 @@ use Rattle.layout.specs.Fields.{qr, vq}
 use Rattle.layout.specs.Layouts.{fieldsOf, labelsOf, kindsOf}
 use Rattle.layout.specs.Rows.{rowFields, piecesOf, tailText, rowText, rowOf}
 use Rattle.plan.specs.Plans.{planFrom, planOf, lookUp, soughtOf}
-use Rattle.plan_row.specs.Rows.{unitAt, typeFrom, typeAt, planRowOf as rowAt}
+use Rattle.plan_row.specs.Rows.{typeFrom, typeAt, planRowOf as rowAt}
 use Rattle.reader.specs.Messages.{given, rowIn, layoutIn, entriesIn, valuesOf, columnRecord}
 use Rattle.reader.specs.Reader.{valued, labelled, reading, recordIn, planned, answerAt, readOf}
 use Rattle.reader.specs.Refusals.{answer}
@@ -17,7 +17,7 @@ use Rattle.text.specs.Bytes.{bytes, same, starts, upto, past, any, all, skip, s
 use Rattle.text.specs.Digits.{numberFrom, digitsOf}
 use Rattle.text.specs.Lists.{count, sift}
 use Rattle.text.specs.Puts.{roomOf}
-use Rattle.text_keyline.specs.Keylines.{lineOf, wholeUpto, numberAt}
+use Rattle.text_keyline.specs.Keylines.{lineOf, wholeIn, numberAt, unitAt}
 use Rattle.text_lines.specs.Entries.{placeOf, entryOf, entries, stands, again, missing, valueAt, column}
 use Rattle.text_lines.specs.Lines.{allowed, allowedFrom, allowedUpto, lines, textOf, texts, isSep, seps, mark, marked, ifInside, ifOutside, inside, outside}
 use Rattle.text_lines.specs.Lines.{framed, paramOf, paramIn, params}
@@ -102,7 +102,7 @@ pub spelled : map (λ (c : Case). told (readOf 7 303 (c .plan) (c .file))) cases
 unfolding fitsByte shaped dateFields leap daysIn isReal dateOf daysOf passed clockOf instantOf vq qr fieldsOf labelsOf kindsOf rowFields piecesOf
     tailText rowText rowOf placeOf entryOf entries stands again missing valueAt column allowed allowedFrom allowedUpto labelRoom opens isAccented
     respell paramIn accentsOf lines textOf texts isSep seps mark marked ifInside ifOutside inside outside framed paramOf params exactly identifierOf
-    isUnit sequenceOf lineOf wholeUpto numberAt unitAt typeFrom typeAt rowAt planFrom planOf lookUp soughtOf given rowIn layoutIn entriesIn valuesOf
+    isUnit sequenceOf lineOf wholeIn numberAt unitAt typeFrom typeAt rowAt planFrom planOf lookUp soughtOf given rowIn layoutIn entriesIn valuesOf
     columnRecord valued labelled reading recordIn planned answerAt readOf answer joined typed cellsOf fieldOf recordOf keptIn inOrder rulesOf lowest
     brokenIn same starts upto past any all skip skipEnd trim tidy numberFrom digitsOf count sift roomOf shapeOf valueOf cases scaled fractionOf
     joinedDigits unsignedOf plus minus numberOf commandWords modeWords settingWords words word wordFrom voltIn table formOf voltVarLine meets inTable

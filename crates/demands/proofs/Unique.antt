@@ -8,6 +8,7 @@ use Rattle.record_check.proofs as record-check
 use Rattle.record_rules.proofs as record-rules
 use Rattle.report.proofs as report
 use Rattle.report_brief.proofs as report_brief
+use Rattle.saved.proofs as saved
 use Rattle.times.proofs as times
 use Rattle.transfer.proofs as transfer
 use Rattle.transfer_unit.proofs as transfer_unit
@@ -51,6 +52,10 @@ calls =
       book-hold = (λ κs a. tt, λ κs a. equation _);
       book-strike = (λ κs a. tt, λ κs a. equation _);
       book-tally = (λ κs a. tt, λ κs a. equation _);
+      book-zero = (λ κs a. tt, λ κs a. equation _);
+      saved-save = (λ κs a. tt, λ κs a. equations _ _ _);
+      saved-read = (λ κs a. tt, λ κs a. equation _);
+      saved-read-order = (λ κs a. tt, λ κs a. equation _);
       times-start-up = (λ κs a. tt, λ κs a. text-equation _ _);
       times-ramp = (λ κs a. tt, λ κs a. text-equation _ _);
       times-locate = (λ κs a. tt, λ κs a. equation _);
@@ -114,6 +119,9 @@ within =
       value-number-are-short = (λ κs a. tt, λ κs a. equation _);
       value-number-read-part = λ κs a. equation _;
       value-number-put = λ κs a. equations _ _ _;
+      value-number-positive = λ κs a. equation _;
+      value-number-negative = λ κs a. equation _;
+      value-number-magnitude = (λ κs a. tt, λ κs a. equation _);
       value-name-unit-run = (λ κs a. tt, λ κs a. equation _);
       value-name-identifier-put = λ κs a. equations _ _ _;
       text-lines-plain-run = (λ κs a. tt, λ κs a. equation _);
@@ -132,6 +140,11 @@ within =
       text-keyline-below = (λ κs a. tt, λ κs a. text-equation _ _);
       text-keyline-whole = (λ κs a. tt, λ κs a. equation _);
       text-keyline-number = (λ κs a. tt, λ κs a. equation _);
+      text-keyline-unit-line = (λ κs a. tt, λ κs a. equation _);
+      text-keyline-put-line = λ κs a. equations _ _ _;
+      text-keyline-put-number = λ κs a. equations _ _ _;
+      saved-lines-read-item = (λ κs a. tt, λ κs a. equation _);
+      saved-lines-put-item = λ κs a. equations _ _ _;
       plan-row-sought-key = (λ κs a. tt, λ κs a. equation _);
       plan-row-row-at = λ κs a. equation _;
       times-sheet-is-for = (λ κs a. tt, λ κs a. equation _);
@@ -178,7 +191,6 @@ within =
       record-zero = (λ κs a. tt, λ κs a. equation _);
       record-field = λ κs a. equation _;
       report-brief-of-reading = (λ κs a. tt, λ κs a. equation _);
-      report-brief-put-number = λ κs a. equations _ _ _;
       report-brief-put-lines = λ κs a. equations _ _ _;
       report-brief-write-lines = (λ κs a. tt, λ κs a. equations _ _ _);
       reader-fill-text-at = λ κs a. text-equation _ _;
@@ -242,6 +254,8 @@ contracts =
       in-force = λ κs b t z e h. h;
       holds = λ κs b o z e h. h;
       strikes = λ κs b n z e h. h;
+      saves = λ κs b out z e h. h;
+      reads-back = λ κs s z e h. h;
       locate = λ κs w ca ioa plan file sheet z e h. h;
       start-up = λ κs ca ioa plan file sheet z e h. h;
       ramp = λ κs ca ioa plan file sheet z e h. h;
@@ -272,6 +286,10 @@ meets =
       book-hold = λ M. book.Book.hold.Met.met;
       book-strike = λ M. book.Book.strike.Met.met;
       book-tally = λ M. book.Book.tally.Met.met;
+      book-zero = λ M. book.zero.Met.met;
+      saved-save = λ M. saved.save.Met.met;
+      saved-read = λ M. saved.read.Met.met;
+      saved-read-order = λ M. saved.read_order.Met.met;
       times-start-up = λ M. times.start_up.Met.met;
       times-ramp = λ M. times.ramp.Met.met;
       times-locate = λ M. times.locate.Met.met;

@@ -12,6 +12,7 @@ use Rattle.value_put.proofs as value_put
 use Rattle.report.proofs as report
 use Rattle.record_rules.proofs as record-rules
 use Rattle.times.proofs as times
+use Rattle.saved.proofs as saved
 use Rattle.transfer.proofs as transfer
 use Rattle.record_check.proofs as record-check
 use Rattle.value.proofs as value
@@ -51,6 +52,11 @@ pub record Calls : Type 0 where
   pub book-hold : Answers book.Book.hold.ended book.Book.hold.Reads.Asked book.Book.hold.Reads.Learnt
   pub book-strike : Answers book.Book.strike.ended book.Book.strike.Reads.Asked book.Book.strike.Reads.Learnt
   pub book-tally : Answers book.Book.tally.ended book.Book.tally.Reads.Asked book.Book.tally.Reads.Learnt
+  pub book-zero : Answers book.zero.ended book.zero.Reads.Asked book.zero.Reads.Learnt
+  -- a book as a text: saved, read back, and one order of such a text
+  pub saved-save : Writes saved.save.ended (λ κs e. e .1 .0 .now) saved.save.Reads.Asked saved.save.Reads.Learnt
+  pub saved-read : Answers saved.read.ended saved.read.Reads.Asked saved.read.Reads.Learnt
+  pub saved-read-order : Answers saved.read_order.ended saved.read_order.Reads.Asked saved.read_order.Reads.Learnt
   -- the times: each call's part of the file or of the sheet, where it stands, and why there is none
   pub times-start-up : Lends times.start_up.ended (λ κs z. z .now) times.start_up.Reads.Asked times.start_up.Reads.Learnt
   pub times-ramp : Lends times.ramp.ended (λ κs z. z .now) times.ramp.Reads.Asked times.ramp.Reads.Learnt
@@ -100,6 +106,10 @@ pub record Meets : Type 2 where
   pub book-hold : (M : Type 1) → book.Book.hold.Statement.statement M
   pub book-strike : (M : Type 1) → book.Book.strike.Statement.statement M
   pub book-tally : (M : Type 1) → book.Book.tally.Statement.statement M
+  pub book-zero : (M : Type 1) → book.zero.Statement.statement M
+  pub saved-save : (M : Type 1) → saved.save.Statement.statement M
+  pub saved-read : (M : Type 1) → saved.read.Statement.statement M
+  pub saved-read-order : (M : Type 1) → saved.read_order.Statement.statement M
   pub times-start-up : (M : Type 1) → times.start_up.Statement.statement M
   pub times-ramp : (M : Type 1) → times.ramp.Statement.statement M
   pub times-locate : (M : Type 1) → times.locate.Statement.statement M

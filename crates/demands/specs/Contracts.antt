@@ -19,6 +19,9 @@ use Rattle.reader.specs.declared.Answer.{Answer}
 use Rattle.record.specs.declared.Record.{Record}
 use Rattle.record_check.proofs as record-check
 use Rattle.record_check.specs.Validity.{isValid}
+use Rattle.saved.proofs as saved
+use Rattle.saved.specs.Saved.{readOf as savedRead, saveOf, savedIn}
+use Rattle.saved.specs.declared.Saved.{Saved}
 use Rattle.text.specs.Puts.{wroteOf, bufferOf}
 use Rattle.text.specs.declared.put.Wrote.{Wrote}
 use Rattle.times.proofs as times
@@ -89,6 +92,10 @@ pub record Contracts : Type 0 where
   pub strikes : (κs : _) (b : Book) (n : ℕ) (z : Outcome) (e : _)
       → book.Book.strike.Reads.Learnt κs (b, (n, tt)) z e
       → z ≡ deedOutcomeOf (strike (strikeFor n)) b
+  pub saves : (κs : _) (b : Book) (out : Slice) (z : Saved) (e : _)
+      → saved.save.Reads.Learnt κs (b, (out, tt)) z e
+      → (z ≡ saveOf b (length (out .now))) × (e .1 .0 .now ≡ savedIn b (out .now))
+  pub reads-back : (κs : _) (s : Slice) (z : Outcome) (e : _) → saved.read.Reads.Learnt κs (s, tt) z e → z ≡ savedRead (s .now)
   pub locate : (κs : _) (w : Which) (ca ioa : ℕ) (plan file sheet : Slice) (z : Time) (e : _)
       → times.locate.Reads.Learnt κs (w, (ca, (ioa, (plan, (file, (sheet, tt)))))) z e
       → z ≡ timeOf w ca ioa (plan .now) (file .now) (sheet .now)

@@ -7,3 +7,4 @@ pub mod Demand2
 pub mod Demand3
 pub mod Request1
 pub mod Request2
+pub mod Request4

@@ -14,6 +14,7 @@ use Rattle.reader_fill.proofs as reader_fill
 use Rattle.value_bounds.proofs as value_bounds
 use Rattle.value_fits.proofs as value_fits
 use Rattle.text_keyline.proofs as text_keyline
+use Rattle.saved_lines.proofs as saved_lines
 use Rattle.layout_kind.proofs as layout_kind
 use Rattle.layout_label.proofs as layout_label
 use Rattle.layout.proofs as layout
@@ -82,6 +83,9 @@ pub record Within : Type 0 where
   pub value-number-are-short : Answers value_number.are_short.ended value_number.are_short.Reads.Asked value_number.are_short.Reads.Learnt
   pub value-number-read-part : OneResult value_number.read_part.ended value_number.read_part.Reads.Learnt
   pub value-number-put : OneOutput value_number.put.ended (λ κs e. e .0 .now) value_number.put.Reads.Learnt
+  pub value-number-positive : OneResult value_number.positive.ended value_number.positive.Reads.Learnt
+  pub value-number-negative : OneResult value_number.negative.ended value_number.negative.Reads.Learnt
+  pub value-number-magnitude : Answers value_number.magnitude.ended value_number.magnitude.Reads.Asked value_number.magnitude.Reads.Learnt
   -- value_name
   pub value-name-unit-run : Answers value_name.unit.run.ended value_name.unit.run.Reads.Asked value_name.unit.run.Reads.Learnt
   pub value-name-identifier-put : OneOutput value_name.identifier.put.ended (λ κs e. e .0 .now) value_name.identifier.put.Reads.Learnt
@@ -105,6 +109,11 @@ pub record Within : Type 0 where
   pub text-keyline-below : Lends text_keyline.below.ended (λ κs z. z .now) text_keyline.below.Reads.Asked text_keyline.below.Reads.Learnt
   pub text-keyline-whole : Answers text_keyline.whole.ended text_keyline.whole.Reads.Asked text_keyline.whole.Reads.Learnt
   pub text-keyline-number : Answers text_keyline.number.ended text_keyline.number.Reads.Asked text_keyline.number.Reads.Learnt
+  pub text-keyline-unit-line : Answers text_keyline.unit_line.ended text_keyline.unit_line.Reads.Asked text_keyline.unit_line.Reads.Learnt
+  pub text-keyline-put-line : OneOutput text_keyline.put_line.ended (λ κs e. e .0 .now) text_keyline.put_line.Reads.Learnt
+  pub text-keyline-put-number : OneOutput text_keyline.put_number.ended (λ κs e. e .0 .now) text_keyline.put_number.Reads.Learnt
+  pub saved-lines-read-item : Answers saved_lines.read_item.ended saved_lines.read_item.Reads.Asked saved_lines.read_item.Reads.Learnt
+  pub saved-lines-put-item : OneOutput saved_lines.put_item.ended (λ κs e. e .0 .now) saved_lines.put_item.Reads.Learnt
   -- plan_row
   pub plan-row-sought-key : Answers plan_row.sought_key.ended plan_row.sought_key.Reads.Asked plan_row.sought_key.Reads.Learnt
   pub plan-row-row-at : OneResult plan_row.row_at.ended plan_row.row_at.Reads.Learnt
@@ -167,7 +176,6 @@ pub record Within : Type 0 where
   pub record-field : OneResult records.field.ended records.field.Reads.Learnt
   -- report_brief
   pub report-brief-of-reading : Answers report_brief.of_reading.ended report_brief.of_reading.Reads.Asked report_brief.of_reading.Reads.Learnt
-  pub report-brief-put-number : OneOutput report_brief.put_number.ended (λ κs e. e .0 .now) report_brief.put_number.Reads.Learnt
   pub report-brief-put-lines : OneOutput report_brief.put_lines.ended (λ κs e. e .0 .now) report_brief.put_lines.Reads.Learnt
   pub report-brief-write-lines : Writes report_brief.write_lines.ended (λ κs e. e .0 .now) report_brief.write_lines.Reads.Asked report_brief.write_lines.Reads.Learnt
   -- reader_fill

@@ -5,7 +5,8 @@ use Rattle.reader.specs.declared.Answer.{Answer}
 use Rattle.report.specs.Program.{heardOf, printedOf}
 use Rattle.report.specs.Report.{twoLines, reportOf}
 use Rattle.report_brief.proofs.Sizes.{number-length, six-length}
-use Rattle.report_brief.specs.Brief.{lineText, sixLines}
+use Rattle.report_brief.specs.Brief.{sixLines}
+use Rattle.text_keyline.specs.Keylines.{lineText}
 use Rattle.text.specs.Bytes.{bytes}
 use Rattle.text.specs.Digits.{wholeText}
 use lib.Dec.{eqb}

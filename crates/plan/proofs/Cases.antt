@@ -2,8 +2,8 @@
 -- Assumes nothing.
 use Prim.Native.Nat.{ℕ}
 use Prim.Native.String.{String}
-use Rattle.plan_row.specs.Rows.{row, unitAt, typeFrom, typeAt, planRowOf}
-use Rattle.text_keyline.specs.Keylines.{lineOf, wholeUpto, numberAt}
+use Rattle.plan_row.specs.Rows.{row, typeFrom, typeAt, planRowOf}
+use Rattle.text_keyline.specs.Keylines.{lineOf, wholeIn, numberAt, unitAt}
 use Rattle.value_name.specs.Names.{isUnit, sequenceOf}
 use Rattle.value_name.specs.declared.MessageType.the-variants.{Rc, Vq}
 use Rattle.plan.specs.Plans.{Plan, rows, wrong, planFrom, planOf}
@@ -47,5 +47,5 @@ table =
     ∷ []
 
 pub all-read : map (λ (c : Case). planOf (c .text)) table ≡ map (λ (c : Case). c .reads) table
-unfolding same starts upto past any all numberFrom digitsOf isUnit sequenceOf lineOf wholeUpto numberAt unitAt typeFrom typeAt planRowOf planFrom planOf
+unfolding same starts upto past any all numberFrom digitsOf isUnit sequenceOf lineOf wholeIn numberAt unitAt typeFrom typeAt planRowOf planFrom planOf
 all-read = refl

@@ -3,15 +3,15 @@
 use Prim.Native.Nat.{ℕ, zero, suc, _+_, _-_, _*_, _≤_, _<_}
 use Rattle.plan_row.proofs.Addresses.{kept-row, any-kept, key-place, key-sought}
 use Rattle.plan_row.proofs.Codes.{type-told}
-use Rattle.plan_row.proofs.Lines.{unit-told}
 use Rattle.plan_row.proofs.Readers.{At, at-length, next-line, second-line}
 use Rattle.plan_row.specs.Kept.{soughtKey, rowsOf, thirdOf, keptRow, rowAtOf}
-use Rattle.plan_row.specs.Rows.{Row, row, unitAt, caAt, ioaAt, typeAt, isAt, RowRead, good, bad, rowNamed, begun, planRowOf}
+use Rattle.plan_row.specs.Rows.{Row, row, caAt, ioaAt, typeAt, isAt, RowRead, good, bad, rowNamed, begun, planRowOf}
 use Rattle.plan_row.specs.declared.Entry.{Entry}
 use Rattle.plan_row.specs.declared.RowAt.the-variants.{Good, Bad}
 use Rattle.plan_row.specs.declared.RowAt.{RowAt}
+use Rattle.text_keyline.proofs.Lines.{unit-told}
 use Rattle.text_keyline.proofs.Values.{number-told}
-use Rattle.text_keyline.specs.Keylines.{valueIn, below}
+use Rattle.text_keyline.specs.Keylines.{valueIn, below, unitAt}
 use Rattle.value_name.specs.declared.MessageType.{MessageType}
 use Rattle.plan.specs.Kept.{foundIn}
 use Rattle.plan.specs.Plans.{rows, wrong, onward, planFrom, planOf, soughtRefused, lookUp, soughtOf}

@@ -1,7 +1,7 @@
 -- The ways through the readers of a type: its code, and the line `type=`, two bytes, LF (10).
 -- Assumes nothing.
-use Prim.Native.Nat.{ℕ, _+_, _≤_, _<_}
-use Rattle.plan_row.proofs.Lines.{line-any, line-value, line-first, ended-line}
+use Prim.Native.Nat.{ℕ, _≤_, _<_}
+use Rattle.text_keyline.proofs.Lines.{line-any, line-value, line-first, ended-line}
 use Rattle.plan_row.specs.Kept.{typeReadOf}
 use Rattle.plan_row.specs.Rows.{typeFrom, types, ifType, typeAt}
 use Rattle.plan_row.specs.declared.TypeRead.the-variants.{Is, Not}
@@ -19,12 +19,11 @@ use Rattle.text.specs.Bytes.{bytes, same, starts, is, any, upto, firstOf}
 use borrow.Author.Tests.{eqb-true, eq-eqb, ne-eqb}
 use lib.Dec.{eqb}
 use lib.ListN.{length, getD, drop, length-drop}
-use lib.Seq.{drop-cons, getD-drop}
-use mathlib.Core.Bool.{Bool, true, false, _&&_, cond, and-true}
+use lib.Seq.{getD-drop}
+use mathlib.Core.Bool.{Bool, true, false, _&&_, cond}
 use mathlib.Core.List.{List, [], _∷_}
 use mathlib.Core.Option.{none, some}
 use mathlib.Core.Path.{_≡_, refl, sym, ap, _∙_}
-use native.Mathlib.Numerals.{add-one}
 use native.Mathlib.Omega.{arith}
 
 -- ---- the type whose code two bytes are, by the first and then the second

@@ -3,19 +3,19 @@
 use Prim.Native.Nat.{ℕ, _+_, _-_, _≤_, _<_}
 use Rattle.plan_row.proofs.Addresses.{any-keys}
 use Rattle.plan_row.proofs.Codes.{type-told}
-use Rattle.plan_row.proofs.Lines.{unit-told}
-use Rattle.plan_row.specs.Kept.{keyOf, rowsOf, numberedOf, namedTo, ifNamed, typeReadOf, thirdOf, rowAtOf}
-use Rattle.plan_row.specs.Rows.{caAt, ioaAt, unitAt, typeAt, isAt, planRowOf}
-use Rattle.plan_row.specs.declared.Named.the-variants.{To, Not as NotNamed}
-use Rattle.plan_row.specs.declared.Named.{Named}
+use Rattle.plan_row.specs.Kept.{keyOf, rowsOf, numberedOf, typeReadOf, thirdOf, rowAtOf}
+use Rattle.plan_row.specs.Rows.{caAt, ioaAt, typeAt, isAt, planRowOf}
 use Rattle.plan_row.specs.declared.Numbered.the-variants.{Is as IsNumbered, Not as NotNumbered}
 use Rattle.plan_row.specs.declared.Numbered.{Numbered}
 use Rattle.plan_row.specs.declared.RowAt.the-variants.{Good, Bad}
 use Rattle.plan_row.specs.declared.RowAt.{RowAt}
 use Rattle.plan_row.specs.declared.TypeRead.the-variants.{Is, Not as NoType}
 use Rattle.plan_row.specs.declared.TypeRead.{TypeRead}
+use Rattle.text_keyline.proofs.Lines.{unit-told}
 use Rattle.text_keyline.proofs.Values.{number-told}
-use Rattle.text_keyline.specs.Keylines.{below}
+use Rattle.text_keyline.specs.Keylines.{below, unitAt, ifNamed, namedTo}
+use Rattle.text_keyline.specs.declared.Named.the-variants.{To, Not as NotNamed}
+use Rattle.text_keyline.specs.declared.Named.{Named}
 use Rattle.value_name.specs.declared.MessageType.{MessageType}
 use Rattle.text.proofs.Cuts.{tail, past-drop}
 use Rattle.text.specs.Bytes.{bytes, is, any, firstOf}

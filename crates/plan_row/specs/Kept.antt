@@ -1,9 +1,7 @@
 -- What the functions keep of the rows above and answer for one, by the definitions of a row. No part of what a row means.
 use Prim.Native.Nat.{ℕ, _+_, _-_, _*_, _/_, _%_}
-use Rattle.plan_row.specs.Rows.{Row, row, unitAt, RowRead, good, bad}
+use Rattle.plan_row.specs.Rows.{Row, row, RowRead, good, bad}
 use Rattle.plan_row.specs.declared.Entry.{Entry}
-use Rattle.plan_row.specs.declared.Named.the-variants.{To, Not as NotNamed}
-use Rattle.plan_row.specs.declared.Named.{Named}
 use Rattle.plan_row.specs.declared.Numbered.the-variants.{Is as IsNumbered, Not as NotNumbered}
 use Rattle.plan_row.specs.declared.Numbered.{Numbered}
 use Rattle.plan_row.specs.declared.RowAt.the-variants.{Good, Bad}
@@ -13,7 +11,7 @@ use Rattle.plan_row.specs.declared.TypeRead.{TypeRead}
 use Rattle.text_keyline.specs.Keylines.{below}
 use Rattle.value_name.specs.declared.MessageType.the-variants.{Cb}
 use Rattle.value_name.specs.declared.MessageType.{MessageType}
-use Rattle.text.specs.Bytes.{firstOf, part}
+use Rattle.text.specs.Bytes.{firstOf}
 use Rattle.text.specs.declared.digits.Digits.the-variants.{Are, Not as NoDigits}
 use Rattle.text.specs.declared.digits.Digits.{Digits}
 use lib.Dec.{leb}
@@ -40,13 +38,6 @@ rowsOf keys = map (λ (k : ℕ). row (k / 16777216) (k % 16777216) [] Cb) keys
 abbrev pub numberedOf : Digits → List ℕ → Numbered
 numberedOf (Are n) s = IsNumbered n (firstOf 10 s)
 numberedOf NoDigits s = NotNumbered
-
-abbrev pub ifNamed : Option (List ℕ) → List ℕ → Named
-ifNamed none s = NotNamed
-ifNamed (some u) s = To (firstOf 10 s)
-
-abbrev pub namedTo : List ℕ → Named
-namedTo s = ifNamed (unitAt s) s
 
 abbrev pub typeReadOf : Option MessageType → TypeRead
 typeReadOf none = Not

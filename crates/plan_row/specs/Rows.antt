@@ -1,10 +1,9 @@
 -- A row of the address plan. Document 01, "Addresses": four lines `ca`, `ioa`, `unit`, `type`; no address twice, bad at the later `ioa` line; a line is
 -- judged with those above it; one missing is bad where it should stand.
 use Prim.Native.Nat.{ℕ}
-use Rattle.text_keyline.specs.Keylines.{lineOf, valueIn, below, numberAt}
+use Rattle.text_keyline.specs.Keylines.{lineOf, valueIn, below, numberAt, unitAt}
 use Rattle.text_keyline.specs.declared.Line.the-variants.{Ends, Bad}
 use Rattle.text_keyline.specs.declared.Line.{Line}
-use Rattle.value_name.specs.Names.{isUnit}
 use Rattle.value_name.specs.Types.{codeOf}
 use Rattle.value_name.specs.declared.MessageType.the-variants.{Cb, Rc, Mg, Eb, Lb, Sr, Vq, Ri, Qr}
 use Rattle.value_name.specs.declared.MessageType.{MessageType}
@@ -33,13 +32,6 @@ caAt s = numberAt (bytes "ca=") 65534 s
 
 abbrev pub ioaAt : List ℕ → Digits
 ioaAt s = numberAt (bytes "ioa=") 16777215 s
-
-abbrev pub ifUnit : Line → List ℕ → Option (List ℕ)
-ifUnit (Ends e) u = cond (isUnit u) (some u) none
-ifUnit Bad u = none
-
-unfoldable pub unitAt : List ℕ → Option (List ℕ)
-unitAt s = ifUnit (lineOf (bytes "unit=") s) (valueIn (bytes "unit=") s)
 
 -- the type whose code this is
 unfoldable pub typeFrom : List MessageType → List ℕ → Option MessageType

@@ -2,10 +2,10 @@
 // of a code's bytes, and what stands after the run must be the line's LF.
 use text::digits;
 use text::scan;
+use text_keyline::Named;
 use value_name::MessageType;
-use value_name::unit;
 ghost use Prim.Native.Nat.{_≤_};
-ghost use Rattle.plan_row.specs.Kept.{keyOf, soughtKey, rowsOf, numberedOf, namedTo, typeReadOf, rowAtOf};
+ghost use Rattle.plan_row.specs.Kept.{keyOf, soughtKey, rowsOf, numberedOf, typeReadOf, rowAtOf};
 ghost use Rattle.plan_row.specs.Rows.{types, typeFrom, typeAt, planRowOf};
 ghost use Rattle.text_keyline.specs.Keylines.{numberAt};
 ghost use Rattle.text.specs.Bytes.{any, is};
@@ -23,12 +23,6 @@ pub enum TypeRead {
 // A line's number, and where the line's LF stands.
 pub enum Numbered {
     Is(u64, usize),
-    Not,
-}
-
-// Where the LF of the unit's line stands.
-pub enum Named {
-    To(usize),
     Not,
 }
 
@@ -119,24 +113,6 @@ fn number_line(key: &[u8], most: u64, s: &[u8]) -> Numbered
     Numbered::Is(led.value, e)
 }
 
-// Where the unit's line ends.
-fn unit_line(s: &[u8]) -> Named
-    ensures { λ r. ⌜ r ≡ namedTo (now (s .entry)) ⌝ }
-{
-    if !scan::starts(b"unit=", s) {
-        return Named::Not;
-    }
-    let size = unit::run(&s[5..]);
-    let e = 5 + size;
-    if e == s.len() {
-        return Named::Not;
-    }
-    if (size == 0) | (16 < size) | (s[e] != b'\n') {
-        return Named::Not;
-    }
-    Named::To(e)
-}
-
 // The type, if the second byte of its code fits.
 fn type_if(fits: bool, t: MessageType) -> TypeRead
     ensures { λ r. ⌜ r ≡ typeReadOf (cond fits (some t) none) ⌝ }
@@ -201,7 +177,7 @@ pub fn row_at(s: &[u8], keys: &[u64], greatest: u64) -> RowAt
         return RowAt::Bad(TWICE);
     }
     let third = second + b + 1;
-    let Named::To(c) = unit_line(&s[third..]) else {
+    let Named::To(c) = text_keyline::unit_line(&s[third..]) else {
         return RowAt::Bad(2);
     };
     let fourth = third + c + 1;

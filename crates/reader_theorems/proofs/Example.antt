@@ -13,8 +13,8 @@ use Rattle.text_lines.specs.Spellings.{labelRoom, opens, isAccented, respell}
 use Rattle.text_lines.specs.Lines.{allowed, allowedFrom, allowedUpto, lines, textOf, texts, isSep, seps, mark, marked, ifInside, ifOutside, inside, outside}
 use Rattle.text_lines.specs.Lines.{framed, paramOf, paramIn, params}
 use Rattle.value_name.specs.Names.{exactly, identifierOf, isUnit, sequenceOf}
-use Rattle.text_keyline.specs.Keylines.{lineOf, wholeUpto, numberAt}
-use Rattle.plan_row.specs.Rows.{unitAt, typeFrom, typeAt, planRowOf as rowAt}
+use Rattle.text_keyline.specs.Keylines.{lineOf, wholeIn, numberAt, unitAt}
+use Rattle.plan_row.specs.Rows.{typeFrom, typeAt, planRowOf as rowAt}
 use Rattle.plan.specs.Plans.{planFrom, planOf, lookUp, soughtOf}
 use Rattle.reader.specs.Messages.{given, rowIn, layoutIn, entriesIn, valuesOf, columnRecord}
 use Rattle.reader.specs.Reader.{valued, labelled, reading, recordIn, planned, answerAt, readOf}
@@ -141,7 +141,7 @@ cases =
 pub right : map (λ (c : Case). readOf (c .ca) (c .ioa) (c .plan) (c .file)) cases ≡ map (λ (c : Case). c .answer) cases
 unfolding fitsByte shaped dateFields leap daysIn isReal dateOf daysOf passed clockOf instantOf rc fieldsOf labelsOf kindsOf rowFields piecesOf
     tailText rowText rowOf placeOf entryOf entries stands again missing valueAt column allowed allowedFrom allowedUpto labelRoom opens isAccented respell paramIn accentsOf lines textOf texts isSep seps mark marked
-    ifInside ifOutside inside outside framed paramOf params exactly identifierOf isUnit sequenceOf lineOf wholeUpto numberAt unitAt typeFrom typeAt
+    ifInside ifOutside inside outside framed paramOf params exactly identifierOf isUnit sequenceOf lineOf wholeIn numberAt unitAt typeFrom typeAt
     rowAt planFrom planOf lookUp soughtOf given rowIn layoutIn entriesIn valuesOf columnRecord valued labelled reading recordIn planned answerAt
     readOf answer joined typed cellsOf fieldOf recordOf keptIn inOrder rulesOf lowest brokenIn same starts upto past any all skip skipEnd trim
     numberFrom digitsOf count sift roomOf shapeOf valueOf cases

@@ -12,8 +12,8 @@ use Rattle.text_lines.specs.Entries.{Entry, entry, placeOf, entryOf, entries, s
 use Rattle.text_lines.specs.Lines.{Param, allowedUpto, lineStep, lines, textOf, texts, isSep, seps, framed}
 use Rattle.value_list.specs.declared.Triple.{Triple}
 use Rattle.value_name.specs.declared.MessageType.{MessageType}
-use Rattle.text_keyline.specs.Keylines.{below}
-use Rattle.plan_row.specs.Rows.{Row, caAt, ioaAt, unitAt, typeAt, isAt, RowRead, rowNamed, begun, planRowOf as rowAt}
+use Rattle.text_keyline.specs.Keylines.{below, unitAt}
+use Rattle.plan_row.specs.Rows.{Row, caAt, ioaAt, typeAt, isAt, RowRead, rowNamed, begun, planRowOf as rowAt}
 use Rattle.plan.specs.Plans.{Plan, rows, wrong, onward, planFrom, planOf, lookUp, soughtOf}
 use Rattle.plan_row.specs.Rows.RowRead.{good as goodRow, bad as badRow}
 use Rattle.reader.specs.Messages.{given, rowIn, layoutIn, entriesIn, valuesOf, isBad, columnRecord}

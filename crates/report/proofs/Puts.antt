@@ -1,7 +1,7 @@
 -- The two lines of a refusal, one after the other. Assumes nothing.
 use Prim.Native.Nat.{ℕ}
 use Rattle.report_brief.proofs.Puts.{two-put}
-use Rattle.report_brief.specs.Brief.{lineText}
+use Rattle.text_keyline.specs.Keylines.{lineText}
 use Rattle.report.specs.Report.{twoLines}
 use Rattle.text.specs.Bytes.{bytes}
 use Rattle.text.specs.Digits.{wholeText}

@@ -1,6 +1,7 @@
 -- What is printed of a reading. Document 01, "The program": six lines of a record, two of a refusal.
 use Prim.Native.Nat.{ℕ}
-use Rattle.report_brief.specs.Brief.{lineText, sixLines}
+use Rattle.report_brief.specs.Brief.{sixLines}
+use Rattle.text_keyline.specs.Keylines.{lineText}
 use Rattle.reader.specs.declared.Answer.{Answer}
 use Rattle.text.specs.Bytes.{bytes}
 use Rattle.text.specs.Digits.{wholeText}

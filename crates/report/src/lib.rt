@@ -24,8 +24,8 @@ pub fn put_refusal(out: &mut [u8], at: usize, number: u8, detail: usize) -> usiz
     requires { ⌜ at + 200 < limit ⌝ }
     ensures { λ n. ⌜ Puts (now (out .entry)) at (twoLines number detail) n (now (out .exit)) ⌝ }
 {
-    let a = report_brief::put_number(out, at, b"result=", number as u64);
-    report_brief::put_number(out, a, b"detail=", detail as u64)
+    let a = text_keyline::put_number(out, at, b"result=", number as u64);
+    text_keyline::put_number(out, a, b"detail=", detail as u64)
 }
 
 // What is printed of an answer.

@@ -7,10 +7,11 @@ use Rattle.value_name.specs.declared.MessageType.{MessageType}
 use Rattle.value_ask.specs.Values.{isFilled, instantIn}
 use Rattle.report_brief.proofs.Fields.{filled-is, blank-is}
 use Rattle.report_brief.proofs.Sizes.{headText}
-use Rattle.report_brief.specs.Brief.{lineText, instantText, sixOf}
+use Rattle.report_brief.specs.Brief.{instantText, sixOf}
 use Rattle.report_brief.specs.declared.Brief.{Brief}
-use Rattle.text.proofs.Runs.{puts, puts-of, puts-none, then, same-puts}
+use Rattle.text.proofs.Runs.{puts, puts-none, then, same-puts}
 use Rattle.text.specs.Bytes.{bytes}
+use Rattle.text_keyline.specs.Keylines.{lineText}
 use Rattle.text.specs.Digits.{wholeText}
 use Rattle.value.specs.declared.Value.{Value}
 use lib.ListN.{take}
@@ -18,11 +19,6 @@ use mathlib.Core.Bool.{true, false}
 use lib.Seq.{sets}
 use mathlib.Core.List.{List, [], _∷_, _++_, append-assoc}
 use mathlib.Core.Path.{_≡_, refl, sym}
-
-pub line-put : (key v l : List ℕ) (at a : ℕ) (l₁ : List ℕ) (b : ℕ) (l₂ : List ℕ) (r : ℕ) (m : List ℕ)
-    → Puts l at key a l₁ → Puts l₁ a v b l₂ → (r ≡ b + 1) × (m ≡ sets l₂ b (10 ∷ [])) → Puts l at (lineText key v) r m
-line-put key v l at a l₁ b l₂ r m p q e =
-    same-puts (lineText key v) refl (then (then (puts {t = key} p) (puts {t = v} q)) (puts-of {t = 10 ∷ []} 1 refl e))
 
 -- what was put, in another writing
 pub same-text : (t u l : List ℕ) (at r : ℕ) (m : List ℕ) → t ≡ u → Puts l at t r m → Puts l at u r m

@@ -6,21 +6,19 @@ use Rattle.value_name.specs.Types.{codeOf}
 use Rattle.value_name.specs.declared.MessageType.{MessageType}
 use Rattle.value_name.specs.declared.MessageType.the-variants.{Cb, Rc, Mg, Eb, Lb, Sr, Vq, Ri, Qr}
 use Rattle.record.specs.declared.Record.{Record}
-use Rattle.report_brief.specs.Brief.{instantText, lineText, toldOf, briefOf, sixOf, sixLines}
+use Rattle.report_brief.specs.Brief.{instantText, toldOf, briefOf, sixOf, sixLines}
 use Rattle.value_ask.specs.Values.{isFilled, instantIn}
 use Rattle.text.proofs.Numerals.{whole-length}
 use Rattle.text.proofs.Tests.{by-test}
 use Rattle.text.specs.Bytes.{bytes}
+use Rattle.text_keyline.proofs.Putting.{line-length}
+use Rattle.text_keyline.specs.Keylines.{lineText}
 use Rattle.text.specs.Digits.{wholeText}
 use Rattle.value.specs.declared.Value.{Value}
 use lib.ListN.{length, take, length-append, length-take}
-use mathlib.Core.List.{List, [], _∷_, _++_}
+use mathlib.Core.List.{List, _++_}
 use mathlib.Core.Path.{_≡_, refl}
 use native.Mathlib.Omega.{arith}
-
--- a line has its key, its value and its end
-pub line-length : (key v : List ℕ) → length (lineText key v) ≡ length key + length v + 1
-line-length key v = omega (arith, length-append (key ++ v) (10 ∷ []), length-append key v)
 
 pub code-length : (t : MessageType) → length (codeOf t) ≡ 2
 code-length Cb = refl

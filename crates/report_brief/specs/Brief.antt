@@ -10,10 +10,11 @@ use Rattle.record.specs.Records.{fieldOf}
 use Rattle.record.specs.declared.Record.{Record}
 use Rattle.text.specs.Bytes.{bytes}
 use Rattle.text.specs.Digits.{wholeText}
+use Rattle.text_keyline.specs.Keylines.{lineText}
 use Rattle.value.specs.declared.Value.{Value}
 use lib.ListN.{take}
 use mathlib.Core.Bool.{cond}
-use mathlib.Core.List.{List, [], _∷_, _++_}
+use mathlib.Core.List.{List, [], _++_}
 
 -- ---- what is told of a record
 
@@ -34,11 +35,6 @@ endOf r = fieldOf (r .cells) (endField (r .layout))
 -- a date as its instant, a blank as nothing
 unfoldable pub instantText : Value → List ℕ
 instantText v = cond (isFilled v) (wholeText 9 (instantIn v)) []
-
--- ---- lines `key=value`
-
-abbrev pub lineText : List ℕ → List ℕ → List ℕ
-lineText key v = (key ++ v) ++ (10 ∷ [])
 
 -- what is told of a message with these values of its identifier, unit, start and end, and its unit's room
 unfoldable pub toldOf : Layout → Value → Value → List ℕ → Value → Value → Brief

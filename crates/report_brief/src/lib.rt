@@ -10,12 +10,12 @@ use text::scan;
 use value::Value;
 use value_name::MessageType;
 ghost use Prim.Native.Nat.{_+_, _<_};
-ghost use Rattle.report_brief.specs.Brief.{instantText, lineText, toldOf, briefOf, sixOf};
+ghost use Rattle.report_brief.specs.Brief.{instantText, toldOf, briefOf, sixOf};
 ghost use Rattle.value_name.specs.Types.{codeOf};
 ghost use Rattle.text.specs.Bytes.{bytes};
 ghost use Rattle.text.specs.Digits.{wholeText};
+ghost use Rattle.text_keyline.specs.Keylines.{lineText};
 ghost use Rattle.text.specs.Puts.{limit, Puts, wroteOf, bufferOf};
-ghost use lib.ListN.{length};
 ghost use mathlib.Core.List.{_++_};
 ghost use mathlib.Core.Path.{_≡_};
 
@@ -71,24 +71,6 @@ pub fn of_record(r: Record) -> Brief
     )
 }
 
-fn put_line(out: &mut [u8], at: usize, key: &[u8], v: &[u8]) -> usize
-    requires { ⌜ at + length (now key) + length (now v) + 1 < limit ⌝ }
-    ensures { λ r. ⌜ Puts (now (out .entry)) at (lineText (now (key .entry)) (now (v .entry))) r (now (out .exit)) ⌝ }
-{
-    let a = put::put_text(out, at, key);
-    let b = put::put_text(out, a, v);
-    put::put_byte(out, b, b'\n')
-}
-
-pub fn put_number(out: &mut [u8], at: usize, key: &[u8], n: u64) -> usize
-    requires { ⌜ at + length (now key) + 11 < limit ⌝ }
-    ensures { λ r. ⌜ Puts (now (out .entry)) at (lineText (now (key .entry)) (wholeText 9 n)) r (now (out .exit)) ⌝ }
-{
-    let a = put::put_text(out, at, key);
-    let b = put::put_whole(out, a, 9, n);
-    put::put_byte(out, b, b'\n')
-}
-
 // A date as its instant, a blank as nothing.
 fn put_instant(out: &mut [u8], at: usize, v: Value) -> usize
     requires { ⌜ at + 10 < limit ⌝ }
@@ -123,7 +105,7 @@ pub fn put_lines(out: &mut [u8], at: usize, b: Brief) -> usize
     let start = b.start;
     let end = b.end;
     let head = put_head(out, at, layout::type_of(l), b.number);
-    let third = put_line(out, head, b"unit=", scan::front(&unit, b.size));
+    let third = text_keyline::put_line(out, head, b"unit=", scan::front(&unit, b.size));
     let fourth = put::put_text(out, third, b"start=");
     let fifth = put_instant(out, fourth, start);
     let sixth = put::put_text(out, fifth, b"\nend=");

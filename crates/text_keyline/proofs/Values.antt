@@ -1,7 +1,7 @@
 -- The ways through the readers of a line: its end, its value, its number.
 -- Assumes nothing.
 use Prim.Native.Nat.{ℕ, _+_, _≤_, _<_}
-use Rattle.text_keyline.specs.Keylines.{lineOf, valueIn, below, wholeUpto, bounded, ifLine, numberAt}
+use Rattle.text_keyline.specs.Keylines.{lineOf, valueIn, below, wholeIn, ranged, ifLine, numberAt}
 use Rattle.text_keyline.specs.declared.Line.the-variants.{Ends, Bad}
 use Rattle.text_keyline.specs.declared.Line.{Line}
 use Rattle.value_name.specs.Names.{sequenceOf}
@@ -73,17 +73,17 @@ below-at s r e first g = g ∙ ap (λ (k : ℕ). drop (k + 1) s) first ∙ sym (
 
 -- ---- numbers
 
-module _ (most : ℕ) (s : List ℕ) (d : Digits) (told : d ≡ sequenceOf s) where
-  pub no-whole : d ≡ Not → Not ≡ wholeUpto most s
-  unfolding wholeUpto
-  no-whole n = ap (bounded most) (sym n ∙ told)
+module _ (lo hi : ℕ) (s : List ℕ) (d : Digits) (told : d ≡ sequenceOf s) where
+  pub no-whole : d ≡ Not → Not ≡ wholeIn lo hi s
+  unfolding wholeIn
+  no-whole n = ap (ranged lo hi) (sym n ∙ told)
 
-  pub whole-in : (n : ℕ) → d ≡ Are n → within 1 most n ≡ true → Are n ≡ wholeUpto most s
-  unfolding wholeUpto
+  pub whole-in : (n : ℕ) → d ≡ Are n → within lo hi n ≡ true → Are n ≡ wholeIn lo hi s
+  unfolding wholeIn
   whole-in n e h = rw (sym told, e, h)
 
-  pub whole-out : (n : ℕ) → d ≡ Are n → within 1 most n ≡ false → Not ≡ wholeUpto most s
-  unfolding wholeUpto
+  pub whole-out : (n : ℕ) → d ≡ Are n → within lo hi n ≡ false → Not ≡ wholeIn lo hi s
+  unfolding wholeIn
   whole-out n e h = rw (sym told, e, h)
 
 module _ (key : List ℕ) (most : ℕ) (s : List ℕ) (l : Line) (told : l ≡ lineOf key s) where
@@ -91,24 +91,24 @@ module _ (key : List ℕ) (most : ℕ) (s : List ℕ) (l : Line) (told : l ≡ l
   unfolding numberAt
   no-line n = rw (sym told, n)
 
-  pub line-number : (e : ℕ) (v : List ℕ) (d : Digits) → l ≡ Ends e → v ≡ valueIn key s → d ≡ wholeUpto most v → d ≡ numberAt key most s
+  pub line-number : (e : ℕ) (v : List ℕ) (d : Digits) → l ≡ Ends e → v ≡ valueIn key s → d ≡ wholeIn 1 most v → d ≡ numberAt key most s
   unfolding numberAt
   line-number e v d y h n = n ∙ rw (sym told, y, h)
 
 -- a number that was read is within its bounds, in a line that ends
 pub number-told : (key : List ℕ) (most : ℕ) (s : List ℕ) (n : ℕ) → Are n ≡ numberAt key most s → (1 ≤ n) × (n ≤ most) × (firstOf 10 s < length s)
-unfolding numberAt wholeUpto
+unfolding numberAt wholeIn
 number-told key most s n e = at-line (lineOf key s) refl e
   where
     bounds : (t : Bool) (m : ℕ) → Are n ≡ cond t (Are m) Not → (t ≡ true) × (m ≡ n)
     bounds true m e = (refl, cc)
     bounds false m e = let z : _≡_ {A = ℕ} 0 1 = cc in absurd (omega arith)
 
-    in-bounds : (d : Digits) → Are n ≡ bounded most d → (1 ≤ n) × (n ≤ most)
+    in-bounds : (d : Digits) → Are n ≡ ranged 1 most d → (1 ≤ n) × (n ≤ most)
     in-bounds Not e = let z : _≡_ {A = ℕ} 0 1 = cc in absurd (omega arith)
     in-bounds (Are m) e = let b = bounds (within 1 most m) m e in rw (b .1) at (within-tells 1 most m .0 (b .0))
 
-    at-line : (l : Line) → lineOf key s ≡ l → Are n ≡ ifLine l (wholeUpto most (valueIn key s)) → (1 ≤ n) × (n ≤ most) × (firstOf 10 s < length s)
+    at-line : (l : Line) → lineOf key s ≡ l → Are n ≡ ifLine l (wholeIn 1 most (valueIn key s)) → (1 ≤ n) × (n ≤ most) × (firstOf 10 s < length s)
     at-line Bad i e = let z : _≡_ {A = ℕ} 0 1 = cc in absurd (omega arith)
     at-line (Ends k) i e =
         let b = in-bounds (sequenceOf (valueIn key s)) e in

@@ -72,14 +72,15 @@ fn read_unsigned(s: &[u8]) -> Digits
     Digits::Are(w.value * 1000 + f)
 }
 
-fn positive(n: u64) -> i32
+// A number of thousandths, above zero and below it.
+pub fn positive(n: u64) -> i32
     requires { ⌜ n < 1000000000 ⌝ }
     ensures { λ r. ⌜ r ≡ pos n ⌝ }
 {
     n as i32
 }
 
-fn negative(n: u64) -> i32
+pub fn negative(n: u64) -> i32
     requires { ⌜ n < 1000000000 ⌝ }
     ensures { λ r. ⌜ r ≡ negℤ (pos n) ⌝ }
 {
@@ -214,7 +215,8 @@ pub fn read_part(s: &[u8], at: usize, sep: u8) -> NumberAt
     unsigned_part(s, from, sep, false)
 }
 
-fn magnitude(x: i32) -> u64
+// How far it is from zero.
+pub fn magnitude(x: i32) -> u64
     ensures { λ r. ⌜ r ≡ natAbs x ⌝ }
 {
     if x < 0 {

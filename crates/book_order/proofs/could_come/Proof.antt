@@ -49,7 +49,8 @@ returns-5 c =
     let at-start = at-end .before .before in
     let starts = sym (at-start .before .is-instant .ensures) ∙ not-false _ (at-start .if3 .left) in
     let ends = sym (at-end .before .is-instant2 .ensures) ∙ not-false _ (at-end .if4 .left) in
-    first-out _ (at-start .before .before .if2 .left) starts ends (first-fits (start (at-start .before))) _ (c .before .is-amount .ensures) (not-true _ (c .if5 .taken))
+    first-out _ (at-start .before .before .if2 .left) starts ends (first-fits (start (at-start .before))) _ (c .before .is-amount .ensures)
+    (not-true _ (c .if5 .taken))
 
 fits-layout-requires : tie.Need-fits-layout-requires
 fits-layout-requires c κs = search needs

@@ -13,10 +13,13 @@ pub(crate) enum Act {
     Revoke,
     Close,
     Ask,
+    Save,
+    Load,
     Unknown,
 }
 
-// `C:TYPE:UNIT:FILE`, `V:..`, `X:t` or `Q:t`, and the calls that are left after it. What its letter does not ask for says nothing.
+// `C:TYPE:UNIT:FILE`, `V:..`, `X:t`, `Q:t`, `S:ROOM` or `L:TEXT`, and the calls that are left after it. `t` is a room's size too, and `file` a saved text.
+// What its letter does not ask for says nothing.
 pub(crate) struct Call {
     pub(crate) act: Act,
     pub(crate) t: u32,
@@ -26,32 +29,36 @@ pub(crate) struct Call {
     pub(crate) rest: Part,
 }
 
-// What the letter of a call asks for, where its instant or its file is of the form.
-fn act_of(letter: u8, timed: bool, filed: bool) -> Act {
+// Whether what follows the letter of a call is of its form: bytes, or a number.
+fn is_formed(letter: u8, numbered: bool, filed: bool) -> bool {
     match letter {
-        b'C' => {
-            if filed {
-                return Act::Command;
-            }
-        }
-        b'V' => {
-            if filed {
-                return Act::Revoke;
-            }
-        }
-        b'X' => {
-            if timed {
-                return Act::Close;
-            }
-        }
-        b'Q' => {
-            if timed {
-                return Act::Ask;
-            }
-        }
-        _ => return Act::Unknown,
+        b'C' | b'V' | b'L' => filed,
+        _ => numbered,
     }
-    Act::Unknown
+}
+
+// What the letter of a call asks for.
+fn act_of(letter: u8, formed: bool) -> Act {
+    if !formed {
+        return Act::Unknown;
+    }
+    match letter {
+        b'C' => Act::Command,
+        b'V' => Act::Revoke,
+        b'X' => Act::Close,
+        b'Q' => Act::Ask,
+        b'S' => Act::Save,
+        b'L' => Act::Load,
+        _ => Act::Unknown,
+    }
+}
+
+// Where the bytes of a call stand: a saved text is all that follows the letter, a file what follows the type and the unit.
+fn bytes_in(letter: u8, body: Part, file: Part) -> Part {
+    if letter == b'L' {
+        return body;
+    }
+    file
 }
 
 // The first of the calls, cut at its colons, with the place of its file's bytes, which are not yet decoded.
@@ -62,10 +69,11 @@ fn raw(line: &[u8], calls: Part) -> Call {
     let kind = piece(line, body, b':');
     let after = past(body, kind);
     let unit = piece(line, after, b':');
-    let file = hex::place_of(line, past(after, unit));
+    let letter = letter_of(line, key);
+    let file = hex::place_of(line, bytes_in(letter, body, past(after, unit)));
     let t = word_of(line, body);
     Call {
-        act: act_of(letter_of(line, key), t.good, is_good(file)),
+        act: act_of(letter, is_formed(letter, t.good, is_good(file))),
         t: t.n,
         kind,
         unit,

@@ -1,7 +1,8 @@
 -- The head, the unit and the two instants, one after the other.
 use Prim.Native.Nat.{_+_, _≤_}
 use Rattle.report_brief.proofs.Puts.{six-put}
-use Rattle.report_brief.proofs.Sizes.{line-length, head-length, unit-length, instant-length}
+use Rattle.text_keyline.proofs.Putting.{line-length}
+use Rattle.report_brief.proofs.Sizes.{head-length, unit-length, instant-length}
 use Rattle.text.specs.Bytes.{bytes}
 use lib.ListN.{length}
 use mathlib.Core.Path.{_≡_, ap, _∙_}

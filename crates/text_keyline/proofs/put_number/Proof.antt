@@ -1,7 +1,7 @@
 -- The key, the digits and the end, one after the other, are the line.
-use Rattle.report_brief.proofs.Puts.{line-put}
-use Rattle.report_brief.proofs.put_number.Statement.{statement}
-use Rattle.report_brief.proofs.put_number.Tie as tie
+use Rattle.text_keyline.proofs.Putting.{line-put}
+use Rattle.text_keyline.proofs.put_number.Statement.{statement}
+use Rattle.text_keyline.proofs.put_number.Tie as tie
 use Rattle.text.proofs.Numerals.{whole-length}
 use Rattle.text.specs.Digits.{wholeText}
 use borrow.Author.Needs.{needs}

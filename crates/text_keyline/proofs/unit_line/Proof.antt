@@ -1,7 +1,7 @@
 -- Another key, no LF, a code that is none, or where the line ends. (r is the place where the bytes of a code were counted.)
-use Rattle.plan_row.proofs.Lines.{unit-key, unit-open, unit-inside, unit-not, unit-is}
-use Rattle.plan_row.proofs.unit_line.Statement.{statement}
-use Rattle.plan_row.proofs.unit_line.Tie as tie
+use Rattle.text_keyline.proofs.Lines.{unit-key, unit-open, unit-inside, unit-not, unit-is}
+use Rattle.text_keyline.proofs.unit_line.Statement.{statement}
+use Rattle.text_keyline.proofs.unit_line.Tie as tie
 use Rattle.text.proofs.Cuts.{starts-length}
 use Rattle.text.specs.Bytes.{bytes}
 use borrow.Author.Needs.{needs}

@@ -1,7 +1,7 @@
 -- The key, the value and the end, one after the other, are the line.
-use Rattle.report_brief.proofs.Puts.{line-put}
-use Rattle.report_brief.proofs.put_line.Statement.{statement}
-use Rattle.report_brief.proofs.put_line.Tie as tie
+use Rattle.text_keyline.proofs.Putting.{line-put}
+use Rattle.text_keyline.proofs.put_line.Statement.{statement}
+use Rattle.text_keyline.proofs.put_line.Tie as tie
 use borrow.Author.Needs.{needs}
 
 put-text-requires : tie.Need-put-text-requires

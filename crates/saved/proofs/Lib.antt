@@ -1,0 +1,11 @@
+pub mod Amounts
+pub mod Ordering
+pub mod Items
+pub mod Reading
+pub mod Answers
+pub mod Heading
+pub mod Opening
+pub mod Valued
+pub mod Shelving
+pub mod Saving
+pub mod Unique

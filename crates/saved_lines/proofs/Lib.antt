@@ -1,0 +1,10 @@
+pub mod OneLine
+pub mod Exact
+pub mod Going
+pub mod Putting
+pub mod Bounds
+pub mod Seven
+pub mod Meeting
+pub mod OnePut
+pub mod Nexts
+pub mod Unique

@@ -1,0 +1,1 @@
+// No code: what holds of a book that is saved and read back (proofs/).
