@@ -7,6 +7,7 @@ use Rattle.book_theorems.proofs.Theorems.{kept}
 use Rattle.demands.specs.Request4.{Request4}
 use Rattle.saved.specs.Saved.{textOf, saveRefusals, saveOf, ofSaved}
 use Rattle.saved.specs.declared.Saved.the-variants.{To, Refused}
+use Rattle.saved_theorems.proofs.Exact.{one-order}
 use Rattle.saved_theorems.proofs.Judged.{judged-above}
 use Rattle.saved_theorems.proofs.Refused.{refused, refused-save}
 use Rattle.saved_theorems.proofs.Removed.{removed}
@@ -47,5 +48,6 @@ request-4 =
       refused-save = refused-save;
       refused = refused;
       judged-above = judged-above;
+      one-order = one-order;
       book-small = λ b h e. text-small (shelf b) (formed-fits b h e);
     }

@@ -6,9 +6,12 @@ use Rattle.book.specs.Places.{shelf, zeroBook, formedBook}
 use Rattle.book.specs.declared.Book.{Book}
 use Rattle.book_ledger.specs.Demand.{whole, Revoked, LeftOut}
 use Rattle.book_ledger.specs.Keepers.{run}
+use Rattle.book_order.specs.declared.Order.{Order}
+use Rattle.book_places.specs.Places.{fitsAfter}
 use Rattle.book_theorems.specs.Books.{bookFor, after, Kept}
 use Rattle.record.specs.declared.Record.{Record}
-use Rattle.saved.specs.Saved.{readOf, textOf, saveRefusals, saveOf, ofSaved, savedIn}
+use Rattle.saved.specs.Orders.{valuesOf}
+use Rattle.saved.specs.Saved.{readOrder, orderReadOf, ofOrderRead, orderText, readOf, textOf, saveRefusals, saveOf, ofSaved, savedIn}
 use Rattle.saved.specs.declared.Saved.the-variants.{To, Refused}
 use Rattle.saved_theorems.specs.Restart.{Sized, Agree, Turn, restarting, callsOf, turnNames, timely}
 use Rattle.text.specs.Bytes.{all}
@@ -17,7 +20,7 @@ use Rattle.text.specs.Said.{said}
 use Rattle.value_name.specs.Names.{isUnit}
 use lib.ListN.{length, take, drop}
 use mathlib.Core.Bool.{true}
-use mathlib.Core.List.{List, [], _∷_, map}
+use mathlib.Core.List.{List, [], _∷_, map, _++_}
 use mathlib.Core.Path.{_≡_}
 
 pub record Request4 : Type 0 where
@@ -46,5 +49,8 @@ pub record Request4 : Type 0 where
   pub refused : (s : List ℕ) → (readOf s .number ≡ 0 → ⊥) → (readOf s .number ≡ 50) × (1 ≤ readOf s .detail) × (readOf s .book ≡ zeroBook)
   -- "the first bad line" is bad by the lines down to it: a text that is alike in these, their ends too, is refused at the same line
   pub judged-above : (s t : List ℕ) → (readOf s .number ≡ 0 → ⊥) → Agree (readOf s .detail) s t → readOf t ≡ readOf s
+  -- one order by itself is read from its text, whatever follows it: its seven lines, where they end, and its values
+  pub one-order : (floor least : ℕ) (o : Order) (rest : List ℕ) → fitsAfter floor least o ≡ true
+      → ofOrderRead (orderReadOf (readOrder floor least 0 (orderText o ++ rest)) (orderText o ++ rest)) ≡ said 0 0 (7 ∷ length (orderText o) ∷ valuesOf o)
   -- a buffer of 24,576 bytes has room for every book
   pub book-small : (b : Book) → length (b .orders) ≡ 96 → formedBook b ≡ true → length (textOf (shelf b)) ≤ 24576

@@ -89,6 +89,11 @@ abbrev pub orderReadOf : Read Order → List ℕ → OrderRead
 orderReadOf (good o n rest) s = Good o n (length s - length rest)
 orderReadOf (bad n) s = Bad n
 
+-- what that answer says: how many lines the order has, where it ends and its values; or 50 with how many good lines stand above its first bad one
+abbrev pub ofOrderRead : OrderRead → Said
+ofOrderRead (Good o n end) = said 0 0 (n ∷ end ∷ valuesOf o)
+ofOrderRead (Bad n) = said 50 n []
+
 abbrev pub badHead : ℕ → Head
 badHead n = record { good = false; size = 0; unit = replicate 16 0; floor = 0; count = 0; line = n; end = 0 }
 

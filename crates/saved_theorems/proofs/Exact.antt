@@ -1,13 +1,15 @@
 -- What was saved is read back, and only that: of any ledger that fits. Assumes nothing.
-use Prim.Native.Nat.{ℕ, zero, suc, _+_, _*_, _≤_}
+use Prim.Native.Nat.{ℕ, zero, suc, _+_, _-_, _*_, _≤_}
 use Rattle.book_ledger.specs.Ledger.{Ledger}
 use Rattle.book_order.specs.declared.Order.{Order}
 use Rattle.book_places.proofs.Leading.{fits-facts}
+use Rattle.book_places.specs.Places.{fitsAfter}
 use Rattle.book_theorems.proofs.Fitting.{Fitted, Fits}
 use Rattle.saved.proofs.Ordering.{order-back, fits-said, said-fits}
 use Rattle.saved.specs.Orders.{valuesOf, orderFrom}
 use Rattle.saved.specs.Reads.{Read, good, bad, andThen, ended, lined, readItem, unitRead, readUnit}
-use Rattle.saved.specs.Saved.{above, nothing, Top, readOrder, readOrders, readHead, readRest, readBook, orderText, ordersText, headText, textOf}
+use Rattle.saved.specs.Saved.{above, nothing, Top, readOrder, readOrders, readHead, readRest, readBook}
+use Rattle.saved.specs.Saved.{orderReadOf, ofOrderRead, orderText, ordersText, headText, textOf}
 use Rattle.saved_lines.proofs.Bounds.{text-alike}
 use Rattle.saved_lines.proofs.Exact.{read-text, read-only}
 use Rattle.saved_lines.specs.Items.{Lines, good as goodLines, bad as badLine, readFrom, textFrom, Said}
@@ -16,12 +18,13 @@ use Rattle.saved_lines.specs.declared.Above.{Above}
 use Rattle.saved_lines.specs.declared.Table.{Table}
 use Rattle.saved_lines.specs.declared.Table.the-variants.{Form, Head as HeadTable, Order as OrderTable}
 use Rattle.text.specs.Bytes.{bytes}
+use Rattle.text.specs.Said.{said}
 use Rattle.text_keyline.proofs.Lines.{unit-back, unit-own}
 use Rattle.text_keyline.specs.Keylines.{below, lineText, unitAt}
 use Rattle.value_name.specs.Names.{isUnit}
 use borrow.Author.Tests.{ne-eqb}
 use lib.Dec.{eqb}
-use lib.ListN.{length}
+use lib.ListN.{length, length-append}
 use mathlib.Core.Bool.{true, false}
 use mathlib.Core.List.{List, [], _∷_, _++_, append-nil, append-assoc}
 use mathlib.Core.Option.{Option, none, some}
@@ -81,17 +84,30 @@ seven-long : (o : Order) → length (valuesOf o) ≡ 7
 unfolding valuesOf
 seven-long o = refl
 
+order-read : (floor least n : ℕ) (o : Order) (rest : List ℕ) → fitsAfter floor least o ≡ true
+    → readOrder floor least n (orderText o ++ rest) ≡ good o (n + 7) rest
+unfolding readOrder
+order-read floor least n o rest e =
+    let fits = fits-said floor least o e in
+    let line : n + length (valuesOf o) ≡ n + 7 = ap (λ (k : ℕ). n + k) (seven-long o) in
+    let read = item-back OrderTable (above least (suc floor)) n (valuesOf o) rest fits (omega (arith, seven-long o)) in
+    rw (read, line, order-back o (fits-facts floor least o e .2))
+
+-- THE THEOREM: one order by itself is read from its text, whatever follows
+pub one-order : (floor least : ℕ) (o : Order) (rest : List ℕ) → fitsAfter floor least o ≡ true
+    → ofOrderRead (orderReadOf (readOrder floor least 0 (orderText o ++ rest)) (orderText o ++ rest)) ≡ said 0 0 (7 ∷ length (orderText o) ∷ valuesOf o)
+one-order floor least o rest e =
+    let size : length (orderText o ++ rest) - length rest ≡ length (orderText o) = omega (arith, length-append (orderText o) rest) in
+    rw (order-read floor least 0 o rest e) (ap (λ (k : ℕ). said 0 0 (7 ∷ k ∷ valuesOf o)) size)
+
 orders-back : (floor least n : ℕ) (l : List Order) (rest : List ℕ) → Fitted floor least l
     → readOrders floor (length l) least n (ordersText l ++ rest) ≡ good l (n + 7 * length l) rest
-unfolding readOrders readOrder
+unfolding readOrders
 orders-back floor least n [] rest g = let z : n ≡ n + 7 * 0 = omega arith in rw (sym z)
 orders-back floor least n (o ∷ l) rest g =
     let seam : (orderText o ++ ordersText l) ++ rest ≡ orderText o ++ (ordersText l ++ rest) = append-assoc (orderText o) (ordersText l) rest in
-    let one =
-    item-back OrderTable (above least (suc floor)) n (valuesOf o) (ordersText l ++ rest) (fits-said floor least o (g .0)) (omega (arith, seven-long o)) in
-    let back = order-back o (fits-facts floor least o (g .0) .2) in
-    let line : n + length (valuesOf o) + 7 * length l ≡ n + 7 * suc (length l) = omega (arith, seven-long o) in
-    rw (seam, one, back, orders-back floor (suc (o .number)) (n + length (valuesOf o)) l rest (g .1), line)
+    let line : n + 7 + 7 * length l ≡ n + 7 * suc (length l) = omega arith in
+    rw (seam, order-read floor least n o (ordersText l ++ rest) (g .0), orders-back floor (suc (o .number)) (n + 7) l rest (g .1), line)
 
 pub record OrdersOwn (floor least k n : ℕ) (s : List ℕ) (l : List Order) (rest : List ℕ) : Type 0 where
   pub fitted : Fitted floor least l
