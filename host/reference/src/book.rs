@@ -13,8 +13,8 @@ use crate::Refusal;
 pub const PLACES: usize = 96;
 
 /// The earliest and the latest instant of a valid date.
-const FIRST_INSTANT: u32 = 31_615_200;
-const LAST_INSTANT: u32 = 3_155_756_399;
+pub(crate) const FIRST_INSTANT: u32 = 31_615_200;
+pub(crate) const LAST_INSTANT: u32 = 3_155_756_399;
 
 #[derive(Clone, Copy, Debug, PartialEq, Eq)]
 pub enum CommandLayout {
@@ -186,7 +186,7 @@ impl Book {
     }
 
     /// How many orders are held, or 20 if the book is malformed.
-    fn held(&self) -> Result<usize, Refusal> {
+    pub(crate) fn held(&self) -> Result<usize, Refusal> {
         let mut held = 0;
         let mut least = 0; // the next number may not be below this
         let mut well = valid::unit(&self.unit);

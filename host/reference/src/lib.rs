@@ -30,6 +30,7 @@ pub mod reader;
 pub mod record;
 pub mod rules;
 pub mod runs;
+pub mod saved;
 pub mod tables;
 pub mod times;
 pub mod valid;

@@ -105,6 +105,18 @@ fn book(unit: &[u8], calls: &str) -> Option<String> {
                     Err(refusal) => numbers(Err(refusal)),
                 }
             }
+            ["S", room] => {
+                let mut out = vec![0xaa; room.parse().ok()?];
+                match saved::save(&book, &mut out) {
+                    Ok(length) => format!("t:{}", hex(&out[..length])),
+                    Err(refusal) => numbers(Err(refusal)),
+                }
+            }
+            ["L", text] => {
+                let (next, answer) = saved::load(&bytes(text)?);
+                book = next;
+                numbers(answer)
+            }
             _ => return None,
         });
     }
