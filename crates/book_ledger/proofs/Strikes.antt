@@ -105,7 +105,7 @@ takes r b a =
 -- ---- calls
 
 pub accepted-step : (k : Call) (b : Ledger) → answer k b ≡ 0 → step k b ≡ effect (deedOf k) b
-accepted-step k b a = rw a
+accepted-step k b a = ap (λ (n : ℕ). cond (eqb n 0) (effect (deedOf k) b) b) a
 
 -- what an accepted call keeps, every call keeps
 pub step-keeps : (P : Ledger → Type 0) (k : Call) (b : Ledger) → (answer k b ≡ 0 → P b → P (effect (deedOf k) b)) → P b → P (step k b)
