@@ -38,7 +38,9 @@ head = bytes "Identificatore messaggio=VQ-0000000010\nNome UPA/UCA=U\nData Ora I
 
 abbrev tail : List ℕ → List ℕ
 tail setting =
-    bytes "Regolazione=TENSIONE (MT)\nImpostazione Sart/Report=\nImpostazione RAT=" ++ setting ++ bytes "\nVariazione=-1.5\nPotenza reattiva=\nNote=\nData Creazione Msg=15-01-2025 13:55:00 S\n"
+    bytes "Regolazione=TENSIONE (MT)\nImpostazione Sart/Report=\nImpostazione RAT="
+    ++ setting
+    ++ bytes "\nVariazione=-1.5\nPotenza reattiva=\nNote=\nData Creazione Msg=15-01-2025 13:55:00 S\n"
 
 abbrev row : List ℕ → List ℕ
 row setting = bytes "VQ-0000000010;U;15-01-2025 14:00:00 S;;E;RAT;TENSIONE (MT);;" ++ setting ++ bytes ";-1.5;;;15-01-2025 13:55:00 S\n"

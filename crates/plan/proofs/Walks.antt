@@ -182,7 +182,10 @@ module _ (plan : List ℕ) (ca ioa : ℕ) where
             sym (told ∙ ap (λ (n : ℕ). rowAtOf rest (planRowOf (rowsOf (take n keys)) rest)) (sub-zero count)
             ∙ ap (rowAtOf rest) (row-any (rowsOf (take count keys)) (f .up) rest (f .kept)))
 
-        one-more : planOf plan ≡ onward (4 * count + 1) (planRowOf (f .up) rest) (λ r. planFrom (64 - (count + 1)) (4 * count + 1 + 4) (r ∷ f .up) (below (below (below (below rest)))))
+        one-more :
+            planOf plan
+            ≡ onward (4 * count + 1) (planRowOf (f .up) rest)
+            (λ r. planFrom (64 - (count + 1)) (4 * count + 1 + 4) (r ∷ f .up) (below (below (below (below rest)))))
         one-more =
             let c : count ≤ 64 = f .few in
             let m : 64 - count ≡ suc (64 - (count + 1)) = omega arith in

@@ -133,7 +133,8 @@ module _ (key : List ℕ) (most : ℕ) (s : List ℕ) where
           run-is : r .count ≡ runOf isDigit left
           run-is =
               by-eq (r .count) (runOf isDigit left) (λ e. e)
-              (λ more. absurd (false≢true (sym (ap isDigit (getD-drop (length key) s (r .count) 0 ∙ g)) ∙ run-holds isDigit (r .count) left (omega (arith, more, count-is)))))
+              (λ more. absurd (false≢true (sym (ap isDigit (getD-drop (length key) s (r .count) 0 ∙ g))
+              ∙ run-holds isDigit (r .count) left (omega (arith, more, count-is)))))
 
           value-at : valueIn key s ≡ digits
           value-at = line-run key s clean begins isDigit refl (r .count) (whole-run run-is) n g
@@ -157,7 +158,8 @@ module _ (key : List ℕ) (most : ℕ) (s : List ℕ) where
 
           number-good : refused-number ≡ false → wholeIn 1 most digits ≡ Are (r .value)
           number-good t =
-              let o = or-parts (not (eqb (getD s (length key + r .count) 0) 10) || eqb (getD s (length key) 0) 48 || eqb (r .count) 0) (ltb most (r .value)) t in
+              let o =
+              or-parts (not (eqb (getD s (length key + r .count) 0) 10) || eqb (getD s (length key) 0) 48 || eqb (r .count) 0) (ltb most (r .value)) t in
               let p = or-parts (not (eqb (getD s (length key + r .count) 0) 10) || eqb (getD s (length key) 0) 48) (eqb (r .count) 0) (o .0) in
               let q = or-parts (not (eqb (getD s (length key + r .count) 0) 10)) (eqb (getD s (length key) 0) 48) (p .0) in
               let z = eqb-false (r .count) 0 (p .1) in
@@ -175,8 +177,10 @@ module _ (key : List ℕ) (most : ℕ) (s : List ℕ) where
         number-is t =
             let o = or-parts (not (eqb (getD s (length key + r .count) 0) 10) || eqb (getD s (length key) 0) 48 || eqb (r .count) 0) (ltb most (r .value)) t in
             let p = or-parts (not (eqb (getD s (length key + r .count) 0) 10) || eqb (getD s (length key) 0) 48) (eqb (r .count) 0) (o .0) in
-            let g = eqb-true (getD s (length key + r .count) 0) 10 (not-false _ (or-parts (not (eqb (getD s (length key + r .count) 0) 10)) (eqb (getD s (length key) 0) 48) (p .0) .0)) in
+            let q = or-parts (not (eqb (getD s (length key + r .count) 0) 10)) (eqb (getD s (length key) 0) 48) (p .0) in
+            let g = eqb-true (getD s (length key + r .count) 0) 10 (not-false _ (q .0)) in
             let run = whole-run (run-is g) in
+            let ends = line-ends key s clean begins isDigit refl (r .count) run n g in
             ap (IsNumbered (r .value)) (line-place key s clean begins isDigit refl (r .count) run n g)
             ∙ answered (Are (r .value))
-            (sym (ap (λ (l : Line). ifLine l (wholeIn 1 most (valueIn key s))) (line-ends key s clean begins isDigit refl (r .count) run n g) ∙ ap (wholeIn 1 most) (value-at g) ∙ number-good g t))
+            (sym (ap (λ (l : Line). ifLine l (wholeIn 1 most (valueIn key s))) ends ∙ ap (wholeIn 1 most) (value-at g) ∙ number-good g t))

@@ -179,9 +179,12 @@ module _ (keys s : List ℕ) (d : Numbered) (first : d ≡ numberedOf (caAt s) s
                       let n : a + 1 + b + 1 + e + 1 + 7 + 1 ≡ a + 1 + b + 1 + e + 1 + 8 = omega arith in
                       rw n at (next-line 7 at-four (sym (type-ends .0)) (type-ends .1))
 
-                  pub good-row : Good record { key = k; message = message; from = a + 1 + b + 1 + 5; to = a + 1 + b + 1 + e; end = a + 1 + b + 1 + e + 1 + 8 } ≡ answer
+                  pub good-row :
+                      Good record { key = k; message = message; from = a + 1 + b + 1 + 5; to = a + 1 + b + 1 + e; end = a + 1 + b + 1 + e + 1 + 8 } ≡ answer
                   unfolding planRowOf
                   good-row =
                       let f : a + 1 + b + 1 ≡ thirdOf s = omega (arith, at-length at-three) in
                       let g : a + 1 + b + 1 + e + 1 + 8 ≡ length s - length (below (below (below (below s)))) = omega (arith, at-length at-five) in
-                      rw (one .0, two .0, above, new, three .1, four, key, g) (ap₂ (λ (x y : ℕ). Good record { key = keyOf c i; message = message; from = x + 5; to = x + y; end = length s - length (below (below (below (below s)))) }) f (three .2))
+                      let past = length s - length (below (below (below (below s)))) in
+                      rw (one .0, two .0, above, new, three .1, four, key, g)
+                      (ap₂ (λ (x y : ℕ). Good record { key = keyOf c i; message = message; from = x + 5; to = x + y; end = past }) f (three .2))

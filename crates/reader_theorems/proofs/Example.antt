@@ -105,7 +105,8 @@ unfoldable pub cases : List Case
 cases =
     filed message read
     -- the lines in another order, the row above them, CR LF, blanks, a foreign label, and no last LF
-    ∷ filed (plus ++ row ++ bytes " ++++++++ \r\n" ++ sequence ++ end ++ bytes "foreign=3\n  Nome UPA/UCA=  UP_PROVA_1 \r\n" ++ start ++ bytes "Identificatore messaggio =RC-0000000042") read
+    ∷ filed (plus ++ row ++ bytes " ++++++++ \r\n" ++ sequence ++ end ++ bytes "foreign=3\n  Nome UPA/UCA=  UP_PROVA_1 \r\n"
+    ++ start ++ bytes "Identificatore messaggio =RC-0000000042") read
     -- 13: no row; another type; the address twice, bad at the later `ioa` line
     ∷ case 7 300 [] message (refused 13 0)
     ∷ case 7 300 (bytes "ca=7\nioa=300\nunit=UP_PROVA_1\ntype=XX\n") message (refused 13 4)
@@ -140,7 +141,8 @@ cases =
 -- every input of the table is answered as it says
 pub right : map (λ (c : Case). readOf (c .ca) (c .ioa) (c .plan) (c .file)) cases ≡ map (λ (c : Case). c .answer) cases
 unfolding fitsByte shaped dateFields leap daysIn isReal dateOf daysOf passed clockOf instantOf rc fieldsOf labelsOf kindsOf rowFields piecesOf
-    tailText rowText rowOf placeOf entryOf entries stands again missing valueAt column allowed allowedFrom allowedUpto labelRoom opens isAccented respell paramIn accentsOf lines textOf texts isSep seps mark marked
+    tailText rowText rowOf placeOf entryOf entries stands again missing valueAt column allowed allowedFrom allowedUpto
+    labelRoom opens isAccented respell paramIn accentsOf lines textOf texts isSep seps mark marked
     ifInside ifOutside inside outside framed paramOf params exactly identifierOf isUnit sequenceOf lineOf wholeIn numberAt unitAt typeFrom typeAt
     rowAt planFrom planOf lookUp soughtOf given rowIn layoutIn entriesIn valuesOf columnRecord valued labelled reading recordIn planned answerAt
     readOf answer joined typed cellsOf fieldOf recordOf keptIn inOrder rulesOf lowest brokenIn same starts upto past any all skip skipEnd trim

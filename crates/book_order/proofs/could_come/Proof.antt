@@ -17,7 +17,9 @@ second-fits : (c : tie.Start) → SFits w32 (c .args .o .second)
 second-fits c = search needs
 
 abbrev start : tie.After-is-instant → tie.Start
-start c = c .before .before .before .before .before
+start c =
+    let in-order = c .before .before in
+    in-order .before .before .before
 
 returns : tie.Need-returns
 returns c = ends-first (c .before .before .args .o) (c .if1 .taken)

@@ -13,19 +13,27 @@ use Rattle.report_brief.proofs.put_lines.Tie as tie
 
 -- where each put ends: from there to the one before it, and how far it is at most from where the function began
 abbrev began : tie.After-slice-known2 → tie.Start
-began c = c .before .before .before .before .before .before .before
+began c =
+    let typed = c .before .before .before .before in
+    typed .before .before .before
 
 abbrev head-of : tie.After-slice-known3 → tie.After-slice-known2
-head-of c = c .before .before .before .before .before .before .before
+head-of c =
+    let fronted = c .before .before .before .before in
+    fronted .before .before .before
 
 abbrev unit-of : tie.After-slice-known4 → tie.After-slice-known3
-unit-of c = c .before .before .before .before .before
+unit-of c =
+    let put = c .before .before in
+    put .before .before .before
 
 abbrev start-of : tie.After-slice-known5 → tie.After-slice-known4
 start-of c = c .before .before .before .before
 
 abbrev first-of : tie.After-slice-known6 → tie.After-slice-known5
-first-of c = c .before .before .before .before .before
+first-of c =
+    let put = c .before .before in
+    put .before .before .before
 
 abbrev end-of : tie.After-slice-known7 → tie.After-slice-known6
 end-of c = c .before .before .before .before
