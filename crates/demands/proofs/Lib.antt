@@ -10,3 +10,4 @@ pub mod Demands
 pub mod Request1
 pub mod Request2
 pub mod Request4
+pub mod Request5

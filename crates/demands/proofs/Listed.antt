@@ -78,7 +78,7 @@ numbers-alike sep least most s t e =
     ∙ sym (some-parts amountOf sep least most t))
 
 pub lists-alike : (s t : List ℕ) → parts 59 s ≡ parts 59 t → (profileOf s ≡ profileOf t) × (bandsOf s ≡ bandsOf t)
-lists-alike s t e = (numbers-alike 59 4 4 s t e, numbers-alike 59 2 2 s t e)
+lists-alike s t e = (numbers-alike 59 1 4 s t e, numbers-alike 59 2 2 s t e)
 
 -- a triple by its own parts
 abbrev tripleFrom : List (List ℕ) → Option Triple
@@ -156,7 +156,7 @@ blank-alike p q (gradients {s} {t} e) =
 shape-alike : {a : Shape} {s t : List ℕ} → SpacedList a s t → shapeOf a s ≡ shapeOf a t
 unfolding shapeOf
 shape-alike (same-text s) = refl
-shape-alike (profile {s} {t} e) = ap listFrom (numbers-alike 59 4 4 s t e)
+shape-alike (profile {s} {t} e) = ap listFrom (numbers-alike 59 1 4 s t e)
 shape-alike (bands {s} {t} e) = ap listFrom (numbers-alike 59 2 2 s t e)
 shape-alike (gradients {s} {t} e) = ap triplesFrom (gradients-alike s t e)
 

@@ -171,6 +171,7 @@ within =
       value-ask-amount-in = (λ κs a. tt, λ κs a. equation _);
       value-ask-word-number = (λ κs a. tt, λ κs a. equation _);
       value-ask-triples-in = (λ κs a. tt, λ κs a. equation _);
+      value-ask-list-size = (λ κs a. tt, λ κs a. equation _);
       value-ask-not-negative = (λ κs a. tt, λ κs a. equation _);
       layout-label-of-field = (λ κs a. tt, λ κs a. equation _);
       layout-label-put-label = λ κs a. buffer-equation _ _;

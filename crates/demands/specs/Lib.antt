@@ -8,3 +8,4 @@ pub mod Demand3
 pub mod Request1
 pub mod Request2
 pub mod Request4
+pub mod Request5

@@ -145,6 +145,7 @@ pub record Within : Type 0 where
   pub value-ask-amount-in : Answers value_ask.amount_in.ended value_ask.amount_in.Reads.Asked value_ask.amount_in.Reads.Learnt
   pub value-ask-word-number : Answers value_ask.word_number.ended value_ask.word_number.Reads.Asked value_ask.word_number.Reads.Learnt
   pub value-ask-triples-in : Answers value_ask.triples_in.ended value_ask.triples_in.Reads.Asked value_ask.triples_in.Reads.Learnt
+  pub value-ask-list-size : Answers value_ask.list_size.ended value_ask.list_size.Reads.Asked value_ask.list_size.Reads.Learnt
   pub value-ask-not-negative : Answers value_ask.not_negative.ended value_ask.not_negative.Reads.Asked value_ask.not_negative.Reads.Learnt
   -- layout_label
   pub layout-label-of-field : Answers layout_label.of_field.ended layout_label.of_field.Reads.Asked layout_label.of_field.Reads.Learnt

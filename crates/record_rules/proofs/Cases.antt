@@ -89,6 +89,20 @@ from-h5 : profiled (after 23 (quarters ∷ quarters ∷ [])) ≡ true
 unfolding profiled fieldOf
 from-h5 = refl
 
+-- the first filled one may have fewer than four, h6 alone too
+short-h5 : profiled (after 23 (two (pos 1) (pos 2) ∷ quarters ∷ [])) ≡ true
+unfolding profiled fieldOf
+short-h5 = refl
+
+short-h6 : profiled (after 24 (two (pos 1) (pos 2) ∷ [])) ≡ true
+unfolding profiled fieldOf
+short-h6 = refl
+
+-- a later one may not
+short-below : profiled (after 23 (quarters ∷ two (pos 1) (pos 2) ∷ [])) ≡ false
+unfolding profiled fieldOf
+short-below = refl
+
 below-h1 : profiled (after 19 (quarters ∷ Blank ∷ [])) ≡ false
 unfolding profiled fieldOf
 below-h1 = refl

@@ -9,11 +9,11 @@ use Rattle.record.specs.Records.{fieldOf}
 use Rattle.record.specs.declared.Cell.{Cell}
 use Rattle.record.specs.declared.Record.{Record}
 use Rattle.record_voltvar.specs.Table.{inTable}
-use Rattle.value_ask.specs.Values.{isFilled, instantIn, amountIn, isWord, triplesIn, notNegative}
+use Rattle.value_ask.specs.Values.{isFilled, instantIn, amountIn, isWord, triplesIn, listSize, notNegative}
 use Rattle.text.specs.Bytes.{all}
 use Rattle.value.specs.declared.Value.{Value}
 use Rattle.value_word.specs.Names.{wSi, wNo, wScweb, wSospensione}
-use lib.Dec.{leb, ltb}
+use lib.Dec.{eqb, leb, ltb}
 use lib.IntN.{pos}
 use lib.ListN.{take}
 use lib.Signed.{leZ, ltZ}
@@ -44,14 +44,18 @@ ramped tini1 tfin1 tini2 tfin2 =
 abbrev pub updates : Value → Value → Bool
 updates origin update = iff (isFilled update) (isWord wScweb origin)
 
--- 3. Below a filled h line all are filled.
+-- a line of four numbers
+abbrev pub isFull : Value → Bool
+isFull v = eqb (listSize v) 4
+
+-- 3. Below a filled h line all are filled, with four numbers each: the first filled one may have fewer (document 02, A5).
 abbrev pub fills : Value → Value → Value → Value → Value → Value → Bool
 fills h1 h2 h3 h4 h5 h6 =
-    onlyIf (isFilled h1) (isFilled h2)
-    && onlyIf (isFilled h2) (isFilled h3)
-    && onlyIf (isFilled h3) (isFilled h4)
-    && onlyIf (isFilled h4) (isFilled h5)
-    && onlyIf (isFilled h5) (isFilled h6)
+    onlyIf (isFilled h1) (isFull h2)
+    && onlyIf (isFilled h2) (isFull h3)
+    && onlyIf (isFilled h3) (isFull h4)
+    && onlyIf (isFilled h4) (isFull h5)
+    && onlyIf (isFilled h5) (isFull h6)
 
 -- 4. Pmin ≤ Pmax; gradient above 0.
 unfoldable pub rises : Triple → Bool

@@ -6,13 +6,14 @@ use record::at;
 use value_ask::amount_in;
 use value_ask::instant_in;
 use value_ask::is_filled;
+use value_ask::list_size;
 use value_ask::not_negative;
 use value_ask::triples_in;
 use value_ask::word_number;
 use value_list::Triple;
 use value_word::names;
 ghost use Rattle.layout.specs.declared.Layout.the-variants.{Market, VoltVar};
-ghost use Rattle.record_rules.specs.Rules.{ordered, ramped, updates, fills, rises, slopes, excludes, limits, bands, quantifies, rule, lowest, rulesOf};
+ghost use Rattle.record_rules.specs.Rules.{ordered, ramped, updates, onlyIf, isFull, fills, rises, slopes, excludes, limits, bands, quantifies, rule, lowest, rulesOf};
 ghost use Rattle.record_rules.specs.Rules.{brokenIn};
 ghost use Rattle.value_ask.specs.Values.{isFilled, isWord, instantIn, amountIn};
 ghost use Rattle.text.specs.Bytes.{all};
@@ -70,17 +71,30 @@ fn updated(origin: Cell, update: Cell) -> bool
     filled(update) == says(origin, names::SCWEB)
 }
 
-// 3. Below a filled h line all are filled.
+// A line of four numbers.
+fn full(c: Cell) -> bool
+    ensures { λ r. ⌜ r ≡ isFull (c .value) ⌝ }
+{
+    let v = c.value;
+    list_size(v) == 4
+}
+
+// Below a filled line stands one of four numbers.
+fn followed(line: Cell, below: Cell) -> bool
+    ensures { λ r. ⌜ r ≡ onlyIf (isFilled (line .value)) (isFull (below .value)) ⌝ }
+{
+    !filled(line) | full(below)
+}
+
+// 3. Below a filled h line all are filled, with four numbers each: the first filled one may have fewer.
 fn profiled(line1: Cell, line2: Cell, line3: Cell, line4: Cell, line5: Cell, line6: Cell) -> bool
     ensures { λ r. ⌜ r ≡ fills (line1 .value) (line2 .value) (line3 .value) (line4 .value) (line5 .value) (line6 .value) ⌝ }
 {
-    let h1 = filled(line1);
-    let h2 = filled(line2);
-    let h3 = filled(line3);
-    let h4 = filled(line4);
-    let h5 = filled(line5);
-    let h6 = filled(line6);
-    (!h1 | h2) & (!h2 | h3) & (!h3 | h4) & (!h4 | h5) & (!h5 | h6)
+    followed(line1, line2)
+        & followed(line2, line3)
+        & followed(line3, line4)
+        & followed(line4, line5)
+        & followed(line5, line6)
 }
 
 // 4. Pmin <= Pmax; gradient above 0.

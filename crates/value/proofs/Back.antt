@@ -78,7 +78,7 @@ module _ (t : MessageType) (r : Rooms) where
   back s v (reason {n} k) = rw (kept-length 128 n (r .reason) k, le-leb n 128 (k .few))
   back s v (note {n} k) = rw (kept-length 256 n (r .note) k, le-leb n 256 (k .few))
   back s v (chosen {first = a} {last = b} {w} p q u d) = ap gotWord (word-back a b w p q u d)
-  back s v (profile {x} f) = ap listFrom (numbers-back 4 4 x (omega arith) (omega arith) f)
+  back s v (profile {x} f) = ap listFrom (numbers-back 1 4 x (omega arith) (omega arith) f)
   back s v (bands {x} f) = ap listFrom (numbers-back 2 2 x (omega arith) (omega arith) f)
   back s v (triples {n} f) = ap triplesFrom (gradients-back (r .gradients) n f)
   back s v (in-kv {v = x} h) = ap (λ (n : Number). settingFrom voltage n (gotWord (voltIn (numberText x)))) (number-back x h)

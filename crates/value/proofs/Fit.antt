@@ -161,7 +161,7 @@ module _ (t : MessageType) (r : Rooms) (b : Bool) (s : List ℕ) (v : Value) (d 
       from-test (Fits t r IsNote) v (leb (length s) 256) (Note (length s)) e (λ q. note (kept 256 (r .note) s q (ne (h .0)) d (h .1)))
   shape-fits (IsWord first last) e h =
       from-word (Fits t r (IsWord first last)) v (wordIn first last s) e (λ w q. let z = word-range first last s w q in chosen (h .0) (z .0) (z .1) (h .1))
-  shape-fits IsProfile e h = from-list (Fits t r IsProfile) v (profileOf s) e (λ x q. profile (numbers-valid 59 4 4 s x (omega arith) q))
+  shape-fits IsProfile e h = from-list (Fits t r IsProfile) v (profileOf s) e (λ x q. profile (numbers-valid 59 1 4 s x (omega arith) q))
   shape-fits IsBands e h = from-list (Fits t r IsBands) v (bandsOf s) e (λ x q. bands (numbers-valid 59 2 2 s x (omega arith) q))
   shape-fits IsTriples e h =
       from-test (Fits t r IsTriples) v (gradientsIn s .good) (Triples (gradientsIn s .list .count)) e

@@ -147,7 +147,7 @@ module _ (t : MessageType) (r : Rooms) where
   shape-own IsReason s v b e w = text-own t r s v Reason (r .reason) (leb (length s) 128) (λ n. refl) b e
   shape-own IsNote s v b e w = text-own t r s v Note (r .note) (leb (length s) 256) (λ n. refl) b e
   shape-own (IsWord first last) s v b e w = word-own t r s v first last (wordIn first last s) refl e
-  shape-own IsProfile s v b e w = list-own t r s v w 4 4 (numbersIn 59 4 4 s) (lit≤ tt) refl e
+  shape-own IsProfile s v b e w = list-own t r s v w 1 4 (numbersIn 59 1 4 s) (lit≤ tt) refl e
   shape-own IsBands s v b e w = list-own t r s v w 2 2 (numbersIn 59 2 2 s) (lit≤ tt) refl e
   shape-own IsTriples s v b e w = triples-own t r s v w (gradientsIn s .good) refl b e
   shape-own IsVoltage s v b e w =

@@ -39,7 +39,7 @@ pub data Fits (t : MessageType) (r : Rooms) : Shape → Value → Type 0 where
   reason : {n : ℕ} → Kept 128 (r .reason) n → Fits t r IsReason (Reason n)
   note : {n : ℕ} → Kept 256 (r .note) n → Fits t r IsNote (Note n)
   chosen : {first last w : ℕ} → 1 ≤ first → first ≤ w → w ≤ last → last ≤ wFinoAPmax → Fits t r (IsWord first last) (Word w)
-  profile : {x : Few} → ValidNumbers 4 4 x → Fits t r IsProfile (Numbers x)
+  profile : {x : Few} → ValidNumbers 1 4 x → Fits t r IsProfile (Numbers x)
   bands : {x : Few} → ValidNumbers 2 2 x → Fits t r IsBands (Numbers x)
   triples : {n : ℕ} → ValidGradients (r .gradients) n → Fits t r IsTriples (Triples n)
   in-kv : {v : ℤ} → InRange v → Fits t r IsVoltage (voltage v)

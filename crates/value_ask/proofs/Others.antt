@@ -1,6 +1,6 @@
 -- What a question says of the values of every other shape, the arm `_` of a match on a value; and that the blank alone is not filled. Assumes nothing.
-use Prim.Native.Nat.{ℕ}
-use Rattle.value_ask.specs.Values.{isFilled, numberIn, countIn, sizeIn, instantIn, amountIn, wordNumber, triplesIn, notNegative}
+use Prim.Native.Nat.{ℕ, _≤_}
+use Rattle.value_ask.specs.Values.{isFilled, numberIn, countIn, sizeIn, instantIn, amountIn, wordNumber, triplesIn, listSize, notNegative}
 use Rattle.value.proofs.Value.{the-type}
 use Rattle.value.specs.declared.Value.{Value}
 use Rattle.value.specs.declared.Value.the-variants.{Blank, Id, Unit, When, Amount, Count, Reason, Note, Word, List as Numbers, Triples, Voltage, Regulator}
@@ -10,6 +10,7 @@ use lib.IntN.{pos}
 use mathlib.Core.Bool.{true, false, true≢false}
 use mathlib.Core.List.{List, [], _∷_}
 use mathlib.Core.Path.{_≡_, refl}
+use native.Mathlib.Omega.{arith}
 use types.Run.{OneOf, miss}
 
 -- the places of the variants, all but those that are asked for
@@ -222,3 +223,39 @@ negative-other (Voltage v) h = refl
 negative-other (Regulator v) h = refl
 negative-other (Change v) h = refl
 negative-other (Reactive v) h = refl
+
+-- any value but a list has no numbers
+pub list-other : (v : Value) → OneOf notNumbers (tagOf the-type v) → 0 ≡ listSize v
+list-other Blank h = refl
+list-other (Id n) h = refl
+list-other (Unit n) h = refl
+list-other (When d) h = refl
+list-other (Amount v) h = refl
+list-other (Count n) h = refl
+list-other (Reason n) h = refl
+list-other (Note n) h = refl
+list-other (Word w) h = refl
+list-other (Numbers x) h = absurd (miss notNumbers 9 tt h)
+list-other (Triples n) h = refl
+list-other (Voltage v) h = refl
+list-other (Regulator v) h = refl
+list-other (Change v) h = refl
+list-other (Reactive v) h = refl
+
+-- what has a number in its list is filled
+pub sized-filled : (v : Value) → 1 ≤ listSize v → isFilled v ≡ true
+sized-filled Blank h = absurd (omega (arith, h))
+sized-filled (Id n) h = refl
+sized-filled (Unit n) h = refl
+sized-filled (When d) h = refl
+sized-filled (Amount v) h = refl
+sized-filled (Count n) h = refl
+sized-filled (Reason n) h = refl
+sized-filled (Note n) h = refl
+sized-filled (Word w) h = refl
+sized-filled (Numbers x) h = refl
+sized-filled (Triples n) h = refl
+sized-filled (Voltage v) h = refl
+sized-filled (Regulator v) h = refl
+sized-filled (Change v) h = refl
+sized-filled (Reactive v) h = refl

@@ -156,6 +156,24 @@ triplesIn (Regulator v) = 0
 triplesIn (Change v) = 0
 triplesIn (Reactive v) = 0
 
+-- how many numbers a list has; 0 of any other value
+abbrev pub listSize : Value → ℕ
+listSize Blank = 0
+listSize (Id n) = 0
+listSize (Unit n) = 0
+listSize (When d) = 0
+listSize (Amount v) = 0
+listSize (Count n) = 0
+listSize (Reason n) = 0
+listSize (Note n) = 0
+listSize (Word w) = 0
+listSize (Numbers x) = x .count
+listSize (Triples n) = 0
+listSize (Voltage v) = 0
+listSize (Regulator v) = 0
+listSize (Change v) = 0
+listSize (Reactive v) = 0
+
 -- two numbers, neither negative
 abbrev pub noneBelow : Few → Bool
 noneBelow x = leZ (pos 0) (x .first) && leZ (pos 0) (x .second)

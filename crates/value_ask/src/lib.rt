@@ -1,7 +1,7 @@
 // What a rule asks of a value: one question for each shape, with what is said where the value is of another.
 use value::Value;
 use value_list::Numbers;
-ghost use Rattle.value_ask.specs.Values.{isFilled, numberIn, countIn, sizeIn, instantIn, amountIn, wordNumber, triplesIn, noneBelow, notNegative};
+ghost use Rattle.value_ask.specs.Values.{isFilled, numberIn, countIn, sizeIn, instantIn, amountIn, wordNumber, triplesIn, listSize, noneBelow, notNegative};
 ghost use mathlib.Core.Path.{_≡_};
 
 pub fn is_filled(v: Value) -> bool
@@ -81,6 +81,16 @@ pub fn triples_in(v: Value) -> usize
 {
     match v {
         Value::Triples(n) => n,
+        _ => 0,
+    }
+}
+
+// How many numbers a list has.
+pub fn list_size(v: Value) -> u8
+    ensures { λ r. ⌜ r ≡ listSize v ⌝ }
+{
+    match v {
+        Value::List(x) => x.count,
         _ => 0,
     }
 }

@@ -1,6 +1,6 @@
 -- A shape is known by its number, but for the words that it takes; and what the arm `_` of a question on shapes says. Assumes nothing.
 use Prim.Native.Nat.{ℕ, _-_}
-use Rattle.value_fits.specs.Fits.{typeNumber, shapeNumber, firstWord, lastWord, numbersMost}
+use Rattle.value_fits.specs.Fits.{typeNumber, shapeNumber, firstWord, lastWord, numbersFewest, numbersMost}
 use Rattle.value_name.specs.declared.MessageType.{MessageType}
 use Rattle.value_name.specs.declared.MessageType.the-variants.{Cb, Rc, Mg, Eb, Lb, Sr, Vq, Ri, Qr}
 use Rattle.value.proofs.Shape.{the-type}
@@ -71,6 +71,9 @@ notWord = 0 ∷ 1 ∷ 2 ∷ 3 ∷ 4 ∷ 5 ∷ 6 ∷ 8 ∷ 9 ∷ 10 ∷ 13 ∷ []
 abbrev notListed : List ℕ
 notListed = 0 ∷ 1 ∷ 2 ∷ 3 ∷ 4 ∷ 5 ∷ 6 ∷ 7 ∷ 10 ∷ 11 ∷ 12 ∷ 13 ∷ 14 ∷ []
 
+abbrev notBands : List ℕ
+notBands = 0 ∷ 1 ∷ 2 ∷ 3 ∷ 4 ∷ 5 ∷ 6 ∷ 7 ∷ 8 ∷ 10 ∷ 11 ∷ 12 ∷ 13 ∷ 14 ∷ []
+
 -- any shape but of words and of settings takes the words from 1 to 0
 pub no-words : (s : Shape) → OneOf notWord (tagOf the-type s) → (1 ≡ firstWord s) × (0 ≡ lastWord s)
 no-words (IsId t) h = (refl, refl)
@@ -106,3 +109,21 @@ no-numbers IsVoltage h = refl
 no-numbers IsRegulator h = refl
 no-numbers IsChange h = refl
 no-numbers IsReactive h = refl
+
+-- any shape but half-bands takes one number or more, if any
+pub one-number : (s : Shape) → OneOf notBands (tagOf the-type s) → 1 ≡ numbersFewest s
+one-number (IsId t) h = refl
+one-number IsUnit h = refl
+one-number IsWhen h = refl
+one-number IsAmount h = refl
+one-number IsCount h = refl
+one-number IsReason h = refl
+one-number IsNote h = refl
+one-number (IsWord first last) h = refl
+one-number IsProfile h = refl
+one-number IsBands h = absurd (miss notBands 9 tt h)
+one-number IsTriples h = refl
+one-number IsVoltage h = refl
+one-number IsRegulator h = refl
+one-number IsChange h = refl
+one-number IsReactive h = refl

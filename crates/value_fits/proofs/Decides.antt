@@ -7,7 +7,7 @@ use Rattle.value_fits.proofs.ByNumber.{shapeAt, type-back, shape-is}
 use Rattle.value_fits.proofs.Gradients.{triples-tell}
 use Rattle.value_fits.proofs.Ranges.{range-tells, listed-tells}
 use Rattle.value_bounds.specs.Bounds.{isAmount}
-use Rattle.value_fits.specs.Fits.{typeNumber, shapeNumber, isAmong, areListed, numbersMost, isKept, isNamed, areTriples, fits, holds}
+use Rattle.value_fits.specs.Fits.{typeNumber, shapeNumber, isAmong, areListed, numbersFewest, numbersMost, isKept, isNamed, areTriples, fits, holds}
 use Rattle.value_list.specs.declared.Numbers.{Numbers as Few}
 use Rattle.value_name.specs.Names.{isUnit}
 use Rattle.value_name.specs.declared.MessageType.{MessageType}
@@ -53,13 +53,12 @@ named-tells room n = leb-tells n (length room) and itself (isUnit (take n room))
 among : (first last w : ℕ) → Tells (leb 1 first && leb first w && leb w last && leb last 31) ((((1 ≤ first) × (first ≤ w)) × (w ≤ last)) × (last ≤ 31))
 among first last w = leb-tells 1 first and leb-tells first w and leb-tells w last and leb-tells last 31
 
--- no word is from 1 to 0, and no list has 0 numbers
+-- no word is from 1 to 0, and no list has 1 to 0 numbers
 none-among : (w : ℕ) → leb 1 1 && leb 1 w && leb w 0 && leb 0 31 ≡ true → ⊥
 none-among w e = let p = among 1 0 w .0 e in omega (arith, p .0 .0 .1, p .0 .1)
 
-none-listed : (x : Few) → areListed 0 x ≡ true → ⊥
-unfolding areListed
-none-listed x e = false≢true e
+none-listed : (x : Few) → areListed 1 0 x ≡ true → ⊥
+none-listed x e = let v = listed-tells 1 0 x (lit≤ tt) .0 e in omega (arith, v .enough, v .few)
 
 -- ---- a value and its shape
 
@@ -83,7 +82,7 @@ module _ (t : MessageType) (r : Rooms) where
   to-word IsChange w e = absurd (none-among w e)
   to-word IsReactive w e = let p = among 25 27 w .0 e in mvar-word (p .0 .0 .1) (p .0 .1)
 
-  to-numbers : (s : Shape) (x : Few) → areListed (numbersMost s) x ≡ true → Fits t r s (Numbers x)
+  to-numbers : (s : Shape) (x : Few) → areListed (numbersFewest s) (numbersMost s) x ≡ true → Fits t r s (Numbers x)
   to-numbers (IsId u) x e = absurd (none-listed x e)
   to-numbers IsUnit x e = absurd (none-listed x e)
   to-numbers IsWhen x e = absurd (none-listed x e)
@@ -92,8 +91,8 @@ module _ (t : MessageType) (r : Rooms) where
   to-numbers IsReason x e = absurd (none-listed x e)
   to-numbers IsNote x e = absurd (none-listed x e)
   to-numbers (IsWord first last) x e = absurd (none-listed x e)
-  to-numbers IsProfile x e = profile (listed-tells 4 x (lit≤ tt) (lit≤ tt) .0 e)
-  to-numbers IsBands x e = bands (listed-tells 2 x (lit≤ tt) (lit≤ tt) .0 e)
+  to-numbers IsProfile x e = profile (listed-tells 1 4 x (lit≤ tt) .0 e)
+  to-numbers IsBands x e = bands (listed-tells 2 2 x (lit≤ tt) .0 e)
   to-numbers IsTriples x e = absurd (none-listed x e)
   to-numbers IsVoltage x e = absurd (none-listed x e)
   to-numbers IsRegulator x e = absurd (none-listed x e)
@@ -137,8 +136,8 @@ module _ (t : MessageType) (r : Rooms) where
   from-fits s v (reason {n} h) = kept-tells 128 (r .reason) n .1 h
   from-fits s v (note {n} h) = kept-tells 256 (r .note) n .1 h
   from-fits s v (chosen {first} {last} {w} a b c d) = among first last w .1 (((a, b), c), d)
-  from-fits s v (profile {x} h) = listed-tells 4 x (lit≤ tt) (lit≤ tt) .1 h
-  from-fits s v (bands {x} h) = listed-tells 2 x (lit≤ tt) (lit≤ tt) .1 h
+  from-fits s v (profile {x} h) = listed-tells 1 4 x (lit≤ tt) .1 h
+  from-fits s v (bands {x} h) = listed-tells 2 2 x (lit≤ tt) .1 h
   from-fits s v (triples {n} h) = triples-tell (r .gradients) n .1 h
   from-fits s v (in-kv {v = x} h) = range-tells x .1 h
   from-fits s v (kv-word {w} a b) = among 23 24 w .1 (((lit≤ tt, a), b), lit≤ tt)

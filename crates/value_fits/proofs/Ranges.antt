@@ -4,7 +4,7 @@ use Rattle.value_bounds.specs.Bounds.{mostAmount, isAmount}
 use Rattle.value_fits.specs.Fits.{isSpare, areListed}
 use Rattle.value_list.specs.Forms.{InRange, ValidNumbers, numbersOf}
 use Rattle.value_list.specs.declared.Numbers.{Numbers as Few}
-use Rattle.text.proofs.Tests.{told, Tells, leb-tells, eqb-tells, itself, _and_, by-le}
+use Rattle.text.proofs.Tests.{told, Tells, leb-tells, itself, _and_, by-le}
 use Rattle.text.proofs.Zeros.{zero-tells}
 use borrow.Author.Tests.{lt-ltb, le-ltb}
 use lib.Dec.{eqb, ltb}
@@ -49,21 +49,24 @@ module _ (l : List ℤ) (c i : ℕ) where
 abbrev four : Few → List ℤ
 four x = x .first ∷ x .second ∷ x .third ∷ x .fourth ∷ []
 
-pub listed-tells : (c : ℕ) (x : Few) → 1 ≤ c → c ≤ 4 → Tells (areListed c x) (ValidNumbers c c x)
+pub listed-tells : (least most : ℕ) (x : Few) → most ≤ 4 → Tells (areListed least most x) (ValidNumbers least most x)
 unfolding areListed numbersOf
-listed-tells c x lo hi =
+listed-tells least most x hi =
+    let c = x .count in
     told
-    (leb-tells 1 c and leb-tells c 4 and eqb-tells (x .count) c and spare-tells c 0 (x .first) and spare-tells c 1 (x .second) and spare-tells c 2 (x .third) and spare-tells c 3 (x .fourth))
+    (
+    leb-tells least c and leb-tells c most
+    and spare-tells c 0 (x .first) and spare-tells c 1 (x .second) and spare-tells c 2 (x .third) and spare-tells c 3 (x .fourth)
+    )
     (λ p.
-    let e : x .count ≡ c = p .0 .0 .0 .0 .1 in
-    let n : x .count ≡ length (take (x .count) (four x)) = omega (arith, e, hi, length-take (x .count) (four x)) in
-    let v0 = kept (four x) (x .count) 0 (λ h. p .0 .0 .0 .1 .1 (omega (arith, e, h))) in
-    let v1 = kept (four x) (x .count) 1 (λ h. p .0 .0 .1 .1 (omega (arith, e, h))) in
-    let v2 = kept (four x) (x .count) 2 (λ h. p .0 .1 .1 (omega (arith, e, h))) in
-    let v3 = kept (four x) (x .count) 3 (λ h. p .1 .1 (omega (arith, e, h))) in
+    let n : x .count ≡ length (take c (four x)) = omega (arith, p .0 .0 .0 .0 .1, hi, length-take c (four x)) in
+    let v0 = kept (four x) c 0 (p .0 .0 .0 .1 .1) in
+    let v1 = kept (four x) c 1 (p .0 .0 .1 .1) in
+    let v2 = kept (four x) c 2 (p .0 .1 .1) in
+    let v3 = kept (four x) c 3 (p .1 .1) in
     record {
-      enough = omega (arith, e);
-      few = omega (arith, e);
+      enough = p .0 .0 .0 .0 .0;
+      few = p .0 .0 .0 .0 .1;
       zero-room = λ j. record { count = n j; first = v0 j; second = v1 j; third = v2 j; fourth = v3 j };
       first-range = p .0 .0 .0 .1 .0;
       second-range = p .0 .0 .1 .0;
@@ -71,17 +74,13 @@ listed-tells c x lo hi =
       fourth-range = p .1 .0;
     })
     (λ v.
-    let e : x .count ≡ c = omega (arith, v .enough, v .few) in
     let z = v .zero-room in (
       (
         (
-          (
-            ((lo, hi), e),
-            (v .first-range, λ h. ap (λ (y : Few). y .first) z ∙ past (four x) (x .count) 0 (omega (arith, e, h))),
-          ),
-          (v .second-range, λ h. ap (λ (y : Few). y .second) z ∙ past (four x) (x .count) 1 (omega (arith, e, h))),
+          ((v .enough, v .few), (v .first-range, λ h. ap (λ (y : Few). y .first) z ∙ past (four x) c 0 h)),
+          (v .second-range, λ h. ap (λ (y : Few). y .second) z ∙ past (four x) c 1 h),
         ),
-        (v .third-range, λ h. ap (λ (y : Few). y .third) z ∙ past (four x) (x .count) 2 (omega (arith, e, h))),
+        (v .third-range, λ h. ap (λ (y : Few). y .third) z ∙ past (four x) c 2 h),
       ),
-      (v .fourth-range, λ h. ap (λ (y : Few). y .fourth) z ∙ past (four x) (x .count) 3 (omega (arith, e, h))),
+      (v .fourth-range, λ h. ap (λ (y : Few). y .fourth) z ∙ past (four x) c 3 h),
     ))

@@ -11,7 +11,8 @@ pub record Within : Type 0 where
   pub shapes-type-number : Answers shapes.type_number.ended shapes.type_number.Reads.Asked shapes.type_number.Reads.Learnt
   pub shapes-number : Answers shapes.number.ended shapes.number.Reads.Asked shapes.number.Reads.Learnt
   pub shapes-is-among : Answers shapes.is_among.ended shapes.is_among.Reads.Asked shapes.is_among.Reads.Learnt
-  pub shapes-count : Answers shapes.count.ended shapes.count.Reads.Asked shapes.count.Reads.Learnt
+  pub shapes-fewest : Answers shapes.fewest.ended shapes.fewest.Reads.Asked shapes.fewest.Reads.Learnt
+  pub shapes-most : Answers shapes.most.ended shapes.most.Reads.Asked shapes.most.Reads.Learnt
   pub texts-is-kept : Answers texts.is_kept.ended texts.is_kept.Reads.Asked texts.is_kept.Reads.Learnt
   pub texts-is-unit : Answers texts.is_unit.ended texts.is_unit.Reads.Asked texts.is_unit.Reads.Learnt
 
@@ -22,7 +23,8 @@ within =
       shapes-type-number = (λ κs a. tt, λ κs a. equation _);
       shapes-number = (λ κs a. tt, λ κs a. equation _);
       shapes-is-among = (λ κs a. tt, λ κs a. equation _);
-      shapes-count = (λ κs a. tt, λ κs a. equation _);
+      shapes-fewest = (λ κs a. tt, λ κs a. equation _);
+      shapes-most = (λ κs a. tt, λ κs a. equation _);
       texts-is-kept = (λ κs a. tt, λ κs a. equation _);
       texts-is-unit = (λ κs a. tt, λ κs a. equation _);
     }

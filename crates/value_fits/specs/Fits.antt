@@ -91,7 +91,24 @@ lastWord IsRegulator = wVMin
 lastWord IsChange = 0
 lastWord IsReactive = wMaxSottoeccitazione
 
--- how many numbers: 0 where it takes no list of them
+-- how many numbers, from the fewest to the most: none, which is from 1 to 0, where it takes no list of them
+abbrev pub numbersFewest : Shape → ℕ
+numbersFewest (IsId t) = 1
+numbersFewest IsUnit = 1
+numbersFewest IsWhen = 1
+numbersFewest IsAmount = 1
+numbersFewest IsCount = 1
+numbersFewest IsReason = 1
+numbersFewest IsNote = 1
+numbersFewest (IsWord first last) = 1
+numbersFewest IsProfile = 1
+numbersFewest IsBands = 2
+numbersFewest IsTriples = 1
+numbersFewest IsVoltage = 1
+numbersFewest IsRegulator = 1
+numbersFewest IsChange = 1
+numbersFewest IsReactive = 1
+
 abbrev pub numbersMost : Shape → ℕ
 numbersMost (IsId t) = 0
 numbersMost IsUnit = 0
@@ -118,10 +135,14 @@ isAmong s w = leb 1 (firstWord s) && leb (firstWord s) w && leb w (lastWord s) &
 unfoldable pub isSpare : ℕ → ℕ → ℤ → Bool
 isSpare count i v = isAmount v && (ltb i count || eqb (natAbs v) 0)
 
-unfoldable pub areListed : ℕ → Few → Bool
-areListed count x =
-    leb 1 count && leb count 4 && eqb (x .count) count && isSpare count 0 (x .first) && isSpare count 1 (x .second) && isSpare count 2 (x .third)
-    && isSpare count 3 (x .fourth)
+unfoldable pub areListed : ℕ → ℕ → Few → Bool
+areListed least most x =
+    leb least (x .count)
+    && leb (x .count) most
+    && isSpare (x .count) 0 (x .first)
+    && isSpare (x .count) 1 (x .second)
+    && isSpare (x .count) 2 (x .third)
+    && isSpare (x .count) 3 (x .fourth)
 
 -- ---- triples in their room of sixteen
 
@@ -154,7 +175,7 @@ fits t r s (Count n) = eqb (shapeNumber s) 4 && ltb n (10 ^ 10)
 fits t r s (Reason n) = eqb (shapeNumber s) 5 && isKept 128 (r .reason) n
 fits t r s (Note n) = eqb (shapeNumber s) 6 && isKept 256 (r .note) n
 fits t r s (Word w) = isAmong s w
-fits t r s (Numbers x) = areListed (numbersMost s) x
+fits t r s (Numbers x) = areListed (numbersFewest s) (numbersMost s) x
 fits t r s (Triples n) = eqb (shapeNumber s) 10 && areTriples (r .gradients) n
 fits t r s (Voltage v) = eqb (shapeNumber s) 11 && isAmount (v .0)
 fits t r s (Regulator v) = eqb (shapeNumber s) 12 && isAmount (v .0)

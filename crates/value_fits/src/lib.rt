@@ -36,7 +36,7 @@ fn fits(
         Value::Reason(x) => (n == 5) & texts::is_kept(reason, 128, x),
         Value::Note(x) => (n == 6) & texts::is_kept(note, 256, x),
         Value::Word(x) => shapes::is_among(s, x),
-        Value::List(x) => numbers::are_listed(x, shapes::count(s)),
+        Value::List(x) => numbers::are_listed(x, shapes::fewest(s), shapes::most(s)),
         Value::Triples(x) => (n == 10) & triples::are_listed(gradients, x),
         Value::Voltage(x) => (n == 11) & value_bounds::is_amount(x.0),
         Value::Regulator(x) => (n == 12) & value_bounds::is_amount(x.0),

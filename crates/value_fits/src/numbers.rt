@@ -10,14 +10,15 @@ fn is_spare(count: u8, i: u8, v: i32) -> bool
     value_bounds::is_amount(v) & ((i < count) | (v == 0))
 }
 
-pub fn are_listed(x: Numbers, count: u8) -> bool
-    ensures { λ r. ⌜ r ≡ areListed count x ⌝ }
+// A list of least to most numbers.
+pub fn are_listed(x: Numbers, least: u8, most: u8) -> bool
+    ensures { λ r. ⌜ r ≡ areListed least most x ⌝ }
 {
-    (1 <= count)
-        & (count <= 4)
-        & (x.count == count)
-        & is_spare(count, 0, x.first)
-        & is_spare(count, 1, x.second)
-        & is_spare(count, 2, x.third)
-        & is_spare(count, 3, x.fourth)
+    let n = x.count;
+    (least <= n)
+        & (n <= most)
+        & is_spare(n, 0, x.first)
+        & is_spare(n, 1, x.second)
+        & is_spare(n, 2, x.third)
+        & is_spare(n, 3, x.fourth)
 }

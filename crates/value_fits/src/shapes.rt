@@ -2,7 +2,7 @@
 use value::Shape;
 use value_name::MessageType;
 use value_word::names;
-ghost use Rattle.value_fits.specs.Fits.{typeNumber, shapeNumber, firstWord, lastWord, numbersMost, isAmong};
+ghost use Rattle.value_fits.specs.Fits.{typeNumber, shapeNumber, firstWord, lastWord, numbersFewest, numbersMost, isAmong};
 ghost use mathlib.Core.Path.{_≡_};
 
 // An identifier's shape has the number of its type, from 21; every other shape has a number below.
@@ -77,8 +77,17 @@ pub fn is_among(s: Shape, w: u8) -> bool
     (1 <= first) & (first <= w) & (w <= last) & (last <= names::FINO_A_PMAX)
 }
 
-// How many numbers a shape takes: 0 where it takes no list of them.
-pub fn count(s: Shape) -> u8
+// How many numbers a shape takes at least, and at most: from 1 to 0, so none, where it takes no list of them.
+pub fn fewest(s: Shape) -> u8
+    ensures { λ r. ⌜ r ≡ numbersFewest s ⌝ }
+{
+    match s {
+        Shape::IsBands => 2,
+        _ => 1,
+    }
+}
+
+pub fn most(s: Shape) -> u8
     ensures { λ r. ⌜ r ≡ numbersMost s ⌝ }
 {
     match s {

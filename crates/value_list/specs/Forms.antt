@@ -51,9 +51,9 @@ listed none = Bad
 unfoldable pub numbersIn : ℕ → ℕ → ℕ → List ℕ → Listed
 numbersIn sep least most s = listed (someOf amountOf sep least most s)
 
--- a profile line: four numbers
+-- a profile line: one to four numbers (document 02, A5; that a line below a filled one has four is rule 3)
 abbrev pub profileOf : List ℕ → Listed
-profileOf s = numbersIn 59 4 4 s
+profileOf s = numbersIn 59 1 4 s
 
 -- the half-bands: two numbers
 abbrev pub bandsOf : List ℕ → Listed

@@ -50,11 +50,11 @@ pub fn read(s: &[u8], sep: u8, least: usize, most: usize) -> Listed
     Listed::Bad
 }
 
-// A line of a ramp profile: four numbers. (Request A5: one to four.)
+// A line of a ramp profile: one to four numbers.
 pub fn read_profile(s: &[u8]) -> Listed
     ensures { λ r. ⌜ r ≡ profileOf (now (s .entry)) ⌝ }
 {
-    read(s, b';', 4, 4)
+    read(s, b';', 1, 4)
 }
 
 // The two half-bands, upwards and downwards.

@@ -60,8 +60,11 @@ is-among-requires c κs = search needs
 enum-known-v-9 : tie.Need-enum-known-v-9
 enum-known-v-9 c = search needs
 
-count-requires : tie.Need-count-requires
-count-requires c κs = search needs
+fewest-requires : tie.Need-fewest-requires
+fewest-requires c κs = search needs
+
+most-requires : tie.Need-most-requires
+most-requires c κs = search needs
 
 are-listed-requires : tie.Need-are-listed-requires
 are-listed-requires c κs = search needs
@@ -137,7 +140,7 @@ returns-9 c = rw (c .before .before .v8 .given .1, c .is-among .ensures)
 
 returns-10 : tie.Need-returns-10
 unfolding fits
-returns-10 c = rw (c .before .before .before .v9 .given .1, c .are-listed .ensures, c .before .count .ensures)
+returns-10 c = rw (c .before .before .before .before .v9 .given .1, c .are-listed .ensures, c .before .before .fewest .ensures, c .before .most .ensures)
 
 returns-11 : tie.Need-returns-11
 unfolding fits
@@ -193,7 +196,8 @@ fits-spec =
     enum-known-v-8
     is-among-requires
     enum-known-v-9
-    count-requires
+    fewest-requires
+    most-requires
     are-listed-requires
     enum-known-v-10
     are-listed-requires-2

@@ -11,7 +11,7 @@ abbrev start : tie.After-is-spare4 → tie.Start
 start c =
     let second = c .before .before .before .before in
     let first = second .before .before in
-    first .before .before .before
+    first .before .before
 
 is-spare-requires : tie.Need-is-spare-requires
 is-spare-requires c κs = search needs
