@@ -4,7 +4,7 @@ use crate::dice::Dice;
 use crate::lines::{join, split, Lines};
 use crate::plans::{self, Plan};
 use crate::samples::{Sample, SAMPLES};
-use crate::{body, damage, layout_noise, random, spellings, together, values};
+use crate::{body, damage, layout_noise, profiles, random, spellings, together, values};
 
 pub struct Input {
     pub sample: &'static Sample,
@@ -29,7 +29,13 @@ pub const MOST_ROOM: usize = 8_192;
 pub fn input(seed: u64, number: u64) -> Input {
     let mut dice = Dice::new(seed, number);
     let sample = &SAMPLES[dice.below(SAMPLES.len())];
-    let file = if spellings::wanted(sample, &mut dice) { spelled(sample, &mut dice) } else { file(sample, &mut dice) };
+    let file = if spellings::wanted(sample, &mut dice) {
+        spelled(sample, &mut dice)
+    } else if profiles::wanted(sample, &mut dice) {
+        profiled(sample, &mut dice)
+    } else {
+        file(sample, &mut dice)
+    };
     let Plan { ca, ioa, text: plan } =
         if dice.once_in(6) { plans::changed(sample, &mut dice) } else { plans::good(sample, &mut dice) };
     Input { sample, ca, ioa, plan, file, room: room(&mut dice) }
@@ -72,6 +78,23 @@ fn spelled(sample: &Sample, dice: &mut Dice) -> Vec<u8> {
     }
     times(dice.below(3), || layout_noise::change(&mut lines, dice));
     spellings::change(&mut lines, sample, dice);
+    join(&lines)
+}
+
+/// A file with another profile: often else a good one, so that the h lines alone decide.
+fn profiled(sample: &Sample, dice: &mut Dice) -> Vec<u8> {
+    let mut lines = split(sample.file.as_bytes());
+    if dice.once_in(3) {
+        lines = split(&file(sample, dice));
+    } else if dice.once_in(3) {
+        together::change(&mut lines, sample, dice);
+    }
+    profiles::change(&mut lines, dice);
+    body::mend_row(&mut lines, sample);
+    if dice.once_in(4) {
+        profiles::miscount_row(&mut lines, dice);
+    }
+    times(dice.below(3), || layout_noise::change(&mut lines, dice));
     join(&lines)
 }
 

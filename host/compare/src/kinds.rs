@@ -84,6 +84,11 @@ fn gap(dice: &mut Dice) -> &'static str {
 
 pub fn list(count: usize, between: &str, dice: &mut Dice) -> String {
     let count = if dice.once_in(12) { dice.from_to(1, count + 1) } else { count };
+    numbers(count, between, dice)
+}
+
+/// A list of just so many.
+pub fn numbers(count: usize, between: &str, dice: &mut Dice) -> String {
     let parts: Vec<String> = (0..count).map(|_| format!("{}{}{}", gap(dice), plain(dice), gap(dice))).collect();
     parts.join(between)
 }

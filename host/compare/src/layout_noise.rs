@@ -4,14 +4,15 @@ use crate::dice::Dice;
 use crate::lines::{body_end, is_separator, parameters, Lines};
 
 pub fn change(lines: &mut Lines, dice: &mut Dice) {
-    match dice.below(8) {
+    match dice.below(9) {
         0 => blanks_about_a_line(lines, dice),
         1 => blanks_about_an_equals(lines, dice),
         2 => carriage_return(lines, dice),
         3 => lines.iter_mut().rev().skip(1).for_each(|line| line.push(b'\r')),
         4 => two_parameters_change_places(lines, dice),
-        5 => foreign_line(lines, dice),
-        6 => longer_separator(lines, dice),
+        5 => parameters_in_any_order(lines, dice),
+        6 => foreign_line(lines, dice),
+        7 => longer_separator(lines, dice),
         _ => line_end_at_the_end(lines, dice),
     }
 }
@@ -53,6 +54,13 @@ fn two_parameters_change_places(lines: &mut Lines, dice: &mut Dice) {
     let places = parameters(lines);
     if !places.is_empty() {
         lines.swap(places[dice.below(places.len())], places[dice.below(places.len())]);
+    }
+}
+
+fn parameters_in_any_order(lines: &mut Lines, dice: &mut Dice) {
+    let places = parameters(lines);
+    for last in 1..places.len() {
+        lines.swap(places[last], places[dice.below(last + 1)]);
     }
 }
 

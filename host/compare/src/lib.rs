@@ -4,8 +4,9 @@
 //! them to both sides and compares answers and output buffers; [`tally`] counts what was
 //! answered. The files come from [`samples`], by way of [`layout_noise`] (which leaves the
 //! record as it is), [`values`] and [`together`] (other values, the summary row mended),
-//! [`damage`] and [`random`], and at last [`spellings`] (the accents and short settings of
-//! request A1); the plans from [`plans`]. Each choice is a throw of [`dice`].
+//! [`damage`] and [`random`], and at last [`profiles`] (h lines as request A5 has them) or
+//! [`spellings`] (the accents and short settings of request A1); the plans from [`plans`].
+//! Each choice is a throw of [`dice`].
 //! For collecting, [`transfers`] makes a run of [`units`] from a number, [`collecting`]
 //! gives it to both sides, and [`units_met`] counts what became of the units.
 //! The library is called by [`ours`], which links it on x86-64 and is [`far`] elsewhere.
@@ -28,6 +29,9 @@ pub mod ours;
 #[cfg(feature = "pace")]
 pub mod pace;
 pub mod plans;
+pub mod profiles;
+#[cfg(test)]
+mod profiles_met;
 pub mod random;
 pub mod samples;
 pub mod spellings;

@@ -1,15 +1,18 @@
 //! How often each answer was given, so that a run which met only the easy ones is seen.
 
 use crate::input::Input;
+use crate::lines::split;
+use crate::profiles;
 use crate::samples::{Sample, SAMPLES};
 use crate::spellings::ACCENT;
 
 const NUMBERS: [u32; 12] = [13, 1, 2, 3, 4, 5, 6, 7, 8, 9, 10, 11];
 const RULES: [u32; 9] = [1, 2, 3, 4, 5, 6, 7, 8, 9];
 
-/// What files with an accent, and files with a short setting, must have been answered: 0 is a length.
+/// What files with an accent, with a short setting and with a short h line must have been answered: 0 is a length.
 const ACCENTED: [u32; 5] = [0, 3, 5, 7, 10];
 const SHORT: [u32; 3] = [0, 7, 10];
+const PROFILED: [u32; 4] = [0, 7, 8, 10];
 
 /// From so many inputs on, every answer must have been met; rules 2 and 4 come once in some hundreds of inputs.
 const ENOUGH: u64 = 5_000;
@@ -20,9 +23,10 @@ pub struct Tally {
     accepted: [u64; SAMPLES.len()],
     refused: [u64; 32],
     rules: [u64; 16],
-    /// of files that hold byte E0, and of those that hold `VMAX` or `VMIN`
+    /// of files that hold byte E0, of those that hold `VMAX` or `VMIN`, and of those with an h line of one to three numbers
     accented: [u64; 32],
     short: [u64; 32],
+    profiled: [u64; 32],
 }
 
 impl Tally {
@@ -33,6 +37,9 @@ impl Tally {
         }
         if input.file.windows(4).any(|word| [b"VMAX", b"VMIN"].iter().any(|short| word == *short)) {
             self.short[number as usize % 32] += 1;
+        }
+        if profiles::counts(&split(&input.file)).into_iter().any(profiles::is_short) {
+            self.profiled[number as usize % 32] += 1;
         }
         match number {
             0 => self.accepted[place(input.sample)] += 1,
@@ -51,6 +58,7 @@ impl Tally {
         println!("refusals 8 by rule: {}", counted(&RULES, &self.rules));
         println!("of files with an accent (0 is accepted): {}", counted(&ACCENTED, &self.accented));
         println!("of files with a short setting: {}", counted(&SHORT, &self.short));
+        println!("of files with a short h line: {}", counted(&PROFILED, &self.profiled));
     }
 
     /// What so many inputs should have met and did not: each refusal and each layout accepted, and in a long run each rule.
@@ -62,6 +70,7 @@ impl Tally {
             missing.extend(layouts.map(|(sample, _)| format!("acceptance of {}", sample.name)));
             missing.extend(never(&ACCENTED, &self.accented).map(|number| format!("{number} with an accent")));
             missing.extend(never(&SHORT, &self.short).map(|number| format!("{number} with a short setting")));
+            missing.extend(never(&PROFILED, &self.profiled).map(|number| format!("{number} with a short h line")));
         }
         if inputs >= ENOUGH_FOR_RULES {
             missing.extend(never(&RULES, &self.rules).map(|rule| format!("rule {rule}")));

@@ -1,5 +1,6 @@
 //! Values that a rule across fields joins, set together: the ways that document 01 allows, and their neighbours. Single values
-//! changed at random would hardly ever meet a row of VQ's table, or an LB that lifts its limits.
+//! changed at random would hardly ever meet a row of VQ's table, or an LB that lifts its limits. (The h lines of rule 3 are set by
+//! [`crate::profiles`].)
 
 use crate::body;
 use crate::dice::Dice;
@@ -17,22 +18,11 @@ struct Table {
 }
 
 #[rustfmt::skip]
-static TABLES: [Table; 9] = [
+static TABLES: [Table; 8] = [
     Table {
         layout: "CB market",
         labels: &["Origine Dati Tecnici a Trif", "Data Ora Aggiornamento Dati a Trif"],
         rows: &[&["SCWEB", "*"], &["SCWEB", "14-01-2025 18:20:31 L"], &["GAUDI", ""], &["SCWEB", ""], &["GAUDI", "*"]],
-    },
-    Table {
-        layout: "CB market",
-        labels: &[
-            "Profilo normalizzato di rampa h1", "Profilo normalizzato di rampa h2", "Profilo normalizzato di rampa h3",
-            "Profilo normalizzato di rampa h4", "Profilo normalizzato di rampa h5", "Profilo normalizzato di rampa h6",
-        ],
-        rows: &[
-            &["*", "*", "*", "*", "*", "*"], &["", "*", "*", "*", "*", "*"], &["", "", "*", "*", "*", "*"], &["", "", "", "*", "*", "*"],
-            &["", "", "", "", "*", "*"], &["", "", "", "", "", "*"], &["", "", "", "", "", ""], &["", "*", "", "*", "*", "*"],
-        ],
     },
     Table { layout: "CB market", labels: &["Gradienti (Pmin,Pmax,Grad)"], rows: &[&["*"]] },
     Table {

@@ -4,11 +4,11 @@
 use halimpung_compare::check::check;
 use halimpung_compare::dice::Dice;
 use halimpung_compare::input::{Input, Room, MOST_ROOM};
-use halimpung_compare::lines::{join, split};
+use halimpung_compare::lines::{join, split, Lines};
 use halimpung_compare::samples::{Sample, SAMPLES};
 use halimpung_compare::spellings::{self, ACCENT, LABELS};
 use halimpung_compare::units::Units;
-use halimpung_compare::{collecting, ours, transfers, Entry};
+use halimpung_compare::{body, collecting, ours, profiles, transfers, Entry};
 use halimpung_reference::{normalise_entry, read_entry};
 
 /// The byte between plan and file where an input has both.
@@ -162,10 +162,27 @@ pub fn spelled_seeds() -> Vec<Vec<u8>> {
         for number in 0..count {
             let mut lines = split(sample.file.as_bytes());
             spellings::change(&mut lines, sample, &mut Dice::new(place as u64, number));
-            seeds.push([&[(place as u8) << 1 | (number % 2) as u8, 255], &join(&lines)[..]].concat());
+            seeds.push(by_turns(place, number, &lines));
         }
     }
     seeds
+}
+
+/// Market commands, good and bad, with profiles that the comparison's generator made.
+pub fn profiled_seeds() -> Vec<Vec<u8>> {
+    let place = SAMPLES.iter().position(|sample| sample.name == profiles::LAYOUT).expect("a sample of it");
+    let seed = |number| {
+        let mut lines = split(SAMPLES[place].file.as_bytes());
+        profiles::change(&mut lines, &mut Dice::new(0, number));
+        body::mend_row(&mut lines, &SAMPLES[place]);
+        by_turns(place, number, &lines)
+    };
+    (0..60).map(seed).collect()
+}
+
+/// At the sample's own address; to be read, the next one to be normalised.
+fn by_turns(place: usize, number: u64, lines: &Lines) -> Vec<u8> {
+    [&[(place as u8) << 1 | (number % 2) as u8, 255], &join(lines)[..]].concat()
 }
 
 /// Runs of units, as the comparison makes them, that are not too long for an input.
@@ -173,13 +190,14 @@ pub fn unit_seeds() -> Vec<Vec<u8>> {
     (0..120).map(|number| joined(&transfers::run(0, number))).filter(|seed| seed.len() <= 9_000).collect()
 }
 
-/// Words to put in: each line's label and value of the samples, in both spellings, the plan's keys, and the octets that units begin with.
+/// Words to put in: each line's label and value of the samples, in both spellings, short lists, the plan's keys, and the octets that units
+/// begin with.
 pub fn words() -> Vec<Vec<u8>> {
     let mut words: Vec<Vec<u8>> = ["ca=", "ioa=", "unit=", "type=", "+++++", "\r\n"].map(Vec::from).to_vec();
     for sample in &SAMPLES {
         words.extend(sample.file.lines().flat_map(|line| line.splitn(2, '=')).map(|part| part.trim().into()));
     }
-    words.extend(["VMAX", "VMIN", "V MIN"].map(Vec::from));
+    words.extend(["VMAX", "VMIN", "V MIN", "0.5;1", ";1"].map(Vec::from));
     words.extend(LABELS.map(<[u8]>::to_vec));
     words.push(vec![ACCENT]);
     words.extend([120, 121, 123, 125].map(|kind| vec![kind, 1, 13, 0, 7, 0, 45, 1, 0, 1, 0]));
@@ -195,13 +213,15 @@ mod tests {
     use super::*;
     use halimpung_reference::{Collector, Heard, Refusal};
 
-    /// By the reference alone: ten samples, two of them in second spellings too, three inputs each.
+    /// By the reference alone.
+    fn answer(seed: &[u8]) -> u32 {
+        let (input, _, theirs) = input(seed).expect("an input");
+        check(theirs, theirs, &input).unwrap_or_else(|_| panic!("one entry differs"))
+    }
+
+    /// Ten samples, two of them in second spellings too, three inputs each.
     #[test]
     fn seeds_are_good_and_spelled_ones_both() {
-        let answer = |seed: &Vec<u8>| {
-            let (input, _, theirs) = input(seed).expect("an input");
-            check(theirs, theirs, &input).unwrap_or_else(|_| panic!("one entry differs"))
-        };
         let accented = |seed: &&Vec<u8>| seed.contains(&ACCENT);
         assert_eq!(seeds().len(), 36);
         assert_eq!(seeds().iter().filter(accented).count(), 6);
@@ -209,6 +229,14 @@ mod tests {
         let spelled = spelled_seeds();
         for number in [0, 3, 5, 10] {
             assert!(spelled.iter().filter(accented).any(|seed| answer(seed) >> 16 == number), "none answers {number}");
+        }
+    }
+
+    #[test]
+    fn profiled_seeds_are_good_and_bad() {
+        let answers: Vec<u32> = profiled_seeds().iter().map(|seed| answer(seed)).collect();
+        for number in [0, 7, 8] {
+            assert!(answers.iter().any(|answer| answer >> 16 == number), "none answers {number}");
         }
     }
 
@@ -231,7 +259,7 @@ mod tests {
 
     #[test]
     fn every_seed_is_answered_alike() {
-        for seed in [seeds(), spelled_seeds(), unit_seeds()].concat() {
+        for seed in [seeds(), spelled_seeds(), profiled_seeds(), unit_seeds()].concat() {
             assert_eq!(difference(&seed), None);
         }
     }

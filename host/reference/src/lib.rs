@@ -1,6 +1,7 @@
 //! Messages of Annex A.34 Rev. 10, read, written and booked as document 01 says,
-//! with requests A1 (accented labels and the short VMAX) and A2 (files from their
-//! segments) of document 02.
+//! with requests A1 (accented labels and the short VMAX), A2 (files from their
+//! segments), A4 (a book over a restart) and A5 (profiles with fewer than 24 values)
+//! of document 02.
 //!
 //! The path of a file: [`plan`] gives the type and unit of the address, [`lines`]
 //! walks the file once and finds where each value lies, [`fields`] turns the
@@ -10,7 +11,7 @@
 //!
 //! Nothing on that path allocates: values stay slices of the file until they are
 //! typed, and a record has fixed room for its texts. A collector does: it keeps
-//! the octets that came.
+//! the octets that came; and so does [`saved`], which makes a book's text aside.
 #![forbid(unsafe_code)]
 
 pub mod book;

@@ -30,8 +30,27 @@ impl Gradients {
     }
 }
 
-/// One line of a ramp profile: four numbers.
-pub type Profile = [i32; 4];
+pub const MOST_IN_A_LINE: usize = 4;
+
+/// One line of a ramp profile: 1 to 4 numbers (A5); unused places are zero.
+#[derive(Clone, Copy, Debug, PartialEq, Eq)]
+pub struct Profile {
+    pub numbers: [i32; MOST_IN_A_LINE],
+    pub count: u8,
+}
+
+impl Profile {
+    pub const EMPTY: Self = Profile { numbers: [0; MOST_IN_A_LINE], count: 0 };
+
+    /// The numbers in use; none if the count is beyond the room.
+    pub fn get(&self) -> &[i32] {
+        self.numbers.get(..usize::from(self.count)).unwrap_or(&[])
+    }
+
+    pub fn is_full(&self) -> bool {
+        usize::from(self.count) == MOST_IN_A_LINE
+    }
+}
 
 /// SR `Semibande`: upward, downward.
 #[derive(Clone, Copy, Debug, PartialEq, Eq)]
@@ -40,11 +59,20 @@ pub struct HalfBands {
     pub down: i32,
 }
 
-pub fn profile(text: &[u8]) -> Option<Profile> {
-    let (a, text) = part(text, b';')?;
-    let (b, text) = part(text, b';')?;
-    let (c, text) = part(text, b';')?;
-    Some([a, b, c, last_part(text)?])
+/// Which lines may have fewer than four is rule 3's affair.
+pub fn profile(mut text: &[u8]) -> Option<Profile> {
+    let mut profile = Profile::EMPTY;
+    for place in &mut profile.numbers {
+        let (number, rest) = bare_part(text)?;
+        *place = number;
+        profile.count += 1;
+        match rest {
+            [] => return Some(profile),
+            [b';', rest @ ..] => text = rest,
+            _ => return None,
+        }
+    }
+    None // a `;` after the fourth number
 }
 
 pub fn half_bands(text: &[u8]) -> Option<HalfBands> {
@@ -108,8 +136,14 @@ mod tests {
 
     #[test]
     fn profiles() {
-        assert_eq!(profile(b"0.1; 0.2 ;-3;4"), Some([100, 200, -3_000, 4_000]));
-        for bad in ["", ";;;", "1;;3;4", "1;2;3", "1;2;3;4;", "1;2;3;4;5", "1;2;3;x", "1;2;3 3;4", "1,2,3,4"] {
+        assert_eq!(profile(b"0.1; 0.2 ;-3;4"), Some(Profile { numbers: [100, 200, -3_000, 4_000], count: 4 }));
+        assert_eq!(profile(b"1;2;3"), Some(Profile { numbers: [1_000, 2_000, 3_000, 0], count: 3 }));
+        assert_eq!(profile(b"-1 ; 2"), Some(Profile { numbers: [-1_000, 2_000, 0, 0], count: 2 }));
+        assert_eq!(profile(b"0"), Some(Profile { numbers: [0; 4], count: 1 }));
+        for bad in ["", ";", "1;", ";1", "1;2;", ";;;", "1;;3;4", "1;2;3;4;", "1;2;3;4;5", "1;2;3;4;5;6"] {
+            assert_eq!(profile(bad.as_bytes()), None, "{bad}");
+        }
+        for bad in ["x", "1 2", "1;2;3;x", "1;2;3 3;4", "1,2,3,4", "1000000"] {
             assert_eq!(profile(bad.as_bytes()), None, "{bad}");
         }
     }

@@ -47,9 +47,11 @@ fn mfrr_in_order(order: &Mfrr) -> bool {
     order.first.is_forward() && order.first.end.instant() <= order.second.start.instant() && order.second.is_forward()
 }
 
-/// Rule 3, by field number: below a filled h line all are filled.
+/// Rule 3, by field number: fewer than 24 values start from h6 going backwards, so
+/// only the first filled h line may have fewer than four, and all below it have four.
 fn profiles_reach_down(order: &Market) -> bool {
-    order.profiles.windows(2).all(|two| two[0].is_none() || two[1].is_some())
+    let mut below_the_first = order.profiles.iter().skip_while(|profile| profile.is_none()).skip(1);
+    below_the_first.all(|profile| profile.is_some_and(|profile| profile.is_full()))
 }
 
 /// Rule 4, within each band; neighbours are not compared.

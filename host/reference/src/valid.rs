@@ -3,7 +3,7 @@
 //! What the types already rule out, such as a wrong word, needs no look here.
 
 use crate::dates::Date;
-use crate::lists::{Band, Gradients};
+use crate::lists::{Band, Gradients, Profile};
 use crate::record::*;
 use crate::rules;
 use crate::values::{is_plain, is_unit, trim, Text, Unit, MOST_SEQUENCE, MOST_THOUSANDTHS};
@@ -70,18 +70,27 @@ fn market(order: &Market) -> bool {
         && order.ramp_time.is_none_or(number)
         && order.reference.is_valid()
         && order.updated.is_none_or(Date::is_valid)
-        && order.profiles.iter().flatten().flatten().copied().all(number)
+        && order.profiles.iter().flatten().all(profile)
         && gradients(&order.gradients)
 }
 
+fn profile(profile: &Profile) -> bool {
+    divided(&profile.numbers, profile.count)
+        .is_some_and(|(used, unused)| used.iter().copied().all(number) && unused.iter().all(|&number| number == 0))
+}
+
 fn gradients(gradients: &Gradients) -> bool {
-    let count = usize::from(gradients.count);
-    if !(1..=gradients.bands.len()).contains(&count) {
-        return false;
-    }
-    let (used, unused) = gradients.bands.split_at(count);
-    used.iter().all(|band| number(band.low) && number(band.high) && number(band.gradient))
-        && unused.iter().all(|band| *band == Band { low: 0, high: 0, gradient: 0 })
+    divided(&gradients.bands, gradients.count).is_some_and(|(used, unused)| {
+        used.iter().all(|band| number(band.low) && number(band.high) && number(band.gradient))
+            && unused.iter().all(|band| *band == Band { low: 0, high: 0, gradient: 0 })
+    })
+}
+
+/// The places of a list that its count says are in use, and the others; a list
+/// has one at least, and no more than the room.
+fn divided<T>(places: &[T], count: u8) -> Option<(&[T], &[T])> {
+    let count = usize::from(count);
+    (1..=places.len()).contains(&count).then(|| places.split_at(count))
 }
 
 fn voltage(voltage: &Voltage) -> bool {

@@ -130,7 +130,7 @@ fn market(page: &mut Page, order: &Market) {
     page.text(order.origin.word());
     page.date(order.updated);
     for profile in &order.profiles {
-        page.line(|pen| profile.iter().for_each(|profile| pen.numbers(profile, b";")));
+        page.line(|pen| profile.iter().for_each(|profile| pen.numbers(profile.get(), b";")));
     }
     page.line(|pen| {
         for (place, band) in order.gradients.get().iter().enumerate() {

@@ -4,6 +4,7 @@ mod common;
 
 use common::*;
 use halimpung_reference::book::{CommandLayout, Order};
+use halimpung_reference::lists::Profile;
 use halimpung_reference::record::*;
 use halimpung_reference::*;
 
@@ -58,8 +59,8 @@ fn invalid_records() {
     market(|order| order.updated = None);
     market(|order| order.variation.last = 1_000_000_000);
     market(|order| order.ramp_time = Some(i32::MIN));
-    market(|order| order.profiles[0] = Some([0; 4]));
-    market(|order| order.profiles[5] = Some([1_000_000_000, 0, 0, 0]));
+    market(|order| order.profiles[0] = order.profiles[5]);
+    market(|order| order.profiles[5] = Some(Profile { numbers: [1_000_000_000, 0, 0, 0], count: 4 }));
     market(|order| order.gradients.count = 0);
     market(|order| order.gradients.count = 17);
     market(|order| order.gradients.count = 2);
@@ -80,6 +81,27 @@ fn invalid_records() {
     });
 }
 
+/// Reading 77: the record keeps how many numbers an h line has, and the others are zero.
+#[test]
+fn counts_and_spare_numbers_of_a_profile() {
+    let first = |profile| market(move |order| order.profiles[4] = Some(profile));
+    first(Profile { numbers: [100, 200, 0, 1], count: 2 });
+    first(Profile { numbers: [100, 1, 0, 0], count: 1 });
+    first(Profile { numbers: [0, 0, 0, -1], count: 3 });
+    for count in [0, 5, 255] {
+        first(Profile { numbers: [0; 4], count });
+    }
+    // rule 3: only the first filled line may be short
+    market(|order| order.profiles[5] = Some(Profile { numbers: [100, 200, 300, 0], count: 3 }));
+
+    let mut record = sample(MARKET);
+    let Body::Market(order) = &mut record.body else { unreachable!() };
+    order.profiles[4] = Some(Profile { numbers: [100, 0, 0, 0], count: 2 });
+    let mut out = [0; 8192];
+    let length = write(&record, &mut out).unwrap();
+    assert_eq!(read_as(MARKET, std::str::from_utf8(&out[..length]).unwrap()), Ok(record));
+}
+
 #[test]
 fn the_longest_written_form() {
     let mut record = sample(MARKET);
@@ -89,7 +111,7 @@ fn the_longest_written_form() {
     order.program = order.variation;
     order.start_up_time = Some(least);
     order.ramp_time = Some(least);
-    order.profiles = [Some([least; 4]); 6];
+    order.profiles = [Some(Profile { numbers: [least; 4], count: 4 }); 6];
     order.gradients.count = 16;
     order.gradients.bands.fill(lists::Band { low: least, high: least, gradient: 999_999_999 });
     record.unit = values::unit(b"ABCDEFGHIJKLMNOP").unwrap();

@@ -1,5 +1,6 @@
 //! `seeds FOLDER WORDS`: writes the inputs to begin with into a folder, and the words to a libFuzzer dictionary.
 
+use halimpung_fuzz as fuzz;
 use std::fs;
 use std::path::Path;
 
@@ -10,11 +11,11 @@ fn main() -> std::io::Result<()> {
         std::process::exit(2);
     };
     fs::create_dir_all(folder)?;
-    let seeds = [halimpung_fuzz::seeds(), halimpung_fuzz::spelled_seeds(), halimpung_fuzz::unit_seeds()].concat();
+    let seeds = [fuzz::seeds(), fuzz::spelled_seeds(), fuzz::profiled_seeds(), fuzz::unit_seeds()].concat();
     for (number, seed) in seeds.iter().enumerate() {
         fs::write(Path::new(folder).join(format!("seed-{number:03}")), seed)?;
     }
-    fs::write(words, halimpung_fuzz::words().iter().map(|word| entry(word)).collect::<String>())
+    fs::write(words, fuzz::words().iter().map(|word| entry(word)).collect::<String>())
 }
 
 /// A dictionary's line: the bytes in hex, so that none needs another escape.
