@@ -104,12 +104,15 @@ enum halimpung_refusal {
     HALIMPUNG_BOOK_LATE = 23,     /* command: end at or below the floor */
     HALIMPUNG_BOOK_FULL = 24,     /* command: ninety-six held */
     HALIMPUNG_BOOK_UNKNOWN = 25,  /* revocation: number not held */
-    HALIMPUNG_BOOK_STRUCK = 26,   /* revocation: already struck */
+    HALIMPUNG_BOOK_STRUCK = 26,   /* revocation: stretch wholly struck already */
     HALIMPUNG_BOOK_CLOSE = 27,    /* close: instant below the floor */
     HALIMPUNG_BOOK_ASKED = 28,    /* in force: instant below the floor */
     HALIMPUNG_BOOK_TYPE = 29,     /* command: not a CB; revocation: not an RC */
+    HALIMPUNG_BOOK_OUTSIDE = 31,  /* revocation: stretch not inside the order */
+    HALIMPUNG_BOOK_FIFTH = 32,    /* revocation: a fifth struck stretch, after touching ones are joined */
 
-    /* a saved book: saving 20, then 11; reading back this */
+    /* a saved book: saving 20, 52, then 11; reading back 50 */
+    HALIMPUNG_SAVED_PART = 52,    /* an order is struck in part */
     HALIMPUNG_SAVED_TEXT = 50     /* text of no saved book. Detail: its first bad line, from 1 */
 };
 

@@ -33,7 +33,8 @@ fn said_in_force(answer: InForce) -> u32 {
 
 // An order of the book that a call handed back counts too: else nobody would look at that book, and it need not be made.
 fn said(number: u8, o: Order) -> u32 {
-    if o.struck {
+    let c = o.struck[0];
+    if c.to != 0 {
         return number as u32 + 1;
     }
     number as u32 + wrapped(o.number)

@@ -12,8 +12,10 @@ use Rattle.book_ledger.specs.Calls.{Call, command, revoke, close, Deed, hold, s
 use Rattle.book_ledger.specs.Ledger.{answer, effect, rungsOf, isFull}
 use Rattle.book_lists.specs.Keyed.{keep, insert, greatest, Ascending}
 use Rattle.book_order.specs.Messages.{orderOf, strikeOf}
-use Rattle.book_order.specs.Orders.{Strike, number, nameOf, named, live, pastEnd, strikeFor, couldStrike, struckOut, strikeAt, already, couldCome, isBrought}
+use Rattle.book_order.specs.Orders.{Strike, number, nameOf, named, live, pastEnd, strikeFor, couldStrike, strikeRefusals, struckBy, strikeAt}
+use Rattle.book_order.specs.Orders.{outside, already, crowded, isBrought}
 use Rattle.book_order.specs.declared.Order.{Order}
+use Rattle.book_order.specs.declared.Struck.{Struck}
 use Rattle.book_places.proofs.Seats.{held-seat, any-seat, put-seat, change-seat}
 use Rattle.book_places.proofs.Seats as seats
 use Rattle.book_places.proofs.Staying.{kept-all}
@@ -24,13 +26,15 @@ use Rattle.book_places.specs.declared.Tally.{Tally}
 use Rattle.book_shelf.proofs.Ranks.{ascending-rising}
 use Rattle.book_shelf.proofs.Replacing.{replace-set}
 use Rattle.book_shelf.specs.Shelf.{putIn, replaced}
-use Rattle.book_source.proofs.Comes.{comes, instants-fit, names-fit}
+use Rattle.book_source.proofs.Comes.{comes, instants-fit, names-fit, revoked-fit}
+use Rattle.book_stretch.specs.Stretches.{areNone}
+use Rattle.book_stretch.specs.declared.Stretch.{Stretch}
 use Rattle.layout.specs.Layouts.{isCommand, isRevocation}
 use Rattle.layout.specs.declared.Layout.{Layout}
 use Rattle.record.specs.declared.Record.{Record}
 use Rattle.record_check.specs.Validity.{isValid}
 use Rattle.report_brief.specs.Brief.{unitOf, startOf, endOf}
-use Rattle.text.specs.Bytes.{any, same}
+use Rattle.text.specs.Bytes.{any, all, same}
 use Rattle.text.specs.Refusals.{Refusal, refusal as row, firstNumber}
 use Rattle.value_ask.specs.Values.{instantIn}
 use borrow.Author.Tests.{le-leb, lt-leb, lt-ltb, le-ltb, ne-eqb, eqb-false}
@@ -93,17 +97,25 @@ module _ (calls : Layout → Bool) (unit : List ℕ) (r : Record) (right : Bool)
       both true false e = absurd (eqb-false 29 0 refl e)
       both false w e = absurd (eqb-false 12 0 refl e)
 
--- so that a command's instants fit, and both are calls for what some valid message brings
+-- so that its instants fit, and both are calls for what some valid message brings
 module _ (unit : List ℕ) (r : Record) (right : Bool) (n : ℕ) (u : n ≡ unfitIn right unit r) (z : n ≡ 0) where
   pub command-instants : right ≡ isCommand (r .layout) → (instantIn (startOf r) ≤ 4294967295) × (instantIn (endOf r) ≤ 4294967295)
   command-instants which = let f = fit-both isCommand unit r right which n u z in instants-fit r (f .0) (f .1)
 
   pub command-brings : right ≡ isCommand (r .layout) → isBrought (orderOf r) ≡ true
-  unfolding isBrought orderOf
+  unfolding isBrought orderOf areNone all
   command-brings which = let f = fit-both isCommand unit r right which n u z in rw (comes r (f .0) (f .1))
+
+  pub revocation-instants : right ≡ isRevocation (r .layout) → (instantIn (startOf r) ≤ 4294967295) × (instantIn (endOf r) ≤ 4294967295)
+  revocation-instants which = let f = fit-both isRevocation unit r right which n u z in revoked-fit r (f .0) (f .1)
 
   pub revocation-names : right ≡ isRevocation (r .layout) → couldStrike (strikeOf r) ≡ true
   revocation-names which = let f = fit-both isRevocation unit r right which n u z in names-fit r (f .0) (f .1)
+
+-- a number and a stretch as a record says them
+pub could-be : (r : Record) (m : ℕ) (over : Stretch) → m ≡ strikeOf r .name .number → over ≡ strikeOf r .over → couldStrike (strikeOf r) ≡ true
+    → couldStrike (strikeFor m over) ≡ true
+could-be r m over e d c = (λ i. couldStrike (strikeFor (e i) (d i))) ∙ c
 
 module _ (b : Book) (count : ℕ) (h : Holding b count) where
   fits : count ≤ length (b .orders)
@@ -163,14 +175,19 @@ module _ (b : Book) (count : ℕ) (h : Holding b count) where
             ∙ put-seat count (b .orders) (h .size .long) (h .places) o k (ap (λ (s : Seat). s .held) (sym seated) ∙ t))
             (rw (h .held))
 
-  -- ---- strike: 25, 26
+  -- ---- strike: 25, and what the order that has the number answers
 
-  module _ (n : ℕ) (c : couldStrike (strikeFor n) ≡ true) (seat : Seat) (seated : seat ≡ seatIn n 0 count (b .orders)) where
+  module _ (n : ℕ) (over : Stretch) (c : couldStrike (strikeFor n over) ≡ true) (seat : Seat) (seated : seat ≡ seatIn n 0 count (b .orders)) where
     abbrev s : Strike
-    s = strikeFor n
+    s = strikeFor n over
 
     abbrev unheld : List Refusal
-    unheld = row 25 0 (not (any (named (s .name)) (take count (b .orders)))) ∷ row 26 0 (any (already s) (take count (b .orders))) ∷ []
+    unheld =
+        row 25 0 (not (any (named (s .name)) (take count (b .orders))))
+        ∷ row 31 0 (any (outside s) (take count (b .orders)))
+        ∷ row 26 0 (any (already s) (take count (b .orders)))
+        ∷ row 32 0 (any (crowded s) (take count (b .orders)))
+        ∷ []
 
     strike-rest : firstNumber (rungsOf (isFull (shelf b)) (strike s) (shelf b)) ≡ firstNumber unheld
     unfolding shelf
@@ -200,27 +217,43 @@ module _ (b : Book) (count : ℕ) (h : Holding b count) where
       named-it : named (s .name) it ≡ true
       named-it = sym (at-seat (named (s .name)) (λ o z. z)) ∙ strike-test ∙ t
 
-      strike-last : firstNumber (rungsOf (isFull (shelf b)) (strike s) (shelf b)) ≡ firstNumber (row 26 0 (it .struck) ∷ [])
-      strike-last = strike-rest ∙ rw (strike-test ∙ t, at-seat (already s) (λ o z. rw z), named-it)
+      strike-last : firstNumber (rungsOf (isFull (shelf b)) (strike s) (shelf b)) ≡ firstNumber (strikeRefusals over it)
+      strike-last =
+          strike-rest
+          ∙ rw (
+            strike-test ∙ t,
+            at-seat (outside s) (λ o z. rw z),
+            at-seat (already s) (λ o z. rw z),
+            at-seat (crowded s) (λ o z. rw z),
+            named-it,
+          )
 
-      pub strike-struck : it .struck ≡ true → outcome 26 b ≡ deedOutcomeOf (strike s) b
-      strike-struck e = no-deed (strike s) c 26 (strike-last ∙ rw e) refl
+      module _ (struck : Struck) (done : struck ≡ struckBy over it) where
+        answer-is : firstNumber (strikeRefusals over it) ≡ struck .number
+        unfolding struckBy
+        answer-is = ap (λ (x : Struck). x .number) (sym done)
 
-      stored : (o : Order) → o ≡ struckOut it → set (b .orders) (seat .at) o ≡ packed (map (strikeAt s) (take count (b .orders)))
-      stored o x =
-          let l = b .orders in
-          let struck : o ≡ strikeAt s it = x ∙ rw named-it in
-          rw struck
-          (replace-set (seat .at) (strikeAt s it) l (omega (arith, at-inside, h .size .long))
-          ∙ ap (λ (y : Seat). replaced (y .at) (strikeAt s (orderAt (y .at) l)) l) seated
-          ∙ change-seat count l (h .size .long) (h .places) n (strikeAt s) (λ y z. rw z) (h .few) (h .rising) its-held)
+        pub strike-refused : (struck .number ≡ 0 → ⊥) → outcome (struck .number) b ≡ deedOutcomeOf (strike s) b
+        strike-refused z = no-deed (strike s) c (struck .number) (strike-last ∙ answer-is) (ne-eqb (struck .number) 0 z)
 
-      pub strike-done : it .struck ≡ false → (o : Order) → o ≡ struckOut it → (next : Book) → next ≡ withOrders b (b .floor) (set (b .orders) (seat .at) o)
-          → outcome 0 next ≡ deedOutcomeOf (strike s) b
-      unfolding shelf
-      strike-done e o x next q =
-          makes (strike s) c (b .floor) (set (b .orders) (seat .at) o) (map (strikeAt s) (take count (b .orders))) next
-          (strike-last ∙ rw e) q (stored o x) (rw (h .held))
+        module _ (z : struck .number ≡ 0) where
+          order-is : struck .order ≡ strikeAt s it
+          unfolding struckBy
+          order-is = ap (λ (x : Struck). x .order) done ∙ rw (answer-is ∙ z, named-it)
+
+          stored : set (b .orders) (seat .at) (struck .order) ≡ packed (map (strikeAt s) (take count (b .orders)))
+          stored =
+              let l = b .orders in
+              rw order-is
+              (replace-set (seat .at) (strikeAt s it) l (omega (arith, at-inside, h .size .long))
+              ∙ ap (λ (y : Seat). replaced (y .at) (strikeAt s (orderAt (y .at) l)) l) seated
+              ∙ change-seat count l (h .size .long) (h .places) n (strikeAt s) (λ y z. rw z) (h .few) (h .rising) its-held)
+
+          pub strike-done : (next : Book) → next ≡ withOrders b (b .floor) (set (b .orders) (seat .at) (struck .order)) → outcome 0 next ≡ deedOutcomeOf (strike s) b
+          unfolding shelf
+          strike-done next q =
+              makes (strike s) c (b .floor) (set (b .orders) (seat .at) (struck .order)) (map (strikeAt s) (take count (b .orders))) next
+              (strike-last ∙ answer-is ∙ z) q stored (rw (h .held))
 
   -- ---- close
 
@@ -267,10 +300,11 @@ module _ (b : Book) (count : ℕ) (h : Holding b count) where
           refused (revoke r) b (h .size .long) (h .size .wide) (h .formed) n
           (unfit-some isRevocation unit r right which n u (rest (strike (strikeOf r))) z) (ne-eqb n 0 z)
 
-      pub revoke-strikes : n ≡ 0 → (m : ℕ) → m ≡ strikeOf r .name .number → deedOutcomeOf (strike (strikeFor m)) b ≡ outcomeOf (revoke r) b
+      pub revoke-strikes : n ≡ 0 → (m : ℕ) (over : Stretch) → m ≡ strikeOf r .name .number → over ≡ strikeOf r .over
+          → deedOutcomeOf (strike (strikeFor m over)) b ≡ outcomeOf (revoke r) b
       unfolding shelf
-      revoke-strikes z m e =
-          ap (λ (x : ℕ). deedOutcomeOf (strike (strikeFor x)) b) e
+      revoke-strikes z m over e d =
+          (λ i. deedOutcomeOf (strike (strikeFor (e i) (d i))) b)
           ∙ by-deed (revoke r) b (h .size .long) (h .size .wide) (h .formed) (revocation-names unit r right n u z which)
           (unfit-none isRevocation unit r right which n u (rest (strike (strikeOf r))) z)
 

@@ -5,6 +5,7 @@ mod fitness;
 use book_order::Order;
 use book_places::Place;
 use book_places::Tally;
+use book_stretch::Stretch;
 use record::Record;
 use value_name::unit;
 ghost use Prim.Native.Nat.{_≤_};
@@ -146,10 +147,11 @@ impl Book {
         )
     }
 
-    // Strikes the order that has a number of at most ten digits. It keeps its place until it is closed, so that a command sent again cannot revive it.
-    fn strike_in(self, count: usize, n: u64) -> Outcome
-        requires { ⌜ (tallyOf self ≡ Tally.Holds count) × (couldStrike (strikeFor n) ≡ true) ⌝ }
-        ensures { λ r. ⌜ r ≡ deedOutcomeOf (Deed.strike (strikeFor n)) self ⌝ }
+    // Strikes a stretch, such as some valid RC record says, of the order that has a number. The order keeps its place until it is closed, struck as a whole
+    // too, so that a command sent again cannot revive it.
+    fn strike_in(self, count: usize, n: u64, over: Stretch) -> Outcome
+        requires { ⌜ (tallyOf self ≡ Tally.Holds count) × (couldStrike (strikeFor n over) ≡ true) ⌝ }
+        ensures { λ r. ⌜ r ≡ deedOutcomeOf (Deed.strike (strikeFor n over)) self ⌝ }
     {
         let mut orders = self.orders;
         let seat = book_places::seat_of(orders, 0, count, n);
@@ -158,10 +160,12 @@ impl Book {
         }
         let at = seat.at;
         let o = orders[at];
-        if o.struck {
-            return answered(26, self);
+        let struck = book_order::strike(o, over);
+        if struck.number != 0 {
+            return answered(struck.number, self);
         }
-        orders[at] = book_order::struck_out(o);
+        let next = struck.order;
+        orders[at] = next;
         answered(0, self.made(self.floor, orders))
     }
 
@@ -178,17 +182,17 @@ impl Book {
         self.hold_in(count, o)
     }
 
-    // Strikes the order that has a number. 12: no valid RC record names it.
-    pub fn strike(self, n: u64) -> Outcome
-        ensures { λ r. ⌜ r ≡ deedOutcomeOf (Deed.strike (strikeFor n)) self ⌝ }
+    // Strikes a stretch of the order that has a number. 12: no valid RC record says this.
+    pub fn strike(self, n: u64, over: Stretch) -> Outcome
+        ensures { λ r. ⌜ r ≡ deedOutcomeOf (Deed.strike (strikeFor n over)) self ⌝ }
     {
         let Tally::Holds(count) = self.tally() else {
             return answered(20, self);
         };
-        if value_bounds::MOST_NUMBER < n {
+        if !book_order::could_strike(n, over) {
             return answered(12, self);
         }
-        self.strike_in(count, n)
+        self.strike_in(count, n, over)
     }
 
     // Holds the order of a CB record.
@@ -207,7 +211,7 @@ impl Book {
         self.hold_in(count, book_order::of_record(r))
     }
 
-    // Strikes the order that an RC record names.
+    // Strikes the order that an RC record names, from the record's start to its end.
     pub fn revoke(self, r: Record) -> Outcome
         ensures { λ o. ⌜ o ≡ outcomeOf (Call.revoke r) self ⌝ }
     {
@@ -220,7 +224,7 @@ impl Book {
         if unfit != 0 {
             return answered(unfit, self);
         }
-        self.strike_in(count, book_order::named_by(r))
+        self.strike_in(count, book_order::named_by(r), book_order::struck_by(r))
     }
 
     // Closes the time up to t: the floor is t, and orders that end at t or before go.

@@ -8,7 +8,7 @@ use Rattle.book_ledger.specs.Calls.{Call, command, revoke, close, ask, D
 use Rattle.book_ledger.specs.History.{floorBy, floorFrom, strikeBy, markedBy, brings, takings, heldBy, ledgerOf}
 use Rattle.book_ledger.specs.Ledger.{Ledger, fresh, answer, effect, inForce, run, accepted}
 use Rattle.book_order.specs.Messages.{orderOf, strikeOf}
-use Rattle.book_order.specs.Orders.{nameOf, number, named, live, pastEnd, strikeAt, already}
+use Rattle.book_order.specs.Orders.{nameOf, number, named, live, pastEnd, Strike, strikeAt, outside, already, crowded}
 use Rattle.book_order.specs.declared.Order.{Order}
 use Rattle.text.proofs.Tests.{by-test}
 use Rattle.text.specs.Bytes.{any}
@@ -99,7 +99,14 @@ answer-sort : (k : Call) (unit : List ℕ) (f : ℕ) (l : List Order)
     → answer k (record { unit = unit; floor = f; orders = sortOnto number [] l }) ≡ answer k (record { unit = unit; floor = f; orders = l })
 unfolding any
 answer-sort (command r) unit f l = rw (any-sort number (named (nameOf (orderOf r))) [] l, length-sort number [] l, zero-add)
-answer-sort (revoke r) unit f l = rw (any-sort number (named (strikeOf r .name)) [] l, any-sort number (already (strikeOf r)) [] l)
+answer-sort (revoke r) unit f l =
+    let s : Strike = strikeOf r in
+    rw (
+      any-sort number (named (s .name)) [] l,
+      any-sort number (outside s) [] l,
+      any-sort number (already s) [] l,
+      any-sort number (crowded s) [] l,
+    )
 answer-sort (close t) unit f l = refl
 answer-sort (ask t) unit f l = refl
 
@@ -118,7 +125,7 @@ module _ (unit : List ℕ) (ks : List Call) where
   pub same-in-force : (t : ℕ) → inForce t (run ks (fresh unit)) ≡ inForce t (ledgerOf unit (map deedOf (accepted ks (fresh unit))))
   same-in-force t = rw (agreement .helds, greatest-sort number (live t) [] (heldBy (map deedOf (accepted ks (fresh unit))))) (omega arith)
 
-  -- and what that is: of the orders held, not struck, with start ≤ t < end, the one with the greatest number
+  -- and what that is: of the orders held, with start ≤ t < end and not struck there, the one with the greatest number
   pub in-force-none : (t : ℕ) → inForce t (run ks (fresh unit)) ≡ 0 → All (λ o. live t o ≡ true → ⊥) (heldBy (map deedOf (accepted ks (fresh unit))))
   in-force-none t e =
       let l : List Order = heldBy (map deedOf (accepted ks (fresh unit))) in

@@ -1,12 +1,12 @@
 -- Demand 3's second half: a command that was taken and later revoked may be left out, with its revocation. The two runs' books are at each call b and
 -- `without n b`, with n the order's name. Assumes nothing.
-use Prim.Native.Nat.{ℕ}
+use Prim.Native.Nat.{ℕ, _≤_}
 use Rattle.layout.specs.Layouts.{isCommand, isRevocation}
-use Rattle.book_lists.proofs.Keeping.{All, all-keep, all-insert, all-map, all-made, all-weaker, keep-hidden, keep-all}
+use Rattle.book_lists.proofs.Keeping.{All, all-keep, all-insert, all-map, all-weaker, keep-hidden, keep-all}
 use Rattle.book_lists.proofs.Sorting.{keep-insert, greatest-keep}
 use Rattle.book_lists.specs.Keyed.{Ascending}
-use Rattle.book_ledger.proofs.Strikes.{same-refl, apart, strike-named, strike-other, strike-dead, takes, accepted-step, step-keeps, step-unit}
-use Rattle.book_ledger.proofs.Strikes.{run-unit, ascending-step, ascending-from, ascending-run, run-append, answers-append}
+use Rattle.book_ledger.proofs.Strikes.{same-refl, apart, strike-named, strike-other, live-time, struck-exactly, takes, accepted-step}
+use Rattle.book_ledger.proofs.Strikes.{step-keeps, step-unit, run-unit, ascending-step, ascending-from, ascending-run, run-append, answers-append}
 use Rattle.book_ledger.proofs.Without.{other, without, other-strike, unnamed, Alike, Unnamed, unnamed-on, sim-run}
 use Rattle.book_ledger.specs.Calls.{Call, command, revoke, close, ask, deedOf, names}
 use Rattle.book_ledger.specs.Demand.{whole, leftOut, found, taken, met, struck, end, itsName, Revoked, LeftOut}
@@ -14,41 +14,70 @@ use Rattle.book_ledger.specs.Ledger.{Ledger, fresh, answer, effect, step
 use Rattle.book_order.specs.Messages.{orderOf, strikeOf}
 use Rattle.book_order.specs.Orders.{Name, nameOf, sameName, named, number, live, pastEnd, Strike, strikeAt}
 use Rattle.book_order.specs.declared.Order.{Order}
+use Rattle.book_stretch.proofs.Joins.{covers-tells}
+use Rattle.book_stretch.specs.Stretches.{covers}
 use Rattle.record.specs.declared.Record.{Record}
-use Rattle.text.proofs.Tests.{itself, untold}
+use Rattle.text.proofs.Tests.{by-test, itself, untold, or-parts}
+use Rattle.text.specs.Bytes.{any}
 use borrow.Author.Tests.{not-true}
 use mathlib.Core.Bool.{true, false, not, true≢false}
-use mathlib.Core.List.{List, [], _∷_, _++_}
-use mathlib.Core.Path.{_≡_, sym, ap, _∙_}
+use mathlib.Core.List.{List, [], _∷_, _++_, map}
+use mathlib.Core.Path.{_≡_, refl, sym, ap, _∙_}
+use native.Mathlib.Omega.{arith}
 
--- ---- orders of the name n that are in force at no instant
+-- ---- what is said of the orders of the name n, and stays while no call names it
+
+abbrev pub Said : Name → (Order → Type 0) → Order → Type 0
+Said n P o = named n o ≡ true → P o
+
+module _ (n : Name) (P : Order → Type 0) where
+  -- where there is none
+  none-said : (l : List Order) → any (named n) l ≡ false → All (Said n P) l
+  unfolding any
+  none-said [] h = tt
+  none-said (o ∷ l) h =
+      let p = or-parts (named n o) (any (named n) l) h in
+      (λ e. absurd (true≢false (sym e ∙ p .0)), none-said l (p .1))
+
+  -- a strike of another name leaves them
+  said-strike : (s : Strike) → sameName (s .name) n ≡ false → (o : Order) → Said n P o → Said n P (strikeAt s o)
+  said-strike s h o d e =
+      let g : named n o ≡ true = sym (strike-named n s o) ∙ e in
+      let w : named (s .name) o ≡ false = untold (itself (named (s .name) o)) (λ f. true≢false (sym g ∙ apart (s .name) n h o f)) in
+      rw (strike-other s o w) (d g)
+
+  said-effect : (k : Call) (b : Ledger) → names (b .unit) n k ≡ false → answer k b ≡ 0 → All (Said n P) (b .orders)
+      → All (Said n P) ((effect (deedOf k) b) .orders)
+  said-effect (command r) b h a d =
+      all-insert (Said n P) number (orderOf r) (b .orders)
+      (λ e. absurd (true≢false (sym e ∙ unnamed isCommand (b .unit) r _ (named n (orderOf r)) a h))) d
+  said-effect (revoke r) b h a d =
+      all-map (Said n P) (strikeAt (strikeOf r))
+      (said-strike (strikeOf r) (unnamed isRevocation (b .unit) r _ (sameName (strikeOf r .name) n) a h)) (b .orders) d
+  said-effect (close t) b h a d = all-keep (Said n P) (pastEnd t) (b .orders) d
+  said-effect (ask t) b h a d = d
+
+  pub said-run : (ks : List Call) (b : Ledger) → Unnamed n ks b → All (Said n P) (b .orders) → All (Said n P) ((run ks b) .orders)
+  said-run [] b h d = d
+  said-run (k ∷ ks) b h d =
+      let hs = unnamed-on n k ks b h in
+      said-run ks (step k b) (hs .1) (step-keeps (λ c. All (Said n P) (c .orders)) k b (said-effect k b (hs .0)) d)
+
+-- in force at no instant; and with the start and the end of p
+abbrev pub Still : Order → Type 0
+Still o = (t : ℕ) → live t o ≡ false
+
+abbrev pub Timed : Order → Order → Type 0
+Timed p o = (o .start ≡ p .start) × (o .end ≡ p .end)
 
 abbrev pub Dead : Name → Order → Type 0
-Dead n o = named n o ≡ true → (t : ℕ) → live t o ≡ false
+Dead n o = Said n Still o
 
--- a strike of another name leaves them
-dead-strike : (n : Name) (s : Strike) → sameName (s .name) n ≡ false → (o : Order) → Dead n o → Dead n (strikeAt s o)
-dead-strike n s h o d e t =
-    let g : named n o ≡ true = sym (strike-named n s o) ∙ e in
-    let w : named (s .name) o ≡ false = untold (itself (named (s .name) o)) (λ f. true≢false (sym g ∙ apart (s .name) n h o f)) in
-    ap (live t) (strike-other s o w) ∙ d g t
-
-dead-effect : (n : Name) (k : Call) (b : Ledger) → names (b .unit) n k ≡ false → answer k b ≡ 0 → All (Dead n) (b .orders)
-    → All (Dead n) ((effect (deedOf k) b) .orders)
-dead-effect n (command r) b h a d =
-    all-insert (Dead n) number (orderOf r) (b .orders)
-    (λ e. absurd (true≢false (sym e ∙ unnamed isCommand (b .unit) r _ (named n (orderOf r)) a h))) d
-dead-effect n (revoke r) b h a d =
-    all-map (Dead n) (strikeAt (strikeOf r))
-    (dead-strike n (strikeOf r) (unnamed isRevocation (b .unit) r _ (sameName (strikeOf r .name) n) a h)) (b .orders) d
-dead-effect n (close t) b h a d = all-keep (Dead n) (pastEnd t) (b .orders) d
-dead-effect n (ask t) b h a d = d
+abbrev pub Kin : Name → Order → Order → Type 0
+Kin n p o = Said n (Timed p) o
 
 pub dead-run : (n : Name) (ks : List Call) (b : Ledger) → Unnamed n ks b → All (Dead n) (b .orders) → All (Dead n) ((run ks b) .orders)
-dead-run n [] b h d = d
-dead-run n (k ∷ ks) b h d =
-    let hs = unnamed-on n k ks b h in
-    dead-run n ks (step k b) (hs .1) (step-keeps (λ c. All (Dead n) (c .orders)) k b (dead-effect n k b (hs .0)) d)
+dead-run n = said-run n Still
 
 pub dead-in-force : (n : Name) (t : ℕ) (b : Ledger) → All (Dead n) (b .orders) → inForce t (without n b) ≡ inForce t b
 dead-in-force n t b d =
@@ -79,13 +108,30 @@ revocation-removed r n b e a =
           (λ o i. strike-other s o (ap (λ (m : Name). named m o) e ∙ not-true (named n o) i)) (b .orders),
     )
 
-pub revocation-dead : (r : Record) (n : Name) (b : Ledger) → strikeOf r .name ≡ n → answer (revoke r) b ≡ 0
-    → All (Dead n) ((step (revoke r) b) .orders)
-revocation-dead r n b e a =
-    let s : Strike = strikeOf r in
-    rw (accepted-step (revoke r) b a)
-    (all-made (Dead n) (strikeAt s)
-    (λ o i. strike-dead s o (ap (λ (m : Name). named m o) e ∙ sym (strike-named n s o) ∙ i)) (b .orders))
+-- a taken command's number was free: what is held of it has the command's time
+pub command-kin : (r : Record) (b : Ledger) → answer (command r) b ≡ 0 → All (Kin (nameOf (orderOf r)) (orderOf r)) ((step (command r) b) .orders)
+command-kin r b a =
+    let n : Name = nameOf (orderOf r) in
+    rw (accepted-step (command r) b a)
+    (all-insert (Kin n (orderOf r)) number (orderOf r) (b .orders) (λ e. (refl, refl))
+    (none-said n (Timed (orderOf r)) (b .orders) (takes r b a .free)))
+
+-- a revocation of all that time leaves none of them in force
+module _ (n : Name) (p : Order) (s : Strike) (same : s .name ≡ n) (over : (s .over .from ≤ p .start) × (p .end ≤ s .over .to)) where
+  strike-kin : (o : Order) → Kin n p o → Dead n (strikeAt s o)
+  strike-kin o k e t =
+      let g : named n o ≡ true = sym (strike-named n s o) ∙ e in
+      let hit : live t o ≡ true → covers t (s .over) ≡ true = λ l. covers-tells t (s .over) .1 (omega (arith, live-time t o l, k g)) in
+      struck-exactly s o t (ap (λ (m : Name). named m o) same ∙ g)
+      ∙ by-test (live t o) (λ l. rw (l, hit l)) (λ l. rw l)
+
+  strike-kins : (l : List Order) → All (Kin n p) l → All (Dead n) (map (strikeAt s) l)
+  strike-kins [] k = tt
+  strike-kins (o ∷ l) k = (strike-kin o (k .0), strike-kins l (k .1))
+
+pub revocation-dead : (r : Record) (n : Name) (p : Order) (b : Ledger) → strikeOf r .name ≡ n → answer (revoke r) b ≡ 0
+    → (strikeOf r .over .from ≤ p .start) × (p .end ≤ strikeOf r .over .to) → All (Kin n p) (b .orders) → All (Dead n) ((step (revoke r) b) .orders)
+revocation-dead r n p b e a c k = rw (accepted-step (revoke r) b a) (strike-kins n p (strikeOf r) e c (b .orders) k)
 
 -- ---- THE THEOREM
 
@@ -130,7 +176,9 @@ module _ (unit : List ℕ) (before between after : List Call) (c v : Record) whe
       let p : Alike n after b₃ = sim-run n after b₃ s₃ h₃ (q .room-after) in
       let e₄ : run (leftOut ledgers (fresh unit) (names unit) before between after c v) (fresh unit) ≡ without n b₄ =
       run-append before (between ++ after) (fresh unit) ∙ run-append between after b₀ ∙ ap (run after) e₃ ∙ p .same-end in
-      let d : All (Dead n) (b₄ .orders) = dead-run n after b₃ h₃ (revocation-dead v n b₂ (q .by-name) (q .was-revoked)) in
+      let k : All (Kin n (orderOf c)) (b₂ .orders) = said-run n (Timed (orderOf c)) between b₁ h₁ (command-kin c b₀ (q .was-taken)) in
+      let d₃ : All (Dead n) (b₃ .orders) = revocation-dead v n (orderOf c) b₂ (q .by-name) (q .was-revoked) (q .covers-whole) k in
+      let d : All (Dead n) (b₄ .orders) = dead-run n after b₃ h₃ d₃ in
       record {
         same-answers =
             answers-append before (between ++ after) (fresh unit)

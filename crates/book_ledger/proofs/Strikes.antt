@@ -1,5 +1,5 @@
 -- What is left as it was: of an order by a strike, and of a book by a call. Assumes nothing.
-use Prim.Native.Nat.{ℕ, _≤_}
+use Prim.Native.Nat.{ℕ, _≤_, _<_}
 use Rattle.report_brief.specs.Brief.{unitOf}
 use Rattle.book_lists.proofs.Sorting.{ascending-keep, ascending-insert, ascending-map}
 use Rattle.book_lists.specs.Keyed.{Ascending}
@@ -7,9 +7,11 @@ use Rattle.layout.specs.Layouts.{isCommand}
 use Rattle.layout.specs.declared.Layout.{Layout}
 use Rattle.book_ledger.specs.Calls.{Call, command, Deed, hold, strike, shut, look, deedOf, fitFor}
 use Rattle.book_ledger.specs.Ledger.{Ledger, fresh, answer, effect, step, run, answers}
-use Rattle.book_order.specs.Messages.{orderOf, strikeOf}
-use Rattle.book_order.specs.Orders.{Name, nameOf, sameName, named, number, live, pastEnd, Strike, strikeAt, already}
+use Rattle.book_order.specs.Messages.{orderOf}
+use Rattle.book_order.specs.Orders.{Name, nameOf, sameName, named, number, timeOf, live, pastEnd, Strike, strikeAt}
 use Rattle.book_order.specs.declared.Order.{Order}
+use Rattle.book_stretch.proofs.Joins.{covers-tells, struck-covers}
+use Rattle.book_stretch.specs.Stretches.{covers}
 use Rattle.record.specs.declared.Record.{Record}
 use Rattle.text.proofs.Tests.{by-test, and-parts}
 use Rattle.text.specs.Bytes.{any, same}
@@ -17,7 +19,7 @@ use Rattle.record_check.specs.Validity.{isValid}
 use borrow.Author.Tests.{lt-ltb, ltb-true, leb-false, eqb-false, eqb-true, eq-eqb}
 use lib.Dec.{eqb, leb}
 use lib.ListN.{length}
-use mathlib.Core.Bool.{Bool, true, false, not, _&&_, cond}
+use mathlib.Core.Bool.{Bool, true, false, not, _&&_, _||_, cond, or-comm}
 use mathlib.Core.List.{List, [], _∷_, _++_}
 use mathlib.Core.Path.{_≡_, refl, ap, _∙_}
 use native.Mathlib.Omega.{arith}
@@ -48,15 +50,27 @@ strike-key s o = by-test (named (s .name) o) (λ e. rw e) (λ e. rw e)
 pub strike-end : (s : Strike) (o : Order) → (strikeAt s o) .end ≡ o .end
 strike-end s o = by-test (named (s .name) o) (λ e. rw e) (λ e. rw e)
 
--- an order of another name stays whole, and one of that name is never in force again
+-- an order of another name stays whole
 pub strike-other : (s : Strike) (o : Order) → named (s .name) o ≡ false → strikeAt s o ≡ o
 strike-other s o e = rw e
 
-pub strike-dead : (s : Strike) (o : Order) → named (s .name) o ≡ true → (t : ℕ) → live t (strikeAt s o) ≡ false
-strike-dead s o e t = rw e
+-- ---- in force
 
-pub already-named : (s : Strike) (o : Order) → already s o ≡ true → named (s .name) o ≡ true
-already-named s o e = and-parts (named (s .name) o) (o .struck) e .0
+-- only in its own time
+pub live-time : (t : ℕ) (o : Order) → live t o ≡ true → (o .start ≤ t) × (t < o .end)
+live-time t o e = covers-tells t (timeOf o) .0 (and-parts (covers t (timeOf o)) _ e .0)
+
+-- not in b and not in c is in neither
+pub in-neither : (a b c : Bool) → (a && not b) && not c ≡ a && not (b || c)
+in-neither true true c = refl
+in-neither true false c = refl
+in-neither false b c = refl
+
+-- an order of that name stays in force exactly outside the stretch
+pub struck-exactly : (s : Strike) (o : Order) (t : ℕ) → named (s .name) o ≡ true → live t (strikeAt s o) ≡ live t o && not (covers t (s .over))
+struck-exactly s o t e =
+    let earlier : Bool = any (covers t) (o .struck) in
+    rw (e, struck-covers t (s .over) (o .struck), or-comm (covers t (s .over)) earlier, in-neither (covers t (timeOf o)) earlier (covers t (s .over)))
 
 -- ---- ends
 

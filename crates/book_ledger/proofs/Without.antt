@@ -7,15 +7,16 @@ use Rattle.book_lists.proofs.Sorting.{keep-insert}
 use Rattle.book_lists.specs.Keyed.{keep, Ascending}
 use Rattle.layout.specs.Layouts.{isCommand, isRevocation}
 use Rattle.layout.specs.declared.Layout.{Layout}
-use Rattle.book_ledger.proofs.Strikes.{apart, strike-named, already-named, ladder, fit, step-unit, ascending-step}
+use Rattle.book_ledger.proofs.Strikes.{apart, strike-named, ladder, fit, step-unit, ascending-step}
 use Rattle.book_ledger.specs.Calls.{Call, command, revoke, close, ask, deedOf, fitFor, names}
 use Rattle.book_ledger.specs.Demand.{wantsPlace}
 use Rattle.book_ledger.specs.Ledger.{Ledger, isFull, answerIn, answer, effect, step, run, answers}
 use Rattle.book_order.specs.Messages.{orderOf, strikeOf}
-use Rattle.book_order.specs.Orders.{Name, nameOf, sameName, named, number, pastEnd, Strike, strikeAt, already}
+use Rattle.book_order.specs.Orders.{Name, nameOf, sameName, named, number, pastEnd, Strike, strikeAt, sticksOut, isStruck, makesFive}
 use Rattle.book_order.specs.declared.Order.{Order}
+use Rattle.book_stretch.specs.declared.Stretch.{Stretch}
 use Rattle.record.specs.declared.Record.{Record}
-use Rattle.text.proofs.Tests.{by-test, or-parts}
+use Rattle.text.proofs.Tests.{by-test, and-parts, or-parts}
 use Rattle.text.specs.Bytes.{any, same}
 use Rattle.record_check.specs.Validity.{isValid}
 use borrow.Author.Tests.{lt-leb, leb-false, eqb-true}
@@ -34,6 +35,11 @@ without n b = record { unit = b .unit; floor = b .floor; orders = keep (other n)
 
 named-other : (m n : Name) → sameName m n ≡ false → (o : Order) → named m o ≡ true → other n o ≡ true
 named-other m n h o e = ap not (apart m n h o e)
+
+-- what is found of the orders of another name
+any-other : (m n : Name) → sameName m n ≡ false → (p : Order → Bool) (l : List Order)
+    → any (λ o. named m o && p o) (keep (other n) l) ≡ any (λ o. named m o && p o) l
+any-other m n h p l = any-keep (λ o. named m o && p o) (other n) (λ o e. named-other m n h o (and-parts (named m o) (p o) e .0)) l
 
 pub other-strike : (n : Name) (s : Strike) (o : Order) → other n (strikeAt s o) ≡ other n o
 other-strike n s o = ap not (strike-named n s o)
@@ -68,11 +74,15 @@ sim-in f g w n (command r) b h e =
     rung (any (named m) (b .orders)) 22 _ _ e₁ (λ e₂.
     last-rung f g w e₂))))
 sim-in f g w n (revoke r) b h e =
-    let s : Strike = strikeOf r in
+    let m : Name = strikeOf r .name in
+    let c : Stretch = strikeOf r .over in
     rungs (isValid r) (isRevocation (r .layout)) (same (unitOf r) (b .unit)) _ _ e (λ i e₀.
+    let w : sameName m n ≡ false = rw i at h in
     rw (
-      any-keep (named (s .name)) (other n) (named-other (s .name) n (rw i at h)) (b .orders),
-      any-keep (already s) (other n) (λ o t. named-other (s .name) n (rw i at h) o (already-named s o t)) (b .orders),
+      any-keep (named m) (other n) (named-other m n w) (b .orders),
+      any-other m n w (sticksOut c) (b .orders),
+      any-other m n w (isStruck c) (b .orders),
+      any-other m n w (makesFive c) (b .orders),
     ))
 sim-in f g w n (close t) b h e = refl
 sim-in f g w n (ask t) b h e = refl

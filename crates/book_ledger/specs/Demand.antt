@@ -49,6 +49,9 @@ module _ (m : Keeper) (start : m .State) (names : Name → m .Call → Bool) (be
     pub was-taken : m .answer (m .command c) found ≡ 0
     pub was-revoked : m .answer (m .revoke v) met ≡ 0
     pub by-name : strikeOf v .name ≡ itsName
+    -- document 02, A6: the second half "now needs the removed revocation to cover the whole order and no other revocation in the run to name that number".
+    -- (The latter is `unnamed-between` and `unnamed-after`: a revocation before the command names another order, and nothing is asked of it)
+    pub covers-whole : (strikeOf v .over .from ≤ orderOf c .start) × (orderOf c .end ≤ strikeOf v .over .to)
     pub unnamed-between : any (names itsName) between ≡ false
     pub unnamed-after : any (names itsName) after ≡ false
     pub room-between : any wantsPlace (answers m between taken) ≡ false

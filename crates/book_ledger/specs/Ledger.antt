@@ -3,7 +3,7 @@ use Prim.Native.Nat.{ℕ}
 use Rattle.book_lists.specs.Keyed.{keep, insert, greatest}
 use Rattle.book_ledger.specs.Calls.{Call, command, revoke, Deed, hold, strike, shut, look, deedOf, unfitOf}
 use Rattle.book_ledger.specs.Keepers.{Keeper, run as runOf, answers as answersOf, accepted as acceptedOf}
-use Rattle.book_order.specs.Orders.{number, nameOf, named, live, pastEnd, strikeAt, already}
+use Rattle.book_order.specs.Orders.{number, nameOf, named, live, pastEnd, strikeAt, outside, already, crowded}
 use Rattle.book_order.specs.declared.Order.{Order}
 use Rattle.text.specs.Bytes.{any}
 use Rattle.text.specs.Refusals.{Refusal, refusal, firstNumber}
@@ -23,11 +23,16 @@ fresh unit = record { unit = unit; floor = 0; orders = [] }
 
 -- what a deed is refused for; `full` says that no place is left
 -- hold: 23 its end is at or below the floor, 22 its number is held, 24 no place is left
--- strike: 25 its number is not held, 26 the order is struck already
+-- strike: 25 its number is not held; of the order that has it, 31 the stretch is not inside it, 26 it is struck already, 32 it would be a fifth
 -- shut: 27 below the floor; look: 28 below the floor
 abbrev pub rungsOf : Bool → Deed → Ledger → List Refusal
 rungsOf full (hold o) b = refusal 23 0 (leb (o .end) (b .floor)) ∷ refusal 22 0 (any (named (nameOf o)) (b .orders)) ∷ refusal 24 0 (full) ∷ []
-rungsOf full (strike s) b = refusal 25 0 (not (any (named (s .name)) (b .orders))) ∷ refusal 26 0 (any (already s) (b .orders)) ∷ []
+rungsOf full (strike s) b =
+    refusal 25 0 (not (any (named (s .name)) (b .orders)))
+    ∷ refusal 31 0 (any (outside s) (b .orders))
+    ∷ refusal 26 0 (any (already s) (b .orders))
+    ∷ refusal 32 0 (any (crowded s) (b .orders))
+    ∷ []
 rungsOf full (shut t) b = refusal 27 0 (ltb t (b .floor)) ∷ []
 rungsOf full (look t) b = refusal 28 0 (ltb t (b .floor)) ∷ []
 
@@ -42,7 +47,7 @@ answerIn full k b = firstNumber (unfitOf (b .unit) k (rungsOf full (deedOf k) b)
 abbrev pub answer : Call → Ledger → ℕ
 answer k b = answerIn (isFull b) k b
 
--- what an accepted deed does: the order is held; it is struck; the floor is t and orders with end ≤ t go; nothing
+-- what an accepted deed does: the order is held; a stretch of it is struck; the floor is t and orders with end ≤ t go; nothing
 abbrev pub effect : Deed → Ledger → Ledger
 effect (hold o) b = record { unit = b .unit; floor = b .floor; orders = insert number o (b .orders) }
 effect (strike s) b = record { unit = b .unit; floor = b .floor; orders = map (strikeAt s) (b .orders) }
@@ -53,7 +58,7 @@ effect (look t) b = b
 abbrev pub step : Call → Ledger → Ledger
 step k b = cond (eqb (answer k b) 0) (effect (deedOf k) b) b
 
--- the order in force at t, of those not struck with start ≤ t < end the greatest number: one more than that, or 0 for none
+-- the order in force at t, of those with start ≤ t < end and t outside all that is struck of them the greatest number: one more than that, or 0 for none
 abbrev pub inForce : ℕ → Ledger → ℕ
 inForce t b = greatest number (live t) (b .orders)
 

@@ -1,12 +1,13 @@
--- The order that a record brings, from what is told of the record in brief. Assumes nothing.
+-- The order that a record brings, and the stretch that one strikes, from what is told of the record in brief. Assumes nothing.
 use Prim.Native.Nat.{ℕ, _≤_}
 use Rattle.value_ask.specs.Values.{instantIn}
 use Rattle.report_brief.specs.Brief.{messageNumber, startOf, endOf, toldOf, briefOf}
 use Rattle.report_brief.specs.declared.Brief.{Brief}
-use Rattle.book_order.specs.Messages.{firstVariation, secondVariation, orderOf}
+use Rattle.book_order.specs.Messages.{firstVariation, secondVariation, orderOf, strikeOf}
+use Rattle.book_stretch.specs.Stretches.{stretch, inFour}
 use Rattle.record.specs.declared.Record.{Record}
 use lib.IntN.{ℤ}
-use mathlib.Core.Bool.{false}
+use mathlib.Core.List.{[]}
 use mathlib.Core.Path.{_≡_}
 use mir.Syntax.{w32}
 use mir.Val.{SFits, ofZ, toZ}
@@ -30,7 +31,11 @@ module _ (r : Record) (told : Brief) (e : told ≡ briefOf r) where
         end = end;
         first = toZ w32 (ofZ w32 first);
         second = toZ w32 (ofZ w32 second);
-        struck = false;
+        struck = inFour [];
       } ≡ orderOf r
   unfolding briefOf toldOf messageNumber orderOf
   order-is start end first second f g s t v w = rw (toZ-ofZ w32 first f, toZ-ofZ w32 second g, s, t, v, w, e)
+
+  pub stretch-is : (from to : ℕ) → from ≡ instantIn (told .start) → to ≡ instantIn (told .end) → stretch from to ≡ strikeOf r .over
+  unfolding briefOf toldOf strikeOf
+  stretch-is from to s t = rw (s, t, e)

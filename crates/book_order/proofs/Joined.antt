@@ -6,7 +6,7 @@ pub three : (a b c : Bool) → (a && b) && c ≡ a && (b && c)
 three true b c = refl
 three false b c = refl
 
-four : (a b c d : Bool) → ((a && b) && c) && d ≡ a && (b && (c && d))
+pub four : (a b c d : Bool) → ((a && b) && c) && d ≡ a && (b && (c && d))
 four true b c d = three b c d
 four false b c d = refl
 

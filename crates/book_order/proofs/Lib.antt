@@ -1,5 +1,6 @@
 pub mod Brought
 pub mod Joined
 pub mod Others
+pub mod Strikes
 pub mod Tested
 pub mod Untimely

@@ -1,5 +1,5 @@
 -- What the book takes of a message. Document 01, "The book of commands": a held order has number, layout, start, end (mFRR: TINI1, TFIN2), variations
--- (mFRR: its one, then 0) and whether it is struck; a revocation names a number.
+-- (mFRR: its one, then 0) and what of it is struck; a revocation names a number. Document 02, A6: it strikes from its start to its end.
 use Rattle.value_ask.specs.Values.{instantIn, amountIn, countIn}
 use Rattle.report_brief.specs.Brief.{messageNumber, startOf, endOf}
 use Rattle.layout.specs.FieldNumbers.{firstVariationNo, secondVariationNo, mfrrVariationNo, sequenceNo}
@@ -10,9 +10,9 @@ use Rattle.book_order.specs.declared.Order.{Order}
 use Rattle.record.specs.Records.{fieldOf}
 use Rattle.record.specs.declared.Cell.{Cell}
 use Rattle.record.specs.declared.Record.{Record}
+use Rattle.book_stretch.specs.Stretches.{stretch, inFour}
 use lib.IntN.{ℤ, pos}
-use mathlib.Core.Bool.{false}
-use mathlib.Core.List.{List}
+use mathlib.Core.List.{List, []}
 
 -- ---- the variations: mFRR has one, and 0 stands for the other
 
@@ -50,9 +50,13 @@ orderOf r =
       end = instantIn (endOf r);
       first = firstVariation (r .layout) (r .cells);
       second = secondVariation (r .layout) (r .cells);
-      struck = false;
+      struck = inFour [];
     }
 
--- what a revocation says: `Sequenza Comando`
+-- what a revocation says: `Sequenza Comando`, and its start and end
 unfoldable pub strikeOf : Record → Strike
-strikeOf r = record { name = record { number = countIn (fieldOf (r .cells) sequenceNo) } }
+strikeOf r =
+    record {
+      name = record { number = countIn (fieldOf (r .cells) sequenceNo) };
+      over = stretch (instantIn (startOf r)) (instantIn (endOf r));
+    }

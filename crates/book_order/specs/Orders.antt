@@ -4,10 +4,17 @@ use Rattle.layout.specs.Layouts.{isMarket}
 use Rattle.layout.specs.declared.Layout.{Layout}
 use Rattle.layout.specs.declared.Layout.the-variants.{Market, Mfrr, Revocation, Generic, Exclusion, Limitation, Secondary, VoltVar, Rejection, Reserve}
 use Rattle.book_order.specs.declared.Order.{Order}
+use Rattle.book_order.specs.declared.Struck.{Struck}
+use Rattle.book_stretch.specs.Stretches.{stretch, covers, lies, inFour, usedIn, areNone, formedIn, joined}
+use Rattle.book_stretch.specs.declared.Stretch.{Stretch}
+use Rattle.text.specs.Bytes.{any}
+use Rattle.text.specs.Refusals.{Refusal, refusal, firstNumber}
 use Rattle.value_bounds.specs.Bounds.{mostNumber, isInstant, isAmount}
 use lib.Dec.{eqb, leb, ltb}
 use lib.IntN.{ℤ, pos, natAbs}
-use mathlib.Core.Bool.{Bool, true, false, not, _&&_, cond}
+use lib.ListN.{length}
+use mathlib.Core.Bool.{Bool, false, not, _&&_, cond}
+use mathlib.Core.List.{List, [], _∷_}
 
 -- ---- by what an order is named, and the key by which orders stand
 
@@ -28,30 +35,38 @@ number o = o .number
 
 -- ---- in force and not yet ended
 
--- not struck, and start ≤ t < end
+-- its own time
+abbrev pub timeOf : Order → Stretch
+timeOf o = stretch (o .start) (o .end)
+
+-- start ≤ t < end, and t is "outside all of" the struck stretches (document 02, A6)
 abbrev pub live : ℕ → Order → Bool
-live t o = not (o .struck) && (leb (o .start) t && ltb t (o .end))
+live t o = covers t (timeOf o) && not (any (covers t) (o .struck))
 
 -- an order that ends past t. No end is 0 but an empty place's, so that `pastEnd 0` is whether a place is filled
 abbrev pub pastEnd : ℕ → Order → Bool
 pastEnd t o = ltb t (o .end)
 
--- ---- a revocation strikes the whole order
+-- ---- a revocation strikes a stretch of the order. Document 02, A6
 
 -- what a revocation says
 pub record Strike : Type 0 where
   pub name : Name
+  pub over : Stretch
 
 -- of the order that has this number
-abbrev pub strikeFor : ℕ → Strike
-strikeFor n = record { name = record { number = n } }
+abbrev pub strikeFor : ℕ → Stretch → Strike
+strikeFor n c = record { name = record { number = n }; over = c }
 
--- what some valid RC record says: a number of at most ten digits
-abbrev pub couldStrike : Strike → Bool
-couldStrike s = leb (s .name .number) mostNumber
+-- what some valid RC record says: a number of at most ten digits, and a start before an end (crate book_source: exactly these)
+unfoldable pub couldStrike : Strike → Bool
+couldStrike s =
+    leb (s .name .number) mostNumber
+    && (isInstant (s .over .from) && (isInstant (s .over .to) && ltb (s .over .from) (s .over .to)))
 
-abbrev pub struckOut : Order → Order
-struckOut o =
+-- the order with one stretch more
+abbrev pub struckOut : Stretch → Order → Order
+struckOut c o =
     record {
       number = o .number;
       layout = o .layout;
@@ -59,20 +74,55 @@ struckOut o =
       end = o .end;
       first = o .first;
       second = o .second;
-      struck = true;
+      struck = inFour (joined c (usedIn (o .struck)));
     }
 
 abbrev pub strikeAt : Strike → Order → Order
-strikeAt s o = cond (named (s .name) o) (struckOut o) o
+strikeAt s o = cond (named (s .name) o) (struckOut (s .over) o) o
 
--- the order has that name, and is struck already
+-- 31, "stretch not inside the order"; 26, "stretch wholly struck already"; 32, "a fifth stretch after touching ones are joined"
+abbrev pub sticksOut : Stretch → Order → Bool
+sticksOut c o = not (lies c (timeOf o))
+
+abbrev pub isStruck : Stretch → Order → Bool
+isStruck c o = any (lies c) (o .struck)
+
+abbrev pub makesFive : Stretch → Order → Bool
+makesFive c o = ltb 4 (length (joined c (usedIn (o .struck))))
+
+-- what a strike is refused for, of the order that it names
+abbrev pub strikeRefusals : Stretch → Order → List Refusal
+strikeRefusals c o = refusal 31 0 (sticksOut c o) ∷ refusal 26 0 (isStruck c o) ∷ refusal 32 0 (makesFive c o) ∷ []
+
+-- THE DEFINITION: what it answers there, and the order then
+unfoldable pub struckBy : Stretch → Order → Struck
+struckBy c o =
+    record {
+      number = firstNumber (strikeRefusals c o);
+      order = cond (eqb (firstNumber (strikeRefusals c o)) 0) (struckOut c o) o;
+    }
+
+-- the same of any order: one that has that name
+abbrev pub outside : Strike → Order → Bool
+outside s o = named (s .name) o && sticksOut (s .over) o
+
 abbrev pub already : Strike → Order → Bool
-already s o = named (s .name) o && o .struck
+already s o = named (s .name) o && isStruck (s .over) o
+
+abbrev pub crowded : Strike → Order → Bool
+crowded s o = named (s .name) o && makesFive (s .over) o
+
+-- struck as a whole, and in part
+abbrev pub isWhole : Order → Bool
+isWhole o = isStruck (timeOf o) o
+
+abbrev pub isPartial : Order → Bool
+isPartial o = not (areNone (o .struck)) && not (isWhole o)
 
 -- ---- an empty place: all zero
 
 abbrev pub emptyOrder : Order
-emptyOrder = record { number = 0; layout = Market; start = 0; end = 0; first = pos 0; second = pos 0; struck = false }
+emptyOrder = record { number = 0; layout = Market; start = 0; end = 0; first = pos 0; second = pos 0; struck = inFour [] }
 
 abbrev pub isZero : ℤ → Bool
 isZero v = eqb (natAbs v) 0
@@ -81,7 +131,7 @@ unfoldable pub isEmpty : Order → Bool
 isEmpty o =
     eqb (o .number) 0
     && (isMarket (o .layout)
-    && (eqb (o .start) 0 && (eqb (o .end) 0 && (isZero (o .first) && (isZero (o .second) && not (o .struck))))))
+    && (eqb (o .start) 0 && (eqb (o .end) 0 && (isZero (o .first) && (isZero (o .second) && areNone (o .struck))))))
 
 -- ---- what some valid CB record gives (crate book_source: exactly these)
 
@@ -105,6 +155,10 @@ couldCome o =
     && (isInstant (o .start)
     && (isInstant (o .end) && (isAmount (o .first) && fitsLayout (o .layout) (o .end - o .start) (o .second))))
 
--- what a valid CB record brings: no order is struck when it comes
+-- what a valid CB record brings: nothing of an order is struck when it comes
 unfoldable pub isBrought : Order → Bool
-isBrought o = couldCome o && not (o .struck)
+isBrought o = couldCome o && areNone (o .struck)
+
+-- what may be held: some valid CB record gives it, and what is struck of it is well formed
+abbrev pub couldHold : Order → Bool
+couldHold o = couldCome o && formedIn (timeOf o) (o .struck)

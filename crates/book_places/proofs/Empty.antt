@@ -2,12 +2,14 @@
 use Rattle.book_lists.specs.Keyed.{keep}
 use Rattle.book_order.specs.Orders.{pastEnd, emptyOrder, isZero, isEmpty}
 use Rattle.book_order.specs.declared.Order.{Order}
+use Rattle.book_stretch.proofs.Joins.{none-is}
+use Rattle.book_stretch.specs.Stretches.{areNone}
 use Rattle.layout.proofs.Markets.{market-is}
 use Rattle.layout.specs.Layouts.{isMarket}
 use Rattle.text.proofs.Tests.{and-parts}
 use Rattle.text.proofs.Zeros.{zero-tells}
 use Rattle.text.specs.Bytes.{all}
-use borrow.Author.Tests.{eqb-true, le-ltb, not-true}
+use borrow.Author.Tests.{eqb-true, le-ltb}
 use lib.Dec.{eqb}
 use mathlib.Core.Bool.{true}
 use mathlib.Core.List.{List, [], _∷_}
@@ -30,8 +32,12 @@ empty-is o e =
       end = eqb-true (o .end) 0 (d .0) i;
       first = zero-tells (o .first) .0 (f .0) i;
       second = zero-tells (o .second) .0 (g .0) i;
-      struck = not-true (o .struck) (g .1) i;
+      struck = none-is (o .struck) (g .1) i;
     }
+
+pub zero-is : isEmpty emptyOrder ≡ true
+unfolding isEmpty areNone all
+zero-is = refl
 
 pub empty-end : (o : Order) → isEmpty o ≡ true → o .end ≡ 0
 empty-end o e = ap (λ (x : Order). x .end) (empty-is o e)

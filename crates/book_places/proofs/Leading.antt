@@ -3,7 +3,7 @@ use Prim.Native.Nat.{ℕ, suc, _+_, _≤_, _<_}
 use Rattle.value_bounds.specs.Bounds.{mostNumber}
 use Rattle.book_lists.specs.Keyed.{keep, Ascending}
 use Rattle.book_order.proofs.Joined.{three}
-use Rattle.book_order.specs.Orders.{number, pastEnd, emptyOrder, isEmpty, couldCome}
+use Rattle.book_order.specs.Orders.{number, pastEnd, emptyOrder, timeOf, isEmpty, couldCome, couldHold}
 use Rattle.book_order.specs.declared.Order.{Order}
 use Rattle.book_places.proofs.Empty.{empty-is, empty-end, empty-dropped}
 use Rattle.book_places.specs.Places.{packed, pastOrder, orderAt, fitsAfter, formedFrom, leading, tallyIn}
@@ -11,9 +11,10 @@ use Rattle.book_places.specs.declared.Tally.the-variants.{Malformed, Hol
 use Rattle.book_shelf.proofs.Packing.{all-packed}
 use Rattle.book_shelf.proofs.Ranks.{ascending-rising}
 use Rattle.book_shelf.specs.Shelf.{Rising}
+use Rattle.book_stretch.specs.Stretches.{formedIn}
 use Rattle.text.proofs.Tests.{by-test, and-parts}
 use Rattle.text.specs.Bytes.{all}
-use borrow.Author.Tests.{leb-true, ltb-true, lt-ltb, le-ltb}
+use borrow.Author.Tests.{le-leb, leb-true, ltb-true, lt-ltb, le-ltb}
 use lib.Dec.{leb, ltb}
 use lib.ListN.{length, take, drop, drop-of-length-le}
 use lib.Seq.{drop-cons}
@@ -25,18 +26,24 @@ use native.Mathlib.Omega.{arith}
 
 -- ---- an order that fits a book
 
--- `m` says whether it could come
-pub fits-is : (f lo : ℕ) (o : Order) (m : Bool) → m ≡ couldCome o → (leb lo (o .number) && ltb f (o .end)) && m ≡ fitsAfter f lo o
+-- `m` says whether a book may hold it
+pub fits-is : (f lo : ℕ) (o : Order) (m : Bool) → m ≡ couldHold o → (leb lo (o .number) && ltb f (o .end)) && m ≡ fitsAfter f lo o
 unfolding fitsAfter
-fits-is f lo o m e = rw e (three (leb lo (o .number)) (ltb f (o .end)) (couldCome o))
+fits-is f lo o m e = rw e (three (leb lo (o .number)) (ltb f (o .end)) (couldHold o))
 
 -- it stands after those below lo, and ends past the floor
-pub fits-facts : (f lo : ℕ) (o : Order) → fitsAfter f lo o ≡ true → (lo ≤ o .number) × (f < o .end) × (couldCome o ≡ true)
+pub fits-facts : (f lo : ℕ) (o : Order) → fitsAfter f lo o ≡ true
+    → (lo ≤ o .number) × (f < o .end) × (couldCome o ≡ true) × (formedIn (timeOf o) (o .struck) ≡ true)
 unfolding fitsAfter
 fits-facts f lo o e =
-    let p = and-parts (leb lo (o .number)) (ltb f (o .end) && couldCome o) e in
-    let q = and-parts (ltb f (o .end)) (couldCome o) (p .1) in
-    (leb-true lo (o .number) (p .0), ltb-true f (o .end) (q .0), q .1)
+    let p = and-parts (leb lo (o .number)) (ltb f (o .end) && couldHold o) e in
+    let q = and-parts (ltb f (o .end)) (couldHold o) (p .1) in
+    let r = and-parts (couldCome o) (formedIn (timeOf o) (o .struck)) (q .1) in
+    (leb-true lo (o .number) (p .0), ltb-true f (o .end) (q .0), r .0, r .1)
+
+pub fits-of : (f lo : ℕ) (o : Order) → lo ≤ o .number → f < o .end → couldCome o ≡ true → formedIn (timeOf o) (o .struck) ≡ true → fitsAfter f lo o ≡ true
+unfolding fitsAfter
+fits-of f lo o h k e w = rw (le-leb lo (o .number) h, lt-ltb f (o .end) k, e, w)
 
 -- so it fills its place
 pub fits-past : (f lo : ℕ) (o : Order) → fitsAfter f lo o ≡ true → pastEnd 0 o ≡ true
@@ -52,6 +59,18 @@ fits-filled f lo o e =
     by-test (isEmpty o)
     (λ z. absurd (omega (arith, fits-facts f lo o e .1, empty-end o z)))
     (λ z. z)
+
+-- what is struck of the orders of a well formed list is well formed
+pub formed-struck : (f lo : ℕ) (l : List Order) → formedFrom f lo l ≡ true
+    → all (λ (o : Order). formedIn (timeOf o) (o .struck)) (keep (pastEnd 0) l) ≡ true
+unfolding all
+formed-struck f lo [] e = refl
+formed-struck f lo (o ∷ l) e =
+    by-test (isEmpty o)
+    (λ z. rw (le-ltb 0 (o .end) (omega (arith, empty-end o z)), empty-dropped l (rw z at e)))
+    (λ z.
+    let p = and-parts (fitsAfter f lo o) (formedFrom f (suc (o .number)) l) (rw z at e) in
+    rw (fits-past f lo o (p .0), fits-facts f lo o (p .0) .3) (formed-struck f (suc (o .number)) l (p .1)))
 
 -- ---- how many
 

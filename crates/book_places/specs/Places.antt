@@ -1,7 +1,7 @@
 -- The 96 places of a book of commands. Document 01, "The book of commands": held orders fill the first places by ascending number; all other places are
 -- zero. Which orders may stand there, where a number stands, and what is left after a close.
 use Prim.Native.Nat.{ℕ, zero, suc, _+_}
-use Rattle.book_order.specs.Orders.{number, pastEnd, emptyOrder, isEmpty, couldCome}
+use Rattle.book_order.specs.Orders.{number, pastEnd, emptyOrder, isEmpty, couldHold}
 use Rattle.book_order.specs.declared.Order.{Order}
 use Rattle.book_places.specs.declared.Kept.{Kept}
 use Rattle.book_places.specs.declared.Place.{Place}
@@ -10,8 +10,10 @@ use Rattle.book_places.specs.declared.Seat.{Seat}
 use Rattle.book_places.specs.declared.Tally.{Tally}
 use Rattle.book_places.specs.declared.Tally.the-variants.{Malformed, Holds}
 use Rattle.book_shelf.specs.Shelf.{packed as packedIn, thing, between, rankOf, isHeldAt, keepAt}
+use Rattle.layout.specs.declared.Layout.the-variants.{Market}
 use Rattle.text.specs.Bytes.{all}
 use lib.Dec.{leb, ltb}
+use lib.IntN.{pos}
 use lib.ListN.{length, take}
 use mathlib.Core.Bool.{Bool, true, _&&_, _||_, cond}
 use mathlib.Core.List.{List, [], _∷_}
@@ -22,9 +24,9 @@ use mathlib.Core.List.{List, [], _∷_}
 abbrev pub packed : List Order → List Order
 packed l = packedIn emptyOrder 96 l
 
--- what would be read past the last place
+-- what would be read past the last place, where there is no array either
 abbrev pub pastOrder : Order
-pastOrder = emptyOrder
+pastOrder = record { number = 0; layout = Market; start = 0; end = 0; first = pos 0; second = pos 0; struck = [] }
 
 abbrev pub orderAt : ℕ → List Order → Order
 orderAt i l = thing pastOrder i l
@@ -33,7 +35,7 @@ orderAt i l = thing pastOrder i l
 
 -- an order that may stand after numbers below lo, in a book with the floor f
 unfoldable pub fitsAfter : ℕ → ℕ → Order → Bool
-fitsAfter f lo o = leb lo (o .number) && (ltb f (o .end) && couldCome o)
+fitsAfter f lo o = leb lo (o .number) && (ltb f (o .end) && couldHold o)
 
 -- places that hold orders by ascending number from lo on, and then nothing
 abbrev pub formedFrom : ℕ → ℕ → List Order → Bool

@@ -35,7 +35,7 @@ pub struct Kept {
 fn fits_after(floor: u32, least: u64, o: Order) -> bool
     ensures { λ r. ⌜ r ≡ fitsAfter floor least o ⌝ }
 {
-    (least <= o.number) & (floor < o.end) & book_order::could_come(o)
+    (least <= o.number) & (floor < o.end) & book_order::could_hold(o)
 }
 
 // How many of the places hold orders, by ascending number, that fit a book with this floor, if those after them are empty. One look at the places for

@@ -1,10 +1,10 @@
--- The test of an order as bounds, for each of the two layouts that a command has. Assumes nothing.
+-- The test of an order as bounds, for each of the two layouts that a command has, and that of a strike. Assumes nothing.
 use Prim.Native.Nat.{ℕ, _-_, _≤_, _<_}
 use Rattle.value_bounds.specs.Bounds.{isAmount, firstInstant, lastInstant, mostNumber}
 use Rattle.layout.specs.Layouts.{isCommand, isRevocation}
 use Rattle.layout.specs.declared.Layout.{Layout}
 use Rattle.layout.specs.declared.Layout.the-variants.{Market, Mfrr, Revocation, Generic, Exclusion, Limitation, Secondary, VoltVar, Rejection, Reserve}
-use Rattle.book_order.specs.Orders.{fitsLayout, couldCome}
+use Rattle.book_order.specs.Orders.{fitsLayout, couldCome, Strike, couldStrike}
 use Rattle.book_order.specs.declared.Order.{Order}
 use Rattle.text.proofs.Tests.{told, Tells, leb-tells, ltb-tells, itself, _and_, within-tells}
 use Rattle.text.proofs.Zeros.{zero-tells}
@@ -88,3 +88,30 @@ come-tells o =
       fits = p .1 .1 .1 .1;
     })
     (λ b. (b .number-to, ((b .start-from, b .start-to), ((b .end-from, b .end-to), (b .first-amount, b .fits)))))
+
+-- ---- the strike
+
+pub record StrikeBounds (s : Strike) : Type 0 where
+  pub number-to : s .name .number ≤ mostNumber
+  pub start-from : firstInstant ≤ s .over .from
+  pub start-to : s .over .from ≤ lastInstant
+  pub end-from : firstInstant ≤ s .over .to
+  pub end-to : s .over .to ≤ lastInstant
+  pub apart : s .over .from < s .over .to
+
+pub revoke-tells : (s : Strike) → Tells (couldStrike s) (StrikeBounds s)
+unfolding couldStrike
+revoke-tells s =
+    let instant = within-tells firstInstant lastInstant in
+    told
+    (leb-tells (s .name .number) mostNumber and (instant (s .over .from) and (instant (s .over .to) and ltb-tells (s .over .from) (s .over .to))))
+    (λ p.
+    record {
+      number-to = p .0;
+      start-from = p .1 .0 .0;
+      start-to = p .1 .0 .1;
+      end-from = p .1 .1 .0 .0;
+      end-to = p .1 .1 .0 .1;
+      apart = p .1 .1 .1;
+    })
+    (λ b. (b .number-to, ((b .start-from, b .start-to), ((b .end-from, b .end-to), b .apart))))

@@ -30,9 +30,9 @@ use mathlib.Core.List.{List, [], _∷_, _++_}
 use mathlib.Core.Path.{_≡_}
 use native.Mathlib.Omega.{arith}
 
--- the number, the unit `A` (65) and the start stand first in both
-abbrev commandWith : Layout → ℕ → Date → List Value → List Triple → Record
-commandWith l n s rest gs =
+-- the number, the unit `A` (65) and the start stand first in every layout
+abbrev pub messageWith : Layout → ℕ → Date → List Value → List Triple → Record
+messageWith l n s rest gs =
     record {
       layout = l;
       cells = cellsOf (Id n ∷ UnitOf 1 ∷ When s ∷ rest);
@@ -48,7 +48,7 @@ none = Amount (pos 0)
 -- with the one triple 0,0,0.001
 abbrev pub marketCommand : ℕ → Date → Date → ℤ → ℤ → Record
 marketCommand n s e v w =
-    commandWith Market n s
+    messageWith Market n s
     (When e ∷ Amount v ∷ Amount w ∷ Word wNormale ∷ Word wStai ∷ Word wNo ∷ none ∷ none ∷ Word wNo ∷ Blank ∷ Blank ∷ Word wNo ∷ Word wNo
     ∷ When s ∷ Word wGaudi ∷ replicate 7 Blank ++ Triples 1 ∷ [])
     (record { low = pos 0; high = pos 0; gradient = pos 1 } ∷ replicate 15 noTriple)
@@ -56,7 +56,7 @@ marketCommand n s e v w =
 -- the first ramp ends where the second starts
 abbrev pub mfrrCommand : ℕ → Date → Date → Date → ℤ → Record
 mfrrCommand n s u e v =
-    commandWith Mfrr n s (When u ∷ When u ∷ When e ∷ Amount v ∷ Word wSa ∷ none ∷ none ∷ none ∷ none ∷ []) (replicate 16 noTriple)
+    messageWith Mfrr n s (When u ∷ When u ∷ When e ∷ Amount v ∷ Word wSa ∷ none ∷ none ∷ none ∷ none ∷ []) (replicate 16 noTriple)
 
 module _ (n : ℕ) (s e : Date) (v : ℤ) (low : ltb n 10000000000 ≡ true) (starts : isReal s ≡ true) (ends : isReal e ≡ true) (first : isAmount v ≡ true) where
   pub market-valid : (w : ℤ) → isAmount w ≡ true → ltb (instantOf s) (instantOf e) ≡ true → isValid (marketCommand n s e v w) ≡ true

@@ -3,5 +3,7 @@ pub mod Fields
 pub mod Places
 pub mod Comes
 pub mod Commands
+pub mod Revocations
 pub mod Witness
 pub mod Given
+pub mod GivenStrikes

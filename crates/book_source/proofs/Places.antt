@@ -1,4 +1,4 @@
--- Where a command has its number, its dates and its amounts, none of which may be blank. Assumes nothing.
+-- Where a command has its number, its dates and its amounts, and a revocation its dates and its sequence, none of which may be blank. Assumes nothing.
 use Prim.Native.Nat.{ℕ, suc}
 use Rattle.layout.specs.FieldNumbers.{endField}
 use Rattle.book_source.proofs.Bounds.{by-command, by-revocation}
@@ -40,6 +40,14 @@ market-amounts = (owed-at Market IsAmount 4 refl refl refl, owed-at Market IsAmo
 pub mfrr-amount : Owed Mfrr IsAmount 7
 unfolding kindsOf fieldsOf mfrr
 mfrr-amount = owed-at Mfrr IsAmount 6 refl refl refl
+
+pub revoked-start-at : (l : Layout) → isRevocation l ≡ true → Owed l IsWhen 3
+unfolding kindsOf fieldsOf rc
+revoked-start-at = by-revocation (λ (l : Layout). Owed l IsWhen 3) (owed-at Revocation IsWhen 2 refl refl refl)
+
+pub revoked-end-at : (l : Layout) → isRevocation l ≡ true → Owed l IsWhen (endField l)
+unfolding kindsOf fieldsOf rc
+revoked-end-at = by-revocation (λ (l : Layout). Owed l IsWhen (endField l)) (owed-at Revocation IsWhen 3 refl refl refl)
 
 pub sequence-at : (l : Layout) → isRevocation l ≡ true → Owed l IsCount 5
 unfolding kindsOf fieldsOf rc

@@ -12,16 +12,18 @@ use Rattle.layout.specs.declared.Layout.the-variants.{Market, Mfrr}
 use Rattle.book_order.specs.Messages.{orderOf}
 use Rattle.book_order.specs.Orders.{fitsLayout, couldCome}
 use Rattle.book_order.specs.declared.Order.{Order}
+use Rattle.book_stretch.specs.Stretches.{inFour}
 use Rattle.record.specs.Records.{cellsOf, fieldOf}
 use Rattle.record_check.proofs.Decides.{valid-tells}
 use borrow.Author.Tests.{lt-ltb}
 use lib.Dec.{ltb}
-use mathlib.Core.Bool.{true, false}
+use mathlib.Core.Bool.{true}
+use mathlib.Core.List.{[]}
 use mathlib.Core.Path.{_≡_, refl, sym}
 use native.Mathlib.Omega.{arith}
 
 -- dates of two instants, in their order
-before : {s t : ℕ} (a : Gives isReal s) (b : Gives isReal t) → s < t → ltb (instantOf (a .date)) (instantOf (b .date)) ≡ true
+pub before : {s t : ℕ} (a : Gives isReal s) (b : Gives isReal t) → s < t → ltb (instantOf (a .date)) (instantOf (b .date)) ≡ true
 before a b h = rw (a .gives, b .gives) (lt-ltb _ _ h)
 
 module _ (o : Order) (b : Bounds o) where
@@ -67,7 +69,7 @@ module _ (o : Order) (b : Bounds o) where
           first = o .first;
           second = o .second;
           layout = Market;
-          struck = false;
+          struck = inFour [];
         };
       }
 
@@ -89,7 +91,7 @@ module _ (o : Order) (b : Bounds o) where
           first = o .first;
           second = sym (p .1) i;
           layout = Mfrr;
-          struck = false;
+          struck = inFour [];
         };
       }
 

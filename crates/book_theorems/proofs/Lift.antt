@@ -1,6 +1,6 @@
 -- The book that holds a fitting ledger is not malformed, and its calls are the ledger's. Assumes nothing.
 use Prim.Native.Nat.{ℕ, zero, suc, _-_, _≤_}
-use Rattle.book_places.proofs.Empty.{empty-dropped}
+use Rattle.book_places.proofs.Empty.{zero-is, empty-dropped}
 use Rattle.book_places.proofs.Leading.{fits-past, fits-filled, fits-facts, kept-leading, leading-long}
 use Rattle.book_places.specs.Places.{fitsAfter, formedFrom, leading}
 use Rattle.book.specs.Answers.{callNumber, nextOf, deedNumber, deedNext, deedOutcomeOf, found, askedOf}
@@ -37,15 +37,13 @@ filled-up : {A : Type 0} (n : ℕ) (x : A) (l : List A) → length l ≤ n → l
 filled-up n x l h = omega (arith, length-append l (replicate (n - length l) x), length-replicate (n - length l) x)
 
 empties : (n : ℕ) → all isEmpty (replicate n emptyOrder) ≡ true
-unfolding isEmpty
-empties n = all-copies isEmpty emptyOrder refl n
+empties n = all-copies isEmpty emptyOrder zero-is n
 
 -- ---- the orders and the unit of such a book
 
 orders-formed : (f lo n : ℕ) (l : List Order) → Fitted f lo l → formedFrom f lo (l ++ replicate n emptyOrder) ≡ true
-unfolding isEmpty
 orders-formed f lo zero [] g = refl
-orders-formed f lo (suc n) [] g = empties n
+orders-formed f lo (suc n) [] g = rw zero-is (empties n)
 orders-formed f lo n (o ∷ l) g = rw (fits-filled f lo o (g .0), g .0) (orders-formed f (suc (o .number)) n l (g .1))
 
 orders-kept : (f lo n : ℕ) (l : List Order) → Fitted f lo l → keep (pastEnd 0) (l ++ replicate n emptyOrder) ≡ l

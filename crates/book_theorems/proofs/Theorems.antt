@@ -1,22 +1,23 @@
 -- Demand 3 of the book with its 96 places: the ledger's theorems, carried over. Assumes nothing.
-use Prim.Native.Nat.{ℕ, zero, suc}
+use Prim.Native.Nat.{ℕ, zero, suc, _≤_}
 use Rattle.book.proofs.Formed.{shelf-book}
 use Rattle.book.specs.Answers.{callNumber, nextOf, deedNumber, deedNext, freshOf, found, foundNumber, askedAs, ofInForce, ofTally, askedOf}
 use Rattle.book.specs.Places.{shelf, zeroBook, formedUnit, formedBook, tallyOf}
 use Rattle.book.specs.declared.Book.{Book}
-use Rattle.book_ledger.proofs.Agreement.{same-answer, same-in-force}
+use Rattle.book_ledger.proofs.Agreement.{agreement, same-answer, same-in-force}
+use Rattle.book_ledger.proofs.ByCalls.{by-calls}
 use Rattle.book_ledger.proofs.Removal.{removal as ledger-removal, whole-answers as ledger-answers}
 use Rattle.book_ledger.specs.Calls.{Call, command, revoke, ask, Deed, deedOf, names}
 use Rattle.book_ledger.specs.Demand.{wantsPlace, whole, leftOut, found as foundAt, taken, met, struck, otherAnswers, Revoked, LeftOut}
-use Rattle.book_ledger.specs.History.{ledgerOf}
+use Rattle.book_ledger.specs.History.{floorFrom, ledgerOf, inForceBy}
 use Rattle.book_ledger.specs.Keepers.{run, answers}
-use Rattle.book_ledger.specs.Ledger.{fresh, answer, inForce, ledgers}
+use Rattle.book_ledger.specs.Ledger.{fresh, answer, inForce, ledgers, accepted}
 use Rattle.value_name.specs.Names.{isUnit}
 use Rattle.record.specs.declared.Record.{Record}
 use Rattle.book_theorems.proofs.Carried.{Carries, carries-formed, same-floor, same-code, carries-step, same-asked, carries-run, same-answers}
 use Rattle.book_theorems.proofs.Carried.{same-accepted}
 use Rattle.book_theorems.proofs.Fitting.{fits-fresh}
-use Rattle.book_theorems.specs.Books.{books, bookFor, Kept}
+use Rattle.book_theorems.specs.Books.{books, bookFor, after, history, Kept}
 use Rattle.text.proofs.Tests.{by-test}
 use Rattle.text.specs.Bytes.{any}
 use Rattle.text.specs.Said.{said}
@@ -46,6 +47,16 @@ kept unit ks e =
           same-asked now t (omega (arith, same-floor now))
           ∙ ap found (same-in-force unit ks t ∙ ap (λ (l : List Call). inForce t (ledgerOf unit (map deedOf l))) calls);
     }
+
+-- and that order is said by the calls alone, with no stretch joined to another
+pub kept-by-calls : (unit : List ℕ) (ks : List Call) → isUnit unit ≡ true → (t : ℕ) → after unit ks .floor ≤ t
+    → askedOf t (after unit ks) .answer ≡ found (inForceBy t (history unit ks))
+kept-by-calls unit ks e t h =
+    let start = fresh-carries unit e in
+    let calls : floorFrom 0 (map deedOf (accepted ks (fresh unit))) ≡ floorFrom 0 (history unit ks) =
+    ap (λ (l : List Call). floorFrom 0 (map deedOf l)) (sym (same-accepted ks start)) in
+    kept unit ks e .in-force-so t h
+    ∙ ap found (by-calls t (history unit ks) (omega (arith, h, same-floor (carries-run ks start), agreement unit ks .floors, calls)))
 
 -- ---- for a bad unit the book is all zero, and every call refuses it
 
@@ -119,6 +130,7 @@ module _ (unit : List ℕ) (before between after : List Call) (c v : Record) whe
           was-taken = sym (same-code at-command (command c)) ∙ q .was-taken;
           was-revoked = sym (same-code at-revocation (revoke v)) ∙ q .was-revoked;
           by-name = q .by-name;
+          covers-whole = q .covers-whole;
           unnamed-between = q .unnamed-between;
           unnamed-after = q .unnamed-after;
           room-between = ap (any wantsPlace) (sym (same-answers between past-command)) ∙ q .room-between;

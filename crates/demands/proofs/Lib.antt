@@ -11,3 +11,4 @@ pub mod Request1
 pub mod Request2
 pub mod Request4
 pub mod Request5
+pub mod Request6

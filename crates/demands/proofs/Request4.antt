@@ -5,7 +5,7 @@ use Rattle.book.specs.declared.Book.{Book}
 use Rattle.book_theorems.proofs.Lift.{formed-fits}
 use Rattle.book_theorems.proofs.Theorems.{kept}
 use Rattle.demands.specs.Request4.{Request4}
-use Rattle.saved.specs.Saved.{textOf, saveRefusals, saveOf, ofSaved}
+use Rattle.saved.specs.Saved.{textOf, hasPartial, saveRefusals, saveOf, ofSaved}
 use Rattle.saved.specs.declared.Saved.the-variants.{To, Refused}
 use Rattle.saved_theorems.proofs.Exact.{one-order}
 use Rattle.saved_theorems.proofs.Judged.{judged-above}
@@ -22,18 +22,19 @@ use mathlib.Core.Bool.{Bool, true, false, not, cond}
 use mathlib.Core.List.{[], _∷_}
 use mathlib.Core.Path.{_≡_, refl}
 
--- what is said, whichever of the two refusals holds
-says : (size : ℕ) (f small : Bool)
-    → ofSaved (cond (not f) (Refused 20 0) (cond small (Refused 11 size) (To size)))
-    ≡ cond (not f) (said 20 0 []) (cond small (said 11 size []) (said 0 0 (size ∷ [])))
-says size false small = refl
-says size true true = refl
-says size true false = refl
+-- what is said, whichever of the three refusals holds
+says : (size : ℕ) (f partial small : Bool)
+    → ofSaved (cond (not f) (Refused 20 0) (cond partial (Refused 52 0) (cond small (Refused 11 size) (To size))))
+    ≡ cond (not f) (said 20 0 []) (cond partial (said 52 0 []) (cond small (said 11 size []) (said 0 0 (size ∷ []))))
+says size false partial small = refl
+says size true true small = refl
+says size true false true = refl
+says size true false false = refl
 
 save-says : (b : Book) (room : ℕ)
     → ofSaved (saveOf b room) ≡ firstHolding (λ n d. said n d []) (said 0 0 (length (textOf (shelf b)) ∷ [])) (saveRefusals b room)
 unfolding saveOf
-save-says b room = says (length (textOf (shelf b))) (formedBook b) (ltb room (length (textOf (shelf b))))
+save-says b room = says (length (textOf (shelf b))) (formedBook b) (hasPartial b) (ltb room (length (textOf (shelf b))))
 
 pub request-4 : Request4
 request-4 =

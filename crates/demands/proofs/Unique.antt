@@ -1,6 +1,7 @@
 -- THE THEOREMS on contracts: two answers that satisfy one are equal, by the laws of text/proofs/Determined.antt, of each public function by name; what the
 -- contracts say; and that the code meets them. Assumes nothing.
 use Rattle.book.proofs as book
+use Rattle.book_stretch.proofs as book_stretch
 use Rattle.gateway.proofs as gateway
 use Rattle.plan.proofs as plan
 use Rattle.reader.proofs as reader
@@ -213,13 +214,24 @@ within =
       book-places-put-in = λ κs a. equation _;
       book-places-keep-past = λ κs a. equation _;
       book-places-last-live = λ κs a. equation _;
+      book-stretch-any-covers = (λ κs a. tt, λ κs a. equation _);
+      book-stretch-lies = (λ κs a. tt, λ κs a. equation _);
+      book-stretch-any-holds = (λ κs a. tt, λ κs a. equation _);
+      book-stretch-are-none = (λ κs a. tt, λ κs a. equation _);
+      book-stretch-are-formed = (λ κs a. tt, λ κs a. equation _);
+      book-stretch-join = (λ κs a. tt, λ κs a. equation _);
       book-order-of-record = λ κs a. equation _;
       book-order-named-by = (λ κs a. tt, λ κs a. equation _);
-      book-order-struck-out = (λ κs a. tt, λ κs a. equation _);
+      book-order-struck-by = λ κs a. equation _;
+      book-order-could-strike = (λ κs a. tt, λ κs a. equation _);
+      book-order-strike = (λ κs a. tt, λ κs a. equation _);
+      book-order-is-whole = (λ κs a. tt, λ κs a. equation _);
+      book-order-is-partial = (λ κs a. tt, λ κs a. equation _);
       book-order-is-live = (λ κs a. tt, λ κs a. equation _);
       book-order-is-empty = (λ κs a. tt, λ κs a. equation _);
       book-order-could-come = (λ κs a. tt, λ κs a. equation _);
       book-order-is-brought = (λ κs a. tt, λ κs a. equation _);
+      book-order-could-hold = (λ κs a. tt, λ κs a. equation _);
       reader-refuse = (λ κs a. tt, λ κs a. equation _);
       reader-judged = (λ κs a. tt, λ κs a. equation _);
       report-put-record = λ κs a. equations _ _ _;
@@ -233,6 +245,7 @@ within =
       value-fits-own = value_fits.Unique.within;
       record-check-own = record-check.Unique.within;
       book-own = book.Unique.within;
+      book-stretch-own = book_stretch.Unique.within;
     }
 
 -- ---- what the contracts say, and that the code meets them
@@ -254,7 +267,7 @@ contracts =
       closes = λ κs b t z e h. h;
       in-force = λ κs b t z e h. h;
       holds = λ κs b o z e h. h;
-      strikes = λ κs b n z e h. h;
+      strikes = λ κs b n c z e h. h;
       saves = λ κs b out z e h. h;
       reads-back = λ κs s z e h. h;
       locate = λ κs w ca ioa plan file sheet z e h. h;

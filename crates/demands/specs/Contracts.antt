@@ -12,6 +12,7 @@ use Rattle.gateway.specs.Collecting.{collectCode}
 use Rattle.gateway.specs.Entry.{entryCode, outOf}
 use Rattle.book_ledger.specs.Calls.{command, revoke, close, hold, strike}
 use Rattle.book_order.specs.Orders.{strikeFor}
+use Rattle.book_stretch.specs.declared.Stretch.{Stretch}
 use Rattle.book_order.specs.declared.Order.{Order}
 use Rattle.reader.proofs as reader
 use Rattle.reader.specs.Reader.{readOf}
@@ -89,9 +90,9 @@ pub record Contracts : Type 0 where
   pub closes : (κs : _) (b : Book) (t : ℕ) (z : Outcome) (e : _) → book.Book.close.Reads.Learnt κs (b, (t, tt)) z e → z ≡ outcomeOf (close t) b
   pub in-force : (κs : _) (b : Book) (t : ℕ) (z : Asked) (e : _) → book.Book.in_force.Reads.Learnt κs (b, (t, tt)) z e → z ≡ askedOf t b
   pub holds : (κs : _) (b : Book) (o : Order) (z : Outcome) (e : _) → book.Book.hold.Reads.Learnt κs (b, (o, tt)) z e → z ≡ deedOutcomeOf (hold o) b
-  pub strikes : (κs : _) (b : Book) (n : ℕ) (z : Outcome) (e : _)
-      → book.Book.strike.Reads.Learnt κs (b, (n, tt)) z e
-      → z ≡ deedOutcomeOf (strike (strikeFor n)) b
+  pub strikes : (κs : _) (b : Book) (n : ℕ) (c : Stretch) (z : Outcome) (e : _)
+      → book.Book.strike.Reads.Learnt κs (b, (n, (c, tt))) z e
+      → z ≡ deedOutcomeOf (strike (strikeFor n c)) b
   pub saves : (κs : _) (b : Book) (out : Slice) (z : Saved) (e : _)
       → saved.save.Reads.Learnt κs (b, (out, tt)) z e
       → (z ≡ saveOf b (length (out .now))) × (e .1 .0 .now ≡ savedIn b (out .now))

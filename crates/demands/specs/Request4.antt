@@ -39,8 +39,8 @@ pub record Request4 : Type 0 where
       → all timely (whole restarting (bookFor unit) (turnNames unit) before between later c v) ≡ true
       → Revoked restarting (bookFor unit) (turnNames unit) before between later c v
       → LeftOut restarting (bookFor unit) (turnNames unit) before between later c v
-  -- "Refusals: 20, then 11 on saving": the list, and what is said: the first of them that holds, or the length
-  pub in-order : (b : Book) (room : ℕ) → map (λ x. x .number) (saveRefusals b room) ≡ 20 ∷ 11 ∷ []
+  -- "Refusals: 20, then 11 on saving", with A6's 52 between: the list, and what is said: the first of them that holds, or the length
+  pub in-order : (b : Book) (room : ℕ) → map (λ x. x .number) (saveRefusals b room) ≡ 20 ∷ 52 ∷ 11 ∷ []
   pub save-says : (b : Book) (room : ℕ)
       → ofSaved (saveOf b room) ≡ firstHolding (λ n d. said n d []) (said 0 0 (length (textOf (shelf b)) ∷ [])) (saveRefusals b room)
   -- a refused save changes no byte

@@ -24,6 +24,7 @@ use Rattle.value_name.proofs as value_name
 use Rattle.value_number.proofs as value_number
 use Rattle.book_order.proofs as book_order
 use Rattle.book_places.proofs as book_places
+use Rattle.book_stretch.proofs as book_stretch
 use Rattle.reader.proofs as reader
 use Rattle.record.proofs as records
 use Rattle.value_put.proofs as value_put
@@ -203,13 +204,24 @@ pub record Within : Type 0 where
   pub book-places-keep-past : OneResult book_places.keep_past.ended book_places.keep_past.Reads.Learnt
   pub book-places-last-live : OneResult book_places.last_live.ended book_places.last_live.Reads.Learnt
   -- book_order
+  pub book-stretch-any-covers : Answers book_stretch.any_covers.ended book_stretch.any_covers.Reads.Asked book_stretch.any_covers.Reads.Learnt
+  pub book-stretch-lies : Answers book_stretch.lies.ended book_stretch.lies.Reads.Asked book_stretch.lies.Reads.Learnt
+  pub book-stretch-any-holds : Answers book_stretch.any_holds.ended book_stretch.any_holds.Reads.Asked book_stretch.any_holds.Reads.Learnt
+  pub book-stretch-are-none : Answers book_stretch.are_none.ended book_stretch.are_none.Reads.Asked book_stretch.are_none.Reads.Learnt
+  pub book-stretch-are-formed : Answers book_stretch.are_formed.ended book_stretch.are_formed.Reads.Asked book_stretch.are_formed.Reads.Learnt
+  pub book-stretch-join : Answers book_stretch.join.ended book_stretch.join.Reads.Asked book_stretch.join.Reads.Learnt
   pub book-order-of-record : OneResult book_order.of_record.ended book_order.of_record.Reads.Learnt
   pub book-order-named-by : Answers book_order.named_by.ended book_order.named_by.Reads.Asked book_order.named_by.Reads.Learnt
-  pub book-order-struck-out : Answers book_order.struck_out.ended book_order.struck_out.Reads.Asked book_order.struck_out.Reads.Learnt
+  pub book-order-struck-by : OneResult book_order.struck_by.ended book_order.struck_by.Reads.Learnt
+  pub book-order-could-strike : Answers book_order.could_strike.ended book_order.could_strike.Reads.Asked book_order.could_strike.Reads.Learnt
+  pub book-order-strike : Answers book_order.strike.ended book_order.strike.Reads.Asked book_order.strike.Reads.Learnt
+  pub book-order-is-whole : Answers book_order.is_whole.ended book_order.is_whole.Reads.Asked book_order.is_whole.Reads.Learnt
+  pub book-order-is-partial : Answers book_order.is_partial.ended book_order.is_partial.Reads.Asked book_order.is_partial.Reads.Learnt
   pub book-order-is-live : Answers book_order.is_live.ended book_order.is_live.Reads.Asked book_order.is_live.Reads.Learnt
   pub book-order-is-empty : Answers book_order.is_empty.ended book_order.is_empty.Reads.Asked book_order.is_empty.Reads.Learnt
   pub book-order-could-come : Answers book_order.could_come.ended book_order.could_come.Reads.Asked book_order.could_come.Reads.Learnt
   pub book-order-is-brought : Answers book_order.is_brought.ended book_order.is_brought.Reads.Asked book_order.is_brought.Reads.Learnt
+  pub book-order-could-hold : Answers book_order.could_hold.ended book_order.could_hold.Reads.Asked book_order.could_hold.Reads.Learnt
   -- reader
   pub reader-refuse : Answers reader.refuse.ended reader.refuse.Reads.Asked reader.refuse.Reads.Learnt
   pub reader-judged : Answers reader.judged.ended reader.judged.Reads.Asked reader.judged.Reads.Learnt
@@ -229,3 +241,4 @@ pub record Within : Type 0 where
   pub value-fits-own : value_fits.Unique.Within
   pub record-check-own : record-check.Unique.Within
   pub book-own : book.Unique.Within
+  pub book-stretch-own : book_stretch.Unique.Within

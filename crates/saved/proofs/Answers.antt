@@ -1,12 +1,12 @@
 -- The answer for an order at the front of a text, from what its item tells. Assumes nothing.
 use Prim.Native.Nat.{ℕ, suc, _+_, _-_}
+use Rattle.book_order.specs.Orders.{emptyOrder}
 use Rattle.book_order.specs.declared.Order.{Order}
 use Rattle.saved.proofs.Items.{Whole, whole-item, broken-item}
 use Rattle.saved.proofs.Ordering.{Ordered, said-fits}
 use Rattle.saved.specs.Orders.{orderFrom, Instants}
 use Rattle.saved.specs.Reads.{readItem}
 use Rattle.saved.specs.Saved.{above, readOrder, orderReadOf}
-use Rattle.saved.specs.declared.OrderRead.the-variants.{Good, Bad}
 use Rattle.saved_lines.proofs.Seven.{Seven}
 use Rattle.saved_lines.specs.Items.{Lines, readFrom, itemOf}
 use Rattle.saved_lines.specs.Tables.{nextOf}
@@ -34,12 +34,12 @@ module _ (floor least : ℕ) (s : List ℕ) (x : Item) (told : x ≡ itemOf (rea
   same : x ≡ itemOf lines s
   same = told ∙ ap (λ (k : ℕ). itemOf (readFrom (nextOf OrderTable (above least k)) 18 [] s) s) (add-one floor)
 
-  pub bad-order : x .good ≡ false → Bad (x .lines) ≡ orderReadOf (readOrder floor least 0 s) s
+  pub bad-order : x .good ≡ false → record { good = false; order = emptyOrder; lines = x .lines; end = 0 } ≡ orderReadOf (readOrder floor least 0 s) s
   unfolding readOrder readItem
   bad-order n =
       let b = broken-item OrderTable (above least (suc floor)) s x same n in
       let k : x .lines ≡ 0 + x .lines = omega arith in
-      rw (b .read) (ap Bad k)
+      rw (b .read) (λ i. record { good = false; order = emptyOrder; lines = k i; end = 0 })
 
   module _ (yes : x .good ≡ true) where
     whole : Whole OrderTable (above least (suc floor)) s x
@@ -53,10 +53,11 @@ module _ (floor least : ℕ) (s : List ℕ) (x : Item) (told : x ≡ itemOf (rea
         rw (whole .room)
         (room-instants (whole .values) (replicate (18 - length (whole .values)) 0) floor least (fits .seven-lines) (fits .instants))
 
-    pub good-order : (o : Order) → o ≡ orderFrom (x .values) → Good o (x .lines) (x .end) ≡ orderReadOf (readOrder floor least 0 s) s
+    pub good-order : (o : Order) → o ≡ orderFrom (x .values)
+        → record { good = true; order = o; lines = x .lines; end = x .end } ≡ orderReadOf (readOrder floor least 0 s) s
     unfolding readOrder readItem
     good-order o e =
         let from : o ≡ orderFrom (whole .values) =
         e ∙ ap orderFrom (whole .room) ∙ room-order (whole .values) (replicate (18 - length (whole .values)) 0) floor least (fits .seven-lines) in
         let k : x .lines ≡ 0 + length (whole .values) = omega (arith, whole .count) in
-        rw (whole .read) (λ i. Good (from i) (k i) (whole .end i))
+        rw (whole .read) (λ i. record { good = true; order = from i; lines = k i; end = whole .end i })

@@ -1,4 +1,5 @@
 pub mod Amounts
+pub mod Struck
 pub mod Ordering
 pub mod Items
 pub mod Reading

@@ -1,13 +1,15 @@
 -- An order and its values, both ways: those that its lines allow are those of an order that fits there. Assumes nothing.
-use Prim.Native.Nat.{ℕ, zero, suc, _+_, _-_, _≤_}
-use Rattle.book_order.specs.Orders.{fitsLayout, couldCome}
+use Prim.Native.Nat.{ℕ, zero, suc, _+_, _-_, _≤_, _<_}
+use Rattle.book_order.specs.Orders.{timeOf, isWhole, isPartial, fitsLayout, couldCome}
 use Rattle.book_order.specs.declared.Order.{Order}
-use Rattle.book_places.proofs.Leading.{fits-facts}
+use Rattle.book_places.proofs.Leading.{fits-facts, fits-of}
 use Rattle.book_places.specs.Places.{fitsAfter}
 use Rattle.book_source.proofs.Bounds.{Bounds, come-tells, fits-command, by-command, market-tells, mfrr-tells}
+use Rattle.book_stretch.specs.Stretches.{formedIn}
 use Rattle.layout.specs.declared.Layout.{Layout}
 use Rattle.layout.specs.declared.Layout.the-variants.{Market, Mfrr}
 use Rattle.saved.proofs.Amounts.{amount-raised, number-lowered}
+use Rattle.saved.proofs.Struck.{struck-to, struck-back, number-formed, number-back}
 use Rattle.saved.specs.Orders.{kindIn, layoutFrom, raised, lowered, struckIn, valuesOf, orderFrom, Instants}
 use Rattle.saved.specs.Saved.{above}
 use Rattle.saved_lines.proofs.Seven.{Seven, seven, said}
@@ -16,10 +18,8 @@ use Rattle.saved_lines.specs.Tables.{apartOf, secondLine, nextOf}
 use Rattle.saved_lines.specs.Values.{zeroAmount, MayBe}
 use Rattle.saved_lines.specs.declared.Table.the-variants.{Order as OrderTable}
 use Rattle.value_bounds.specs.Bounds.{isAmount, lastInstant, mostAmount}
-use borrow.Author.Tests.{le-leb, lt-ltb}
-use lib.Dec.{eqb}
 use lib.IntN.{ℤ, pos}
-use mathlib.Core.Bool.{Bool, true, false}
+use mathlib.Core.Bool.{true, false}
 use mathlib.Core.List.{List, [], _∷_}
 use mathlib.Core.Path.{_≡_, refl}
 use native.Mathlib.Omega.{arith}
@@ -31,6 +31,7 @@ pub record Kinds (l : Layout) (start end : ℕ) (second : ℤ) : Type 0 where
   pub kind-to : kindIn l ≤ 1
   pub back : layoutFrom (kindIn l) ≡ l
   pub apart : start + apartOf (kindIn l) ≤ end
+  pub ends-after : start < end
   pub second-in : MayBe (secondLine (kindIn l)) (raised second)
   pub second-amount : isAmount second ≡ true
 
@@ -42,6 +43,7 @@ market-kinds start end second e =
       kind-to = omega arith;
       back = refl;
       apart = omega (arith, f .0);
+      ends-after = omega (arith, f .0);
       second-in = (r .from, r .to, (r .from, r .to));
       second-amount = f .1;
     }
@@ -54,6 +56,7 @@ mfrr-kinds start end second e =
       kind-to = omega arith;
       back = refl;
       apart = omega (arith, f .0);
+      ends-after = omega (arith, f .0);
       second-in = (omega arith, omega arith, (omega arith, omega arith));
       second-amount = refl;
     })
@@ -65,18 +68,10 @@ kinds l start end second e =
 
 -- ---- from the order
 
-pub struck-to : (b : Bool) → struckIn b ≤ 1
-struck-to true = omega arith
-struck-to false = omega arith
-
-struck-back : (b : Bool) → eqb (struckIn b) 1 ≡ b
-struck-back true = refl
-struck-back false = refl
-
--- an order is that of its values
-pub order-back : (o : Order) → couldCome o ≡ true → orderFrom (valuesOf o) ≡ o
+-- an order that is not struck in part is that of its values
+pub order-back : (o : Order) → couldCome o ≡ true → formedIn (timeOf o) (o .struck) ≡ true → isPartial o ≡ false → orderFrom (valuesOf o) ≡ o
 unfolding orderFrom valuesOf
-order-back o e =
+order-back o e f p =
     let b = come-tells o .0 e in
     let k = kinds (o .layout) (o .start) (o .end) (o .second) (b .fits) in
     λ i. record {
@@ -86,7 +81,7 @@ order-back o e =
       end = o .end;
       first = amount-raised (o .first) (b .first-amount) .back i;
       second = amount-raised (o .second) (k .second-amount) .back i;
-      struck = struck-back (o .struck) i;
+      struck = struck-back o (k .ends-after) f p i;
     }
 
 -- and the lines of an order that fits allow them
@@ -104,7 +99,7 @@ fits-said floor least o e =
       e = o .end;
       v = raised (o .first);
       w = raised (o .second);
-      c = struckIn (o .struck);
+      c = struckIn (isWhole o);
       are = refl;
       number-from = f .0;
       number-to = b .number-to;
@@ -116,7 +111,7 @@ fits-said floor least o e =
       end-to = b .end-to;
       first-in = (v .from, v .to);
       second-in = k .second-in;
-      struck-to = struck-to (o .struck);
+      struck-to = struck-to (isWhole o);
     })
 
 -- ---- from the values
@@ -125,6 +120,7 @@ fits-said floor least o e =
 pub record Seconds (k start end w : ℕ) : Type 0 where
   pub fits : fitsLayout (layoutFrom k) (end - start) (lowered w) ≡ true
   pub kind-back : kindIn (layoutFrom k) ≡ k
+  pub ends-after : start < end
   pub second-in : (1 ≤ w) × (w ≤ 1999999999)
 
 seconds : (k start end w : ℕ) → k ≤ 1 → start + apartOf k ≤ end → MayBe (secondLine k) w → Seconds k start end w
@@ -133,6 +129,7 @@ seconds zero start end w h d m =
     record {
       fits = market-tells (end - start) (lowered w) .1 (omega (arith, d), number-lowered w (m .0) (m .1) .amount);
       kind-back = refl;
+      ends-after = omega (arith, d);
       second-in = (m .0, m .1);
     }
 seconds (suc zero) start end w h d m =
@@ -140,14 +137,10 @@ seconds (suc zero) start end w h d m =
     record {
       fits = rw e (mfrr-tells (end - start) (pos 0) .1 (omega (arith, d), refl));
       kind-back = refl;
+      ends-after = omega (arith, d);
       second-in = (omega (arith, e), omega (arith, e));
     }
 seconds (suc (suc k)) start end w h d m = absurd (omega arith)
-
-struck-same : (c : ℕ) → c ≤ 1 → struckIn (eqb c 1) ≡ c
-struck-same zero h = refl
-struck-same (suc zero) h = refl
-struck-same (suc (suc c)) h = absurd (omega arith)
 
 -- the order of values that the lines allow fits, and they are its own
 pub record Ordered (floor least : ℕ) (vs : List ℕ) : Type 0 where
@@ -157,14 +150,15 @@ pub record Ordered (floor least : ℕ) (vs : List ℕ) : Type 0 where
   pub seven-lines : Seven (above least (suc floor)) vs
 
 of-seven : (floor least n k s e v w c : ℕ) → Seven (above least (suc floor)) (n ∷ k ∷ s ∷ e ∷ v ∷ w ∷ c ∷ [])
-    → least ≤ n → suc floor ≤ e → Bounds (orderFrom (n ∷ k ∷ s ∷ e ∷ v ∷ w ∷ c ∷ []))
-    → kindIn (layoutFrom k) ≡ k → raised (lowered v) ≡ v → raised (lowered w) ≡ w → struckIn (eqb c 1) ≡ c
+    → least ≤ n → suc floor ≤ e → s < e → c ≤ 1 → Bounds (orderFrom (n ∷ k ∷ s ∷ e ∷ v ∷ w ∷ c ∷ []))
+    → kindIn (layoutFrom k) ≡ k → raised (lowered v) ≡ v → raised (lowered w) ≡ w
     → Instants (n ∷ k ∷ s ∷ e ∷ v ∷ w ∷ c ∷ []) → Ordered floor least (n ∷ k ∷ s ∷ e ∷ v ∷ w ∷ c ∷ [])
-unfolding fitsAfter orderFrom valuesOf
-of-seven floor least n k s e v w c q lo past b kind first second struck i =
+unfolding orderFrom valuesOf
+of-seven floor least n k s e v w c q lo past apart one b kind first second i =
+    let o = orderFrom (n ∷ k ∷ s ∷ e ∷ v ∷ w ∷ c ∷ []) in
     record {
-      fits = rw (le-leb least n lo, lt-ltb floor e past) (come-tells (orderFrom (n ∷ k ∷ s ∷ e ∷ v ∷ w ∷ c ∷ [])) .1 b);
-      values-back = rw (kind, first, second, struck);
+      fits = fits-of floor least o lo past (come-tells o .1 b) (number-formed c s e apart);
+      values-back = rw (kind, first, second, number-back c s e one apart);
       instants = i;
       seven-lines = q;
     }
@@ -179,6 +173,7 @@ said-fits floor least vs p =
     let v = number-lowered (q .v) (q .first-in .0) (q .first-in .1) in
     let w = number-lowered (q .w) (x .second-in .0) (x .second-in .1) in
     rw (q .are) (of-seven floor least (q .n) (q .k) (q .s) (q .e) (q .v) (q .w) (q .c) (rw (q .are) at q) (q .number-from) (q .end-past)
+    (x .ends-after) (q .struck-to)
     (record {
       number-to = q .number-to;
       start-from = q .start-from;
@@ -188,5 +183,5 @@ said-fits floor least vs p =
       first-amount = v .amount;
       fits = x .fits;
     })
-    (x .kind-back) (v .back) (w .back) (struck-same (q .c) (q .struck-to))
+    (x .kind-back) (v .back) (w .back)
     (omega (arith, q .start-to), omega (arith, q .end-to), q .first-in .0, q .first-in .1, x .second-in .0, x .second-in .1))

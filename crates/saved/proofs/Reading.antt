@@ -13,16 +13,17 @@ use Rattle.saved.specs.Reads.{Read, good, bad, andThen, lined, readItem}
 use Rattle.saved.specs.Saved.{above, readOrder, readOrders, readRest, readBelow, orderReadOf, readAs, unreadAt}
 use Rattle.saved.specs.declared.Head.{Head}
 use Rattle.saved.specs.declared.OrderRead.{OrderRead}
-use Rattle.saved.specs.declared.OrderRead.the-variants.{Good, Bad}
 use Rattle.saved_lines.proofs.Exact.{read-only, bad-low}
 use Rattle.saved_lines.specs.Items.{Lines, good as goodLines, bad as badLine, readFrom, textFrom}
 use Rattle.saved_lines.specs.Tables.{nextOf}
 use Rattle.saved_lines.specs.declared.Table.the-variants.{Order as OrderTable}
+use Rattle.text.proofs.Tests.{by-test}
 use Rattle.text.specs.Puts.{roomOf}
 use Rattle.text_room.specs.Rooms.{keptIn}
 use borrow.Author.Tests.{eq-eqb, ne-eqb, le-leb}
 use lib.ListN.{length, take, drop, set, replicate, length-append, length-drop, length-set}
 use lib.Seq.{take-length, take-suc-set, set-split, drop-drop, drop-at, length-take-le}
+use mathlib.Core.Bool.{true, false, true≢false, false≢true}
 use mathlib.Core.List.{List, [], _∷_, _++_, append-nil, append-assoc}
 use mathlib.Core.Path.{_≡_, refl, sym, ap, _∙_}
 use native.Mathlib.Numerals.{add-one}
@@ -35,21 +36,20 @@ module _ (floor least : ℕ) (s : List ℕ) where
   lines = readFrom (nextOf OrderTable (above least (suc floor))) 18 [] s
 
   -- a good one, from any line on
-  pub record OneMore (o : Order) (count end : ℕ) : Type 0 where
+  pub record OneMore (r : OrderRead) : Type 0 where
     pub rest : List ℕ
-    pub read : (n : ℕ) → readOrder floor least n s ≡ good o (n + count) rest
-    pub few : count ≤ 18
-    pub small : o .number ≤ 9999999999
-    pub inside : end ≤ length s
-    pub from-there : drop end s ≡ rest
+    pub read : (n : ℕ) → readOrder floor least n s ≡ good (r .order) (n + r .lines) rest
+    pub few : r .lines ≤ 18
+    pub small : r .order .number ≤ 9999999999
+    pub inside : r .end ≤ length s
+    pub from-there : drop (r .end) s ≡ rest
 
-  pub one-more : (r : OrderRead) (o : Order) (count end : ℕ) → r ≡ orderReadOf (readOrder floor least 0 s) s → r ≡ Good o count end → OneMore o count end
+  pub one-more : (r : OrderRead) → r ≡ orderReadOf (readOrder floor least 0 s) s → r .good ≡ true → OneMore r
   unfolding readOrder readItem orderFrom
-  one-more r o count end e y = by-lines lines refl (sym y ∙ e)
+  one-more r e y = by-lines lines refl e
     where
-      by-lines : (l : Lines) → lines ≡ l → Good o count end ≡ orderReadOf (andThen (lined 0 l) (λ vs m rest. good (orderFrom vs) m rest)) s
-          → OneMore o count end
-      by-lines (badLine k) i e = let z : _≡_ {A = ℕ} 0 1 = cc in absurd (omega arith)
+      by-lines : (l : Lines) → lines ≡ l → r ≡ orderReadOf (andThen (lined 0 l) (λ vs m rest. good (orderFrom vs) m rest)) s → OneMore r
+      by-lines (badLine k) i e = absurd (false≢true (sym (ap (λ (x : OrderRead). x .good) e) ∙ y))
       by-lines (goodLines vs rest) i e =
           let next = nextOf OrderTable (above least (suc floor)) in
           let f = read-only next 18 [] vs s rest i in
@@ -58,17 +58,17 @@ module _ (floor least : ℕ) (s : List ℕ) where
           let ok = said-fits floor least vs (rw (f .all-are) (f .said)) in
           let q = ok .seven-lines in
           let seven : length vs ≡ 7 = ap length (q .are) in
-          let o-is : o ≡ orderFrom vs = cc in
-          let count-is : count ≡ 0 + length vs = cc in
-          let end-is : end ≡ length s - length rest = cc in
-          let number-is : o .number ≡ q .n = ap (λ (x : Order). x .number) o-is ∙ ap (λ (l : List ℕ). orderFrom l .number) (q .are) in
-          let here : end ≡ length (textFrom next [] vs) = omega (arith, end-is, len) in
+          let o-is : r .order ≡ orderFrom vs = ap (λ (x : OrderRead). x .order) e in
+          let lines-are : r .lines ≡ 0 + length vs = ap (λ (x : OrderRead). x .lines) e in
+          let end-is : r .end ≡ length s - length rest = ap (λ (x : OrderRead). x .end) e in
+          let number-is : r .order .number ≡ q .n = ap (λ (x : Order). x .number) o-is ∙ ap (λ (l : List ℕ). orderFrom l .number) (q .are) in
+          let here : r .end ≡ length (textFrom next [] vs) = omega (arith, end-is, len) in
           record {
             rest = rest;
             read = λ n.
-                let c : n + length vs ≡ n + count = omega (arith, count-is) in
+                let c : n + length vs ≡ n + r .lines = omega (arith, lines-are) in
                 rw (i, c, sym o-is);
-            few = omega (arith, count-is, seven);
+            few = omega (arith, lines-are, seven);
             small = omega (arith, number-is, q .number-to);
             inside = omega (arith, end-is);
             from-there =
@@ -77,22 +77,26 @@ module _ (floor least : ℕ) (s : List ℕ) where
           }
 
   -- a bad one
-  pub record NoMore (k : ℕ) : Type 0 where
-    pub read : (n : ℕ) → readOrder floor least n s ≡ bad (n + k)
-    pub few : k ≤ 18
+  pub record NoMore (r : OrderRead) : Type 0 where
+    pub read : (n : ℕ) → readOrder floor least n s ≡ bad (n + r .lines)
+    pub few : r .lines ≤ 18
 
-  pub no-more : (r : OrderRead) (k : ℕ) → r ≡ orderReadOf (readOrder floor least 0 s) s → r ≡ Bad k → NoMore k
+  pub no-more : (r : OrderRead) → r ≡ orderReadOf (readOrder floor least 0 s) s → r .good ≡ false → NoMore r
   unfolding readOrder readItem
-  no-more r k e y = by-lines lines refl (sym y ∙ e)
+  no-more r e y = by-lines lines refl e
     where
-      by-lines : (l : Lines) → lines ≡ l → Bad k ≡ orderReadOf (andThen (lined 0 l) (λ vs m rest. good (orderFrom vs) m rest)) s → NoMore k
-      by-lines (goodLines vs rest) i e = let z : _≡_ {A = ℕ} 0 1 = cc in absurd (omega arith)
+      by-lines : (l : Lines) → lines ≡ l → r ≡ orderReadOf (andThen (lined 0 l) (λ vs m rest. good (orderFrom vs) m rest)) s → NoMore r
+      by-lines (goodLines vs rest) i e = absurd (true≢false (sym (ap (λ (x : OrderRead). x .good) e) ∙ y))
       by-lines (badLine j) i e =
-          let c : k ≡ 0 + j = cc in
+          let c : r .lines ≡ 0 + j = ap (λ (x : OrderRead). x .lines) e in
           record {
-            read = λ n. let m : n + j ≡ n + k = omega (arith, c) in rw (i, m);
+            read = λ n. let m : n + j ≡ n + r .lines = omega (arith, c) in rw (i, m);
             few = omega (arith, c, bad-low (nextOf OrderTable (above least (suc floor))) 18 [] s j i);
           }
+
+  -- and either has few lines
+  lines-few : (r : OrderRead) → r ≡ orderReadOf (readOrder floor least 0 s) s → r .lines ≤ 18
+  lines-few r e = by-test (r .good) (λ y. one-more r e y .few) (λ y. no-more r e y .few)
 
 -- ---- the loop
 
@@ -146,16 +150,17 @@ module _ (h : Head) (s : List ℕ) where
       step : h .count - count ≡ suc (h .count - suc count)
       step = omega (arith, more)
 
-      pub stop-here : (k : ℕ) → r ≡ Bad k → readAs (readBelow h (drop (h .end) s)) ≡ unreadAt (line + k)
+      -- the line that follows
+      pub line-low : line + r .lines ≤ 2000
+      line-low = omega (arith, lines-few (h .floor) least rest r told, g .near, more, fits)
+
+      pub stop-here : r .good ≡ false → readAs (readBelow h (drop (h .end) s)) ≡ unreadAt (line + r .lines)
       unfolding readRest readOrders
-      stop-here k y =
-          let b = no-more (h .floor) least rest r k told y in
-          let is : readOrders (h .floor) (h .count) 0 (h .line) (drop (h .end) s) ≡ bad (line + k) =
+      stop-here y =
+          let b = no-more (h .floor) least rest r told y in
+          let is : readOrders (h .floor) (h .count) 0 (h .line) (drop (h .end) s) ≡ bad (line + r .lines) =
           here (suc (h .count - suc count)) step ∙ rw (b .read line) in
           rw is
-
-      pub stop-low : (k : ℕ) → r ≡ Bad k → line + k ≤ 2000
-      stop-low k y = omega (arith, no-more (h .floor) least rest r k told y .few, g .near, more, fits)
 
       zeros : drop (suc count) orders ≡ replicate (96 - suc count) emptyOrder
       zeros =
@@ -166,27 +171,27 @@ module _ (h : Head) (s : List ℕ) where
           ∙ ap (drop 1) (ap (drop count) (g .room) ∙ drop-at (take count orders) (replicate (96 - length (take count orders)) emptyOrder) count len)
           ∙ ap (λ (j : ℕ). drop 1 (replicate j emptyOrder)) k
 
-      pub go-on : (o : Order) (lines end : ℕ) → r ≡ Good o lines end
-          → (o .number ≤ 9999999999) × (line + lines ≤ 2000) × (end ≤ length rest)
-          × Reading h s (set orders count o) (count + 1) (o .number + 1) (line + lines) (take (length rest - end) (drop end rest))
+      pub go-on : r .good ≡ true
+          → (r .order .number ≤ 9999999999) × (r .end ≤ length rest)
+          × Reading h s (set orders count (r .order)) (count + 1) (r .order .number + 1) (line + r .lines) (take (length rest - r .end) (drop (r .end) rest))
       unfolding readOrders
-      go-on o lines end y =
-          let m = one-more (h .floor) least rest r o lines end told y in
+      go-on y =
+          let o = r .order in
+          let m = one-more (h .floor) least rest r told y in
           let inside : count < length orders = omega (arith, g .long, more, fits) in
           let one : take (count + 1) (set orders count o) ≡ take count orders ++ (o ∷ []) = rw (add-one count) (take-suc-set orders count o inside) in
           let j : h .count - (count + 1) ≡ h .count - suc count = omega arith in
           let len : length (take count orders ++ (o ∷ [])) ≡ suc count =
           omega (arith, length-append (take count orders) (o ∷ []), size (omega (arith, more, fits))) in
-          let whole : take (length rest - end) (drop end rest) ≡ m .rest =
-          ap (λ (k : ℕ). take k (drop end rest)) (sym (length-drop end rest)) ∙ take-length (drop end rest) ∙ m .from-there in
-          let others : Read (List Order) = readOrders (h .floor) (h .count - suc count) (suc (o .number)) (line + lines) (m .rest) in
+          let whole : take (length rest - r .end) (drop (r .end) rest) ≡ m .rest =
+          ap (λ (k : ℕ). take k (drop (r .end) rest)) (sym (length-drop (r .end) rest)) ∙ take-length (drop (r .end) rest) ∙ m .from-there in
+          let others : Read (List Order) = readOrders (h .floor) (h .count - suc count) (suc (o .number)) (line + r .lines) (m .rest) in
           let with-one : readOrders (h .floor) (suc (h .count - suc count)) least line rest ≡ andThen others (λ os l t. good (o ∷ os) l t) =
           rw (m .read line) in
           let next : before (take count orders) (readOrders (h .floor) (suc (h .count - suc count)) least line rest) ≡ before
           (take count orders ++ (o ∷ [])) others =
           ap (before (take count orders)) with-one ∙ before-cons (take count orders) o others in (
             m .small,
-            omega (arith, m .few, g .near, more, fits),
             m .inside,
             rw (whole, add-one (o .number)) (record {
               few = omega (arith, more);
@@ -197,7 +202,7 @@ module _ (h : Head) (s : List ℕ) where
                   ∙ ap (λ (l : List Order). take count orders ++ (o ∷ l)) zeros
                   ∙ sym (append-assoc (take count orders) (o ∷ []) (replicate (96 - suc count) emptyOrder)));
               near = omega (arith, m .few, g .near);
-              fits = omega (arith, g .fits, ap length (sym (m .from-there)), length-drop end rest);
+              fits = omega (arith, g .fits, ap length (sym (m .from-there)), length-drop (r .end) rest);
               rest-is = rw (one, j) (sym (here (suc (h .count - suc count)) step ∙ next));
             }),
           )

@@ -1,14 +1,16 @@
 -- The values of an order's lines as the code finds them, and the order that it makes of such values. Assumes nothing.
 use Prim.Native.Nat.{ℕ, zero, suc, _+_, _-_, _≤_, _<_}
-use Rattle.book_order.specs.Orders.{couldCome}
+use Rattle.book_order.specs.Orders.{isWhole, couldCome}
 use Rattle.book_order.specs.declared.Order.{Order}
 use Rattle.book_source.proofs.Bounds.{come-tells}
+use Rattle.book_stretch.specs.declared.Stretch.{Stretch}
 use Rattle.layout.proofs.Layout.{the-type}
 use Rattle.layout.specs.declared.Layout.{Layout}
 use Rattle.layout.specs.declared.Layout.the-variants.{Market, Mfrr, Revocation, Generic, Exclusion, Limitation, Secondary, VoltVar, Rejection, Reserve}
 use Rattle.saved.proofs.Amounts.{amount-raised}
-use Rattle.saved.proofs.Ordering.{kinds, struck-to}
-use Rattle.saved.specs.Orders.{kindIn, layoutFrom, raised, lowered, struckIn, valuesOf, orderFrom}
+use Rattle.saved.proofs.Ordering.{kinds}
+use Rattle.saved.proofs.Struck.{struck-to}
+use Rattle.saved.specs.Orders.{kindIn, layoutFrom, raised, lowered, struckIn, struckFrom, valuesOf, orderFrom}
 use Rattle.saved_lines.proofs.Going.{small-zeros}
 use Rattle.saved_lines.specs.Tables.{at}
 use Rattle.saved_lines.specs.Values.{zeroAmount, Small}
@@ -17,11 +19,11 @@ use Rattle.text.specs.Puts.{roomOf}
 use Rattle.value_bounds.specs.Bounds.{mostNumber, mostAmount, isAmount}
 use borrow.Author.Tests.{lt-ltb, le-ltb, leb-true, ltb-true}
 use denote.Enum.Declared.{tagOf}
-use lib.Dec.{eqb, leb}
+use lib.Dec.{leb}
 use lib.IntN.{ℤ, pos, negsuc, negℤ, natAbs}
 use lib.ListN.{length, take, replicate}
 use lib.Signed.{ltZ}
-use mathlib.Core.Bool.{true, false, true≢false}
+use mathlib.Core.Bool.{Bool, true, false, true≢false}
 use mathlib.Core.List.{List, [], _∷_, _++_}
 use mathlib.Core.Path.{_≡_, refl, ap, _∙_}
 use mir.Syntax.{w32}
@@ -119,8 +121,8 @@ module _ (o : Order) (come : couldCome o ≡ true) where
       let r = amount-raised (o .first) (b .first-amount) in
       let k = kinds (o .layout) (o .start) (o .end) (o .second) (b .fits) in
       let s = amount-raised (o .second) (k .second-amount) in
-      let last-three : EachSmall (raised (o .first) ∷ raised (o .second) ∷ struckIn (o .struck) ∷ []) =
-      (omega (arith, r .to), (omega (arith, s .to), (omega (arith, struck-to (o .struck)), tt))) in
+      let last-three : EachSmall (raised (o .first) ∷ raised (o .second) ∷ struckIn (isWhole o) ∷ []) =
+      (omega (arith, r .to), (omega (arith, s .to), (omega (arith, struck-to (isWhole o)), tt))) in
       rw e (small-room 18 (valuesOf o) (b .number-to, (omega (arith, k .kind-to), (omega (arith, b .start-to), (omega (arith, b .end-to), last-three)))))
 
 -- its seven lines are all that is put
@@ -130,14 +132,14 @@ seven-first o v e = rw e
 
 -- ---- the seven values in their room, and the order that they give
 
-pub values-are : (o : Order) → SFits w32 (o .first) → SFits w32 (o .second) → (k v w c : ℕ) → k ≡ kindIn (o .layout)
-    → v ≡ raised (toZ w32 (ofZ w32 (o .first))) → w ≡ raised (toZ w32 (ofZ w32 (o .second))) → c ≡ struckIn (o .struck)
+pub values-are : (o : Order) → SFits w32 (o .first) → SFits w32 (o .second) → (k v w c : ℕ) (t : Bool) → k ≡ kindIn (o .layout)
+    → v ≡ raised (toZ w32 (ofZ w32 (o .first))) → w ≡ raised (toZ w32 (ofZ w32 (o .second))) → t ≡ isWhole o → c ≡ struckIn t
     → o .number ∷ k ∷ o .start ∷ o .end ∷ v ∷ w ∷ c ∷ replicate 11 0 ≡ roomOf 18 (valuesOf o)
 unfolding roomOf valuesOf
-values-are o f g k v w c ke ve we ce = rw (ke, ve, we, ce, toZ-ofZ w32 (o .first) f, toZ-ofZ w32 (o .second) g)
+values-are o f g k v w c t ke ve we te ce = rw (ke, ve, we, ce, te, toZ-ofZ w32 (o .first) f, toZ-ofZ w32 (o .second) g)
 
 pub order-is : (vs : List ℕ) (v w : ℤ) → SFits w32 v → SFits w32 w → v ≡ lowered (at 4 vs) → w ≡ lowered (at 5 vs)
-    → (l : Layout) → l ≡ layoutFrom (at 1 vs)
+    → (l : Layout) → l ≡ layoutFrom (at 1 vs) → (c : List Stretch) → c ≡ struckFrom (at 6 vs) (at 2 vs) (at 3 vs)
     → record {
       number = at 0 vs;
       start = at 2 vs;
@@ -145,7 +147,7 @@ pub order-is : (vs : List ℕ) (v w : ℤ) → SFits w32 v → SFits w32 w → v
       first = toZ w32 (ofZ w32 v);
       second = toZ w32 (ofZ w32 w);
       layout = l;
-      struck = eqb (at 6 vs) 1;
+      struck = c;
     } ≡ orderFrom vs
 unfolding orderFrom
-order-is vs v w f g ve we l le = rw (toZ-ofZ w32 v f, toZ-ofZ w32 w g, ve, we, le)
+order-is vs v w f g ve we l le c ce = rw (toZ-ofZ w32 v f, toZ-ofZ w32 w g, ve, we, le, ce)

@@ -1,7 +1,10 @@
 -- An order as the values of its lines, and back. Document 02, A4: "`number`, `kind` (M or F), `start`, `end`, `var1`, `var2`, `struck` (0 or 1)";
 -- "Variations are in thousandths".
 use Prim.Native.Nat.{ℕ, zero, suc, _+_, _-_, _≤_}
+use Rattle.book_order.specs.Orders.{isWhole}
 use Rattle.book_order.specs.declared.Order.{Order}
+use Rattle.book_stretch.specs.Stretches.{stretch, inFour}
+use Rattle.book_stretch.specs.declared.Stretch.{Stretch}
 use Rattle.layout.specs.declared.Layout.{Layout}
 use Rattle.layout.specs.declared.Layout.the-variants.{Market, Mfrr, Revocation, Generic, Exclusion, Limitation, Secondary, VoltVar, Rejection, Reserve}
 use Rattle.saved_lines.specs.Tables.{at}
@@ -36,14 +39,19 @@ raised (negsuc n) = zeroAmount - suc n
 unfoldable pub lowered : ℕ → ℤ
 lowered v = cond (ltb v zeroAmount) (negℤ (pos (zeroAmount - v))) (pos (v - zeroAmount))
 
+-- 1 for an order that is struck as a whole. (An order that is struck in part has no text: 52)
 abbrev pub struckIn : Bool → ℕ
 struckIn true = 1
 struckIn false = 0
 
+-- and that is one stretch, from its start to its end
+abbrev pub struckFrom : ℕ → ℕ → ℕ → List Stretch
+struckFrom k start end = cond (eqb k 1) (inFour (stretch start end ∷ [])) (inFour [])
+
 -- the values of an order's lines
 unfoldable pub valuesOf : Order → List ℕ
 valuesOf o =
-    o .number ∷ kindIn (o .layout) ∷ o .start ∷ o .end ∷ raised (o .first) ∷ raised (o .second) ∷ struckIn (o .struck) ∷ []
+    o .number ∷ kindIn (o .layout) ∷ o .start ∷ o .end ∷ raised (o .first) ∷ raised (o .second) ∷ struckIn (isWhole o) ∷ []
 
 -- the order that has them
 unfoldable pub orderFrom : List ℕ → Order
@@ -55,7 +63,7 @@ orderFrom vs =
       end = at 3 vs;
       first = lowered (at 4 vs);
       second = lowered (at 5 vs);
-      struck = eqb (at 6 vs) 1;
+      struck = struckFrom (at 6 vs) (at 2 vs) (at 3 vs);
     }
 
 -- instants fit 32 bits, and amounts are

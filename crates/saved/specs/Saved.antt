@@ -1,24 +1,24 @@
 -- A saved book, read and written. Document 02, A4: "Save it as `key=value` lines in fixed order: `form=1`, `unit`, `floor`, `count`, then for each held
--- order, by ascending number, .."; "Refusals: 20, then 11 on saving; 50 with the first bad line on reading, which hands the all-zero book".
+-- order, by ascending number, .."; "Refusals: 20, then 11 on saving; 50 with the first bad line on reading, which hands the all-zero book"; A6: 52 after 20.
 use Prim.Native.Nat.{ℕ, zero, suc, _-_}
 use Rattle.book.specs.Answers.{outcome}
 use Rattle.book.specs.Places.{bookOf, shelf, zeroBook, formedBook}
 use Rattle.book.specs.declared.Book.{Book}
 use Rattle.book.specs.declared.Outcome.{Outcome}
 use Rattle.book_ledger.specs.Ledger.{Ledger}
+use Rattle.book_order.specs.Orders.{emptyOrder, isPartial}
 use Rattle.book_order.specs.declared.Order.{Order}
 use Rattle.saved.specs.Orders.{valuesOf, orderFrom}
 use Rattle.saved.specs.Reads.{Read, good, bad, andThen, ended, readItem, readUnit}
 use Rattle.saved.specs.declared.Head.{Head}
 use Rattle.saved.specs.declared.OrderRead.{OrderRead}
-use Rattle.saved.specs.declared.OrderRead.the-variants.{Good, Bad}
 use Rattle.saved.specs.declared.Saved.{Saved}
 use Rattle.saved.specs.declared.Saved.the-variants.{To, Refused}
 use Rattle.saved_lines.specs.Items.{textFrom}
 use Rattle.saved_lines.specs.Tables.{at, nextOf}
 use Rattle.saved_lines.specs.declared.Above.{Above}
 use Rattle.saved_lines.specs.declared.Table.the-variants.{Form, Head as HeadTable, Order as OrderTable}
-use Rattle.text.specs.Bytes.{bytes}
+use Rattle.text.specs.Bytes.{any, bytes}
 use Rattle.text.specs.Puts.{bufferOf}
 use Rattle.text.specs.Refusals.{Refusal, refusal, firstHolding}
 use Rattle.text.specs.Said.{Said, said}
@@ -26,7 +26,7 @@ use Rattle.text_keyline.specs.Keylines.{lineText}
 use Rattle.text_room.specs.Rooms.{keptIn}
 use lib.Dec.{ltb}
 use lib.ListN.{length, take, replicate}
-use mathlib.Core.Bool.{true, false, not, cond}
+use mathlib.Core.Bool.{Bool, true, false, not, _&&_, cond}
 use mathlib.Core.List.{List, [], _∷_, _++_}
 
 -- ---- reading
@@ -86,13 +86,12 @@ readOf s = readAs (readBook s)
 -- ---- what the functions answer for an order and for the lines above
 
 abbrev pub orderReadOf : Read Order → List ℕ → OrderRead
-orderReadOf (good o n rest) s = Good o n (length s - length rest)
-orderReadOf (bad n) s = Bad n
+orderReadOf (good o n rest) s = record { good = true; order = o; lines = n; end = length s - length rest }
+orderReadOf (bad n) s = record { good = false; order = emptyOrder; lines = n; end = 0 }
 
 -- what that answer says: how many lines the order has, where it ends and its values; or 50 with how many good lines stand above its first bad one
 abbrev pub ofOrderRead : OrderRead → Said
-ofOrderRead (Good o n end) = said 0 0 (n ∷ end ∷ valuesOf o)
-ofOrderRead (Bad n) = said 50 n []
+ofOrderRead x = cond (x .good) (said 0 0 (x .lines ∷ x .end ∷ valuesOf (x .order))) (said 50 (x .lines) [])
 
 abbrev pub badHead : ℕ → Head
 badHead n = record { good = false; size = 0; unit = replicate 16 0; floor = 0; count = 0; line = n; end = 0 }
@@ -136,10 +135,17 @@ headText unit floor count =
 unfoldable pub textOf : Ledger → List ℕ
 textOf l = headText (l .unit) (l .floor) (length (l .orders)) ++ ordersText (l .orders)
 
--- 20, the book is malformed; 11, there is no room, with the length needed
+-- an order is struck in part
+abbrev pub hasPartial : Book → Bool
+hasPartial b = any isPartial (shelf b .orders)
+
+-- 20, the book is malformed; 52, an order is struck in part (document 02, A6); 11, there is no room, with the length needed
 abbrev pub saveRefusals : Book → ℕ → List Refusal
 saveRefusals b room =
-    refusal 20 0 (not (formedBook b)) ∷ refusal 11 (length (textOf (shelf b))) (ltb room (length (textOf (shelf b)))) ∷ []
+    refusal 20 0 (not (formedBook b))
+    ∷ refusal 52 0 (hasPartial b)
+    ∷ refusal 11 (length (textOf (shelf b))) (ltb room (length (textOf (shelf b))))
+    ∷ []
 
 -- THE DEFINITION: what saving into so much room answers
 unfoldable pub saveOf : Book → ℕ → Saved
@@ -152,4 +158,4 @@ ofSaved (Refused n d) = said n d []
 
 -- the buffer after it: a refusal changes no byte
 unfoldable pub savedIn : Book → List ℕ → List ℕ
-savedIn b out = cond (formedBook b) (bufferOf out 0 (textOf (shelf b))) out
+savedIn b out = cond (formedBook b && not (hasPartial b)) (bufferOf out 0 (textOf (shelf b))) out

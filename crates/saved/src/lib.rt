@@ -12,14 +12,19 @@ use saved_lines::Table;
 use text::scan;
 use text_keyline::Named;
 ghost use Prim.Native.Nat.{_≤_};
+ghost use Rattle.book_order.specs.Orders.{isPartial};
 ghost use Rattle.saved.specs.Saved.{readOrder, readHead, readBelow, orderReadOf, badHead, headOf, readAs, unreadAt, readOf, saveOf, savedIn};
-ghost use lib.ListN.{length, drop};
+ghost use Rattle.text.specs.Bytes.{any};
+ghost use lib.ListN.{length, take, drop};
 ghost use mathlib.Core.Path.{_≡_};
 
-// One order at the front of a text: the order, how many lines it has and where it ends; or how many good lines stand above its first bad one.
-pub enum OrderRead {
-    Good(Order, usize, usize),
-    Bad(usize),
+// One order at the front of a text: the order, how many lines it has and where it ends; or that it is bad, with how many good lines stand above its first
+// bad one alone. (No enum can hold an order, since an order holds an array.)
+pub struct OrderRead {
+    pub good: bool,
+    pub order: Order,
+    pub lines: usize,
+    pub end: usize,
 }
 
 // What stands above the orders: the unit's code in its room, the floor, how many orders there are, the number of their first line and its place; or
@@ -53,10 +58,20 @@ pub fn read_order(s: &[u8], floor: u32, least: u64) -> OrderRead
         s,
     );
     if !item.good {
-        return OrderRead::Bad(item.lines);
+        return OrderRead {
+            good: false,
+            order: book_order::EMPTY,
+            lines: item.lines,
+            end: 0,
+        };
     }
     let v = item.values;
-    OrderRead::Good(orders::order_of(v), item.lines, item.end)
+    OrderRead {
+        good: true,
+        order: orders::order_of(v),
+        lines: item.lines,
+        end: item.end,
+    }
 }
 
 fn bad_head(line: usize) -> Head
@@ -126,19 +141,18 @@ fn read_below(h: Head, s: &[u8]) -> Outcome
     let end = h.end;
     let mut rest = &s[end..];
     while count < h.count {
-        match read_order(rest, h.floor, least) {
-            OrderRead::Bad(above) => {
-                return unread(line + above);
-            }
-            OrderRead::Good(o, lines, size) => {
-                orders[count] = o;
-                least = o.number + 1;
-                line += lines;
-                count += 1;
-                let below = &rest[size..];
-                rest = below;
-            }
+        let next = read_order(rest, h.floor, least);
+        line += next.lines;
+        if !next.good {
+            return unread(line);
         }
+        let o = next.order;
+        orders[count] = o;
+        least = o.number + 1;
+        count += 1;
+        let size = next.end;
+        let below = &rest[size..];
+        rest = below;
     }
     if rest.len() != 0 {
         return unread(line);
@@ -162,13 +176,33 @@ pub fn read(s: &[u8]) -> Outcome
     read_below(h, s)
 }
 
-// The text of a book, written where out begins. 20: the book is malformed. 11: there is no room, with the length needed. A refusal changes no byte.
+// Whether one of the first `count` orders is struck in part.
+fn any_partial(orders: [Order; 96], count: usize) -> bool
+    requires { ⌜ count ≤ 96 ⌝ }
+    ensures { λ r. ⌜ r ≡ any isPartial (take count orders) ⌝ }
+{
+    let mut i = 0;
+    while i < count {
+        if book_order::is_partial(orders[i]) {
+            return true;
+        }
+        i += 1;
+    }
+    false
+}
+
+// The text of a book, written where out begins. 20: the book is malformed. 52: an order is struck in part. 11: there is no room, with the length needed.
+// A refusal changes no byte.
 pub fn save(b: Book, out: &mut [u8]) -> Saved
     ensures { λ r. ⌜ (r ≡ saveOf b (length (now (out .entry)))) × (now (out .exit) ≡ savedIn b (now (out .entry))) ⌝ }
 {
     let Tally::Holds(count) = b.tally() else {
         return Saved::Refused(20, 0);
     };
+    let orders = b.orders;
+    if any_partial(orders, count) {
+        return Saved::Refused(52, 0);
+    }
     let size = puts::put_book(&mut out[0..0], b, count);
     if out.len() < size {
         return Saved::Refused(11, size);

@@ -1,10 +1,11 @@
 // An order as the values of its lines, and back.
 use book_order::Order;
+use book_stretch::Stretch;
 use layout::Layout;
 use saved_lines::ZERO_AMOUNT;
 ghost use Prim.Native.Nat.{_≤_};
 ghost use Rattle.book_order.specs.Orders.{couldCome};
-ghost use Rattle.saved.specs.Orders.{kindIn, layoutFrom, raised, lowered, struckIn, valuesOf, orderFrom, Instants};
+ghost use Rattle.saved.specs.Orders.{kindIn, layoutFrom, raised, lowered, struckIn, struckFrom, valuesOf, orderFrom, Instants};
 ghost use Rattle.text.specs.Puts.{roomOf};
 ghost use Rattle.value_bounds.specs.Bounds.{isAmount};
 ghost use mathlib.Core.Bool.{true};
@@ -71,8 +72,22 @@ pub fn values_of(o: Order) -> [u64; 18]
     v[3] = o.end as u64;
     v[4] = raised(o.first);
     v[5] = raised(o.second);
-    v[6] = struck_in(o.struck);
+    v[6] = struck_in(book_order::is_whole(o));
     v
+}
+
+// What is struck of an order: all of it, or nothing.
+fn struck_from(k: u64, start: u32, end: u32) -> [Stretch; 4]
+    ensures { λ r. ⌜ r ≡ struckFrom k start end ⌝ }
+{
+    let mut struck = [book_stretch::NONE; 4];
+    if k == 1 {
+        struck[0] = Stretch {
+            from: start,
+            to: end,
+        };
+    }
+    struck
 }
 
 // The order that these are the values of.
@@ -87,6 +102,6 @@ pub fn order_of(v: [u64; 18]) -> Order
         first: lowered(v[4]),
         second: lowered(v[5]),
         layout: layout_of(v[1]),
-        struck: v[6] == 1,
+        struck: struck_from(v[6], v[2] as u32, v[3] as u32),
     }
 }

@@ -1,6 +1,7 @@
--- What was saved is read back, and only that: of any ledger that fits. Assumes nothing.
+-- What was saved is read back, and only that: of any ledger that fits, in which no order is struck in part. Assumes nothing.
 use Prim.Native.Nat.{ℕ, zero, suc, _+_, _-_, _*_, _≤_}
 use Rattle.book_ledger.specs.Ledger.{Ledger}
+use Rattle.book_order.specs.Orders.{isPartial}
 use Rattle.book_order.specs.declared.Order.{Order}
 use Rattle.book_places.proofs.Leading.{fits-facts}
 use Rattle.book_places.specs.Places.{fitsAfter}
@@ -17,7 +18,8 @@ use Rattle.saved_lines.specs.Tables.{at, nextOf}
 use Rattle.saved_lines.specs.declared.Above.{Above}
 use Rattle.saved_lines.specs.declared.Table.{Table}
 use Rattle.saved_lines.specs.declared.Table.the-variants.{Form, Head as HeadTable, Order as OrderTable}
-use Rattle.text.specs.Bytes.{bytes}
+use Rattle.text.proofs.Tests.{or-parts}
+use Rattle.text.specs.Bytes.{any, bytes}
 use Rattle.text.specs.Said.{said}
 use Rattle.text_keyline.proofs.Lines.{unit-back, unit-own}
 use Rattle.text_keyline.specs.Keylines.{below, lineText, unitAt}
@@ -84,30 +86,43 @@ seven-long : (o : Order) → length (valuesOf o) ≡ 7
 unfolding valuesOf
 seven-long o = refl
 
+-- what is read is the order of its values
 order-read : (floor least n : ℕ) (o : Order) (rest : List ℕ) → fitsAfter floor least o ≡ true
-    → readOrder floor least n (orderText o ++ rest) ≡ good o (n + 7) rest
+    → readOrder floor least n (orderText o ++ rest) ≡ good (orderFrom (valuesOf o)) (n + 7) rest
 unfolding readOrder
 order-read floor least n o rest e =
     let fits = fits-said floor least o e in
     let line : n + length (valuesOf o) ≡ n + 7 = ap (λ (k : ℕ). n + k) (seven-long o) in
     let read = item-back OrderTable (above least (suc floor)) n (valuesOf o) rest fits (omega (arith, seven-long o)) in
-    rw (read, line, order-back o (fits-facts floor least o e .2))
+    rw (read, line)
 
 -- THE THEOREM: one order by itself is read from its text, whatever follows
 pub one-order : (floor least : ℕ) (o : Order) (rest : List ℕ) → fitsAfter floor least o ≡ true
     → ofOrderRead (orderReadOf (readOrder floor least 0 (orderText o ++ rest)) (orderText o ++ rest)) ≡ said 0 0 (7 ∷ length (orderText o) ∷ valuesOf o)
 one-order floor least o rest e =
     let size : length (orderText o ++ rest) - length rest ≡ length (orderText o) = omega (arith, length-append (orderText o) rest) in
-    rw (order-read floor least 0 o rest e) (ap (λ (k : ℕ). said 0 0 (7 ∷ k ∷ valuesOf o)) size)
+    let own = said-fits floor least (valuesOf o) (fits-said floor least o e) in
+    rw (order-read floor least 0 o rest e, own .values-back) (ap (λ (k : ℕ). said 0 0 (7 ∷ k ∷ valuesOf o)) size)
 
-orders-back : (floor least n : ℕ) (l : List Order) (rest : List ℕ) → Fitted floor least l
+-- and that is the order, unless it is struck in part
+order-same : (floor least : ℕ) (o : Order) → fitsAfter floor least o ≡ true → isPartial o ≡ false → orderFrom (valuesOf o) ≡ o
+order-same floor least o e w = let f = fits-facts floor least o e in order-back o (f .2) (f .3) w
+
+orders-back : (floor least n : ℕ) (l : List Order) (rest : List ℕ) → Fitted floor least l → any isPartial l ≡ false
     → readOrders floor (length l) least n (ordersText l ++ rest) ≡ good l (n + 7 * length l) rest
-unfolding readOrders
-orders-back floor least n [] rest g = let z : n ≡ n + 7 * 0 = omega arith in rw (sym z)
-orders-back floor least n (o ∷ l) rest g =
+unfolding readOrders any
+orders-back floor least n [] rest g w = let z : n ≡ n + 7 * 0 = omega arith in rw (sym z)
+orders-back floor least n (o ∷ l) rest g w =
+    let p = or-parts (isPartial o) (any isPartial l) w in
     let seam : (orderText o ++ ordersText l) ++ rest ≡ orderText o ++ (ordersText l ++ rest) = append-assoc (orderText o) (ordersText l) rest in
     let line : n + 7 + 7 * length l ≡ n + 7 * suc (length l) = omega arith in
-    rw (seam, order-read floor least n o (ordersText l ++ rest) (g .0), orders-back floor (suc (o .number)) (n + 7) l rest (g .1), line)
+    rw (
+      seam,
+      order-read floor least n o (ordersText l ++ rest) (g .0),
+      order-same floor least o (g .0) (p .0),
+      orders-back floor (suc (o .number)) (n + 7) l rest (g .1) (p .1),
+      line,
+    )
 
 pub record OrdersOwn (floor least k n : ℕ) (s : List ℕ) (l : List Order) (rest : List ℕ) : Type 0 where
   pub fitted : Fitted floor least l
@@ -232,13 +247,14 @@ head-own s h m rest e =
 
 -- ---- the book
 
--- THE LAW: a ledger that fits is read from its text
-pub text-read : (l : Ledger) → Fits l → l .floor ≤ 4294967295 → readBook (textOf l) ≡ good l (5 + 7 * length (l .orders)) []
+-- THE LAW: a ledger that fits is read from its text, unless an order is struck in part
+pub text-read : (l : Ledger) → Fits l → l .floor ≤ 4294967295 → any isPartial (l .orders) ≡ false
+    → readBook (textOf l) ≡ good l (5 + 7 * length (l .orders)) []
 unfolding readBook readRest textOf
-text-read l g f =
+text-read l g f w =
     let orders : readOrders (l .floor) (length (l .orders)) 0 5 (ordersText (l .orders)) ≡ good (l .orders) (5 + 7 * length (l .orders)) [] =
     ap (readOrders (l .floor) (length (l .orders)) 0 5) (sym (append-nil (ordersText (l .orders))))
-    ∙ orders-back (l .floor) 0 5 (l .orders) [] (g .orders-fit) in
+    ∙ orders-back (l .floor) 0 5 (l .orders) [] (g .orders-fit) w in
     rw (head-back (l .unit) (l .floor) (length (l .orders)) (ordersText (l .orders)) (g .unit-good) f (g .room), orders)
 
 pub record BookOwn (s : List ℕ) (l : Ledger) : Type 0 where

@@ -4,7 +4,7 @@ use Rattle.book.specs.Places.{shelf, zeroBook, formedBook}
 use Rattle.book.specs.declared.Book.{Book}
 use Rattle.book_ledger.specs.Ledger.{Ledger}
 use Rattle.saved.specs.Reads.{Read, good, bad, andThen, ended, lined, readItem, unitRead, readUnit}
-use Rattle.saved.specs.Saved.{above, nothing, readOrder, readOrders, readHead, readRest, readBook, readAs, readOf, textOf, saveOf, savedIn}
+use Rattle.saved.specs.Saved.{above, nothing, readOrder, readOrders, readHead, readRest, readBook, readAs, readOf, textOf, hasPartial, saveOf, savedIn}
 use Rattle.saved.specs.declared.Saved.the-variants.{To, Refused}
 use Rattle.saved_lines.specs.Items.{Lines, good as goodLines, bad as badLine, readFrom}
 use Rattle.saved_lines.specs.Tables.{nextOf}
@@ -16,7 +16,7 @@ use Rattle.text_keyline.specs.Keylines.{below, unitAt}
 use borrow.Author.Tests.{ltb-true, lt-leb}
 use lib.Dec.{eqb, leb, ltb}
 use lib.ListN.{length, take, drop}
-use mathlib.Core.Bool.{Bool, true, false, not, cond}
+use mathlib.Core.Bool.{Bool, true, false, not, _&&_, cond}
 use mathlib.Core.List.{List, [], _++_}
 use mathlib.Core.Option.{Option, none, some}
 use mathlib.Core.Path.{_≡_, refl, sym, _∙_}
@@ -96,19 +96,21 @@ refused s n = by-read (readBook s) (book-from s) n
     by-read (bad m) f n = (refl, f, refl)
 
 -- THE THEOREM: a refused save changes no byte
-no-byte : (size room n d : ℕ) (written out : List ℕ) (f : Bool) (fits small : Bool) → leb (0 + size) room ≡ fits → ltb room size ≡ small
-    → cond (not f) (Refused 20 0) (cond small (Refused 11 size) (To size)) ≡ Refused n d → cond f (cond fits written out) out ≡ out
-no-byte size room n d written out false fits small i j e = refl
-no-byte size room n d written out true false small i j e = refl
-no-byte size room n d written out true true true i j e =
+no-byte : (size room n d : ℕ) (written out : List ℕ) (f partial fits small : Bool) → leb (0 + size) room ≡ fits → ltb room size ≡ small
+    → cond (not f) (Refused 20 0) (cond partial (Refused 52 0) (cond small (Refused 11 size) (To size))) ≡ Refused n d
+    → cond (f && not partial) (cond fits written out) out ≡ out
+no-byte size room n d written out false partial fits small i j e = refl
+no-byte size room n d written out true true fits small i j e = refl
+no-byte size room n d written out true false false small i j e = refl
+no-byte size room n d written out true false true true i j e =
     let z : true ≡ false = sym i ∙ lt-leb (0 + size) room (omega (arith, ltb-true room size j)) in
     let w : _≡_ {A = ℕ} 0 1 = cc in
     absurd (omega arith)
-no-byte size room n d written out true true false i j e = let w : _≡_ {A = ℕ} 0 1 = cc in absurd (omega arith)
+no-byte size room n d written out true false true false i j e = let w : _≡_ {A = ℕ} 0 1 = cc in absurd (omega arith)
 
 pub refused-save : (b : Book) (out : List ℕ) (n d : ℕ) → saveOf b (length out) ≡ Refused n d → savedIn b out ≡ out
 unfolding saveOf savedIn bufferOf
 refused-save b out n d e =
     let t = textOf (shelf b) in
-    no-byte (length t) (length out) n d (take 0 out ++ t ++ drop (0 + length t) out) out (formedBook b) (leb (0 + length t) (length out))
+    no-byte (length t) (length out) n d (take 0 out ++ t ++ drop (0 + length t) out) out (formedBook b) (hasPartial b) (leb (0 + length t) (length out))
     (ltb (length out) (length t)) refl refl e

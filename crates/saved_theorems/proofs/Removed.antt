@@ -103,6 +103,7 @@ module _ (unit : List ℕ) (good : isUnit unit ≡ true) (before between later :
         was-taken = ap (callNumber (command c)) (sym (from-start .run-is)) ∙ r .was-taken;
         was-revoked = ap (callNumber (revoke v)) (sym met-same) ∙ r .was-revoked;
         by-name = r .by-name;
+        covers-whole = r .covers-whole;
         unnamed-between = calls-unnamed unit _ between (r .unnamed-between);
         unnamed-after = calls-unnamed unit _ later (r .unnamed-after);
         room-between = no-place between taken taken-by from-taken taken-same (r .room-between);

@@ -14,7 +14,7 @@ use Rattle.book_theorems.proofs.Lift.{formed, shelved, sized, formed-fits}
 use Rattle.book_theorems.proofs.Theorems.{fresh-carries}
 use Rattle.book_theorems.specs.Books.{books, bookFor}
 use Rattle.saved.specs.Reads.{Read, good, bad}
-use Rattle.saved.specs.Saved.{readBook, readAs, readOf, textOf, saveOf, savedIn}
+use Rattle.saved.specs.Saved.{readBook, readAs, readOf, textOf, hasPartial, saveOf, savedIn}
 use Rattle.saved.specs.declared.Saved.{Saved}
 use Rattle.saved.specs.declared.Saved.the-variants.{To, Refused}
 use Rattle.saved_theorems.proofs.Exact.{text-read, text-only}
@@ -35,32 +35,37 @@ use native.Mathlib.Omega.{arith}
 
 -- ---- one save
 
--- a save that was taken: the book is well formed, there was room, and the buffer begins with the text
+-- a save that was taken: the book is well formed, no order is struck in part, there was room, and the buffer begins with the text
 pub record Taken (b : Book) (out : List ℕ) (n : ℕ) : Type 0 where
   pub well : formedBook b ≡ true
+  pub not-partial : hasPartial b ≡ false
   pub length-is : n ≡ length (textOf (shelf b))
   pub front : take n (savedIn b out) ≡ textOf (shelf b)
   pub rest-stays : drop n (savedIn b out) ≡ drop n out
 
 -- the buffer, where there is room
-saved-bytes : (b : Book) (out : List ℕ) → formedBook b ≡ true → length (textOf (shelf b)) ≤ length out
+saved-bytes : (b : Book) (out : List ℕ) → formedBook b ≡ true → hasPartial b ≡ false → length (textOf (shelf b)) ≤ length out
     → savedIn b out ≡ textOf (shelf b) ++ drop (length (textOf (shelf b))) out
 unfolding savedIn bufferOf
-saved-bytes b out i h =
+saved-bytes b out i w h =
     let t = textOf (shelf b) in
     let z : 0 + length t ≡ length t = omega arith in
-    rw (i, le-leb (0 + length t) (length out) (omega (arith, h))) (ap (λ (k : ℕ). t ++ drop k out) z)
+    rw (i, w, le-leb (0 + length t) (length out) (omega (arith, h))) (ap (λ (k : ℕ). t ++ drop k out) z)
 
-by-formed : (b : Book) (out : List ℕ) (n : ℕ) (f : Bool) → formedBook b ≡ f → (small : Bool) → ltb (length out) (length (textOf (shelf b))) ≡ small
-    → cond (not f) (Refused 20 0) (cond small (Refused 11 (length (textOf (shelf b)))) (To (length (textOf (shelf b))))) ≡ To n → Taken b out n
-by-formed b out n false i small j e = let z : _≡_ {A = ℕ} 0 1 = cc in absurd (omega arith)
-by-formed b out n true i true j e = let z : _≡_ {A = ℕ} 0 1 = cc in absurd (omega arith)
-by-formed b out n true i false j e =
+by-formed : (b : Book) (out : List ℕ) (n : ℕ) (f : Bool) → formedBook b ≡ f → (partial : Bool) → hasPartial b ≡ partial
+    → (small : Bool) → ltb (length out) (length (textOf (shelf b))) ≡ small
+    → cond (not f) (Refused 20 0) (cond partial (Refused 52 0) (cond small (Refused 11 (length (textOf (shelf b)))) (To (length (textOf (shelf b))))))
+    ≡ To n → Taken b out n
+by-formed b out n false i partial w small j e = let z : _≡_ {A = ℕ} 0 1 = cc in absurd (omega arith)
+by-formed b out n true i true w small j e = let z : _≡_ {A = ℕ} 0 1 = cc in absurd (omega arith)
+by-formed b out n true i false w true j e = let z : _≡_ {A = ℕ} 0 1 = cc in absurd (omega arith)
+by-formed b out n true i false w false j e =
     let t = textOf (shelf b) in
     let q : n ≡ length t = cc in
-    let bytes = saved-bytes b out i (ltb-false (length out) (length t) j) in
+    let bytes = saved-bytes b out i w (ltb-false (length out) (length t) j) in
     record {
       well = i;
+      not-partial = w;
       length-is = q;
       front = rw (q, bytes) (take-append-seam t (drop (length t) out));
       rest-stays = rw (q, bytes) (drop-append-seam t (drop (length t) out));
@@ -68,7 +73,7 @@ by-formed b out n true i false j e =
 
 pub save-taken : (b : Book) (out : List ℕ) (n : ℕ) → saveOf b (length out) ≡ To n → Taken b out n
 unfolding saveOf
-save-taken b out n e = by-formed b out n (formedBook b) refl (ltb (length out) (length (textOf (shelf b)))) refl e
+save-taken b out n e = by-formed b out n (formedBook b) refl (hasPartial b) refl (ltb (length out) (length (textOf (shelf b)))) refl e
 
 shelf-floor : (b : Book) → b .floor ≤ 4294967295 → shelf b .floor ≤ 4294967295
 unfolding shelf
@@ -80,7 +85,8 @@ unfolding readOf
 read-back b out n z e =
     let t = save-taken b out n e in
     let fits = formed-fits b (z .long) (t .well) in
-    rw (t .front, text-read (shelf b) fits (shelf-floor b (z .floor-fits))) (ap (outcome 0) (sym (shelf-book b (z .long) (z .wide) (t .well))))
+    rw (t .front, text-read (shelf b) fits (shelf-floor b (z .floor-fits)) (t .not-partial))
+    (ap (outcome 0) (sym (shelf-book b (z .long) (z .wide) (t .well))))
 
 -- THE THEOREM: what is read as a book is that book's text
 pub one-text : (s : List ℕ) (b : Book) → readOf s ≡ outcome 0 b → (formedBook b ≡ true) × (s ≡ textOf (shelf b))

@@ -2,6 +2,7 @@
 //! numbers and instants, so that the sums are the same. Like a host it keeps the book that a call hands back; only a
 //! command that is taken and a revocation meet the same book again.
 
+use halimpung_reference::stretches::Struck;
 use halimpung_reference::{read, Body, Book, Order, Record, Refusal};
 
 /// The calls of one kind: kind, rounds, orders held, plan, the command's file at 7, 300 and the revocation's at 7, 301.
@@ -42,8 +43,9 @@ fn number(answer: Result<(), Refusal>) -> u32 {
     answer.map_or_else(|refusal| refusal.number, |()| 0)
 }
 
+/// The revocation's time is the command's, so an order is struck whole or not at all.
 fn said(answer: Result<(), Refusal>, order: &Order) -> u32 {
-    number(answer) + if order.struck { 1 } else { wrapped(order.number) }
+    number(answer) + if order.struck == Struck::NOTHING { wrapped(order.number) } else { 1 }
 }
 
 fn ask(mut book: Book, rounds: u32) -> u32 {

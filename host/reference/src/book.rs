@@ -6,6 +6,7 @@
 //! comes from outside.
 
 use crate::record::{Body, Record};
+use crate::stretches::{Stretch, Struck};
 use crate::valid;
 use crate::values::{self, Unit, MOST_SEQUENCE};
 use crate::Refusal;
@@ -32,12 +33,29 @@ pub struct Order {
     pub end: u32,
     /// mFRR: its one, then 0.
     pub variations: [i32; 2],
-    pub struck: bool,
+    /// The parts of its time that were revoked.
+    pub struck: Struck,
 }
 
 impl Order {
-    pub const EMPTY: Order =
-        Order { number: 0, layout: CommandLayout::Market, start: 0, end: 0, variations: [0; 2], struck: false };
+    pub const EMPTY: Order = Order {
+        number: 0,
+        layout: CommandLayout::Market,
+        start: 0,
+        end: 0,
+        variations: [0; 2],
+        struck: Struck::NOTHING,
+    };
+
+    /// All of its time.
+    pub fn whole(&self) -> Stretch {
+        Stretch { from: self.start, to: self.end }
+    }
+
+    /// In its time and outside of every struck stretch.
+    fn is_in_force(&self, t: u32) -> bool {
+        self.whole().has(t) && !self.struck.has(t)
+    }
 
     /// Number, layout, instants and variations are what some valid CB record
     /// gives. Every instant of the range is some valid date's; mFRR has two ramps
@@ -82,7 +100,7 @@ impl Book {
         (self, answer)
     }
 
-    /// Strikes the order that an RC record names.
+    /// Strikes the order that an RC record names, from the revocation's start to its end.
     pub fn revoke(mut self, record: &Record) -> (Book, Result<(), Refusal>) {
         let answer = self.strike(record);
         (self, answer)
@@ -118,11 +136,12 @@ impl Book {
         Ok(())
     }
 
-    /// [`Book::revoke`] in place. Only the sequence counts: the revocation's own
-    /// number and dates say nothing about the order (it is struck whole).
+    /// [`Book::revoke`] in place. The sequence names the order, not the revocation's own
+    /// number. A stretch that sticks out of the order is refused, not cut; the floor is
+    /// not asked.
     pub fn strike(&mut self, record: &Record) -> Result<(), Refusal> {
         let held = self.judge(record)?;
-        let Body::Revocation { sequence, .. } = record.body else {
+        let Body::Revocation { span, sequence } = record.body else {
             return Err(Refusal::plain(29));
         };
         self.same_unit(record)?;
@@ -130,10 +149,14 @@ impl Book {
             .binary_search_by_key(&sequence, |order| order.number)
             .map_err(|_| Refusal::plain(25))?;
         let order = &mut self.orders[place];
-        if order.struck {
+        let stretch = Stretch { from: span.start.instant(), to: span.end.instant() };
+        if !stretch.lies_in(&order.whole()) {
+            return Err(Refusal::plain(31));
+        }
+        if order.struck.covers(&stretch) {
             return Err(Refusal::plain(26));
         }
-        order.struck = true;
+        order.struck = order.struck.with(stretch).ok_or(Refusal::plain(32))?;
         Ok(())
     }
 
@@ -163,8 +186,7 @@ impl Book {
             return Err(Refusal::plain(28));
         }
         // Numbers ascend, so the last that fits is the greatest.
-        let fits = |order: &&Order| !order.struck && order.start <= t && t < order.end;
-        Ok(self.orders[..held].iter().rev().find(fits).map(|order| order.number))
+        Ok(self.orders[..held].iter().rev().find(|order| order.is_in_force(t)).map(|order| order.number))
     }
 
     /// The first two refusals of a command or revocation; gives the count of held orders.
@@ -195,6 +217,7 @@ impl Book {
                 break;
             }
             well &= order.is_possible() & (order.end > self.floor) & (order.number >= least);
+            well &= order.struck.are_well_in(&order.whole());
             least = order.number.saturating_add(1);
             held += 1;
         }
@@ -221,6 +244,6 @@ fn order_of(record: &Record) -> Option<Order> {
         start: start.instant(),
         end: end?.instant(),
         variations,
-        struck: false,
+        struck: Struck::NOTHING,
     })
 }

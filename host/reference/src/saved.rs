@@ -1,19 +1,21 @@
 //! A book as text, over a restart (document 02, A4): `key=value` lines in fixed
 //! order, each ended by LF. A line is judged with those above it, and the first bad
-//! one is told.
+//! one is told. Form 1 says of an order only whether it is struck, all of it or none,
+//! so a book with an order that is struck in part has no text (A6).
 
 use crate::book::{Book, CommandLayout, Order, FIRST_INSTANT, LAST_INSTANT, PLACES};
+use crate::stretches::{Stretch, Struck};
 use crate::values::{self, MOST_SEQUENCE};
 use crate::{keyed, Refusal};
 use std::io::Write;
 
 const MOST_AMOUNT: u64 = 999_999_999;
 
-/// Writes the book's text where `out` begins, and gives its length. 20, then 11
-/// with the length needed; a refusal changes no byte.
+/// Writes the book's text where `out` begins, and gives its length. 20, then 52 where
+/// an order is struck in part, then 11 with the length needed; a refusal changes no byte.
 pub fn save(book: &Book, out: &mut [u8]) -> Result<usize, Refusal> {
     let held = book.held()?;
-    let text = text_of(book, held);
+    let text = text_of(book, held).ok_or(Refusal::plain(52))?;
     match out.get_mut(..text.len()) {
         Some(room) => room.copy_from_slice(&text),
         None => return Err(Refusal::new(11, text.len() as u32)),
@@ -30,7 +32,8 @@ pub fn load(text: &[u8]) -> (Book, Result<(), Refusal>) {
     }
 }
 
-fn text_of(book: &Book, held: usize) -> Vec<u8> {
+/// None where an order is struck in part.
+fn text_of(book: &Book, held: usize) -> Option<Vec<u8>> {
     let mut text = Vec::new();
     put(&mut text, "form", &1);
     put(&mut text, "unit", &String::from_utf8_lossy(book.unit.get()));
@@ -43,9 +46,19 @@ fn text_of(book: &Book, held: usize) -> Vec<u8> {
         put(&mut text, "end", &order.end);
         put(&mut text, "var1", &order.variations[0]);
         put(&mut text, "var2", &order.variations[1]);
-        put(&mut text, "struck", &u8::from(order.struck));
+        put(&mut text, "struck", &all_or_none(order)?);
     }
-    text
+    Some(text)
+}
+
+/// 1 where all of the order is struck, 0 where nothing is. Stretches that meet are one,
+/// so an order that several revocations strike whole has one stretch too.
+fn all_or_none(order: &Order) -> Option<u8> {
+    match order.struck {
+        Struck::NOTHING => Some(0),
+        struck if struck == Struck::only(order.whole()) => Some(1),
+        _ => None,
+    }
 }
 
 fn put(text: &mut Vec<u8>, key: &str, value: &dyn std::fmt::Display) {
@@ -92,8 +105,12 @@ impl<'a> Lines<'a> {
         let end = self.whole(b"end=", (floor + 1).max(start + apart), last)?;
         let first = self.amount(b"var1=")?;
         let second = self.amount(b"var2=").filter(|&second| layout == CommandLayout::Market || second == 0)?;
-        let struck = self.whole(b"struck=", 0, 1)? == 1;
-        Some(Order { number, layout, start: start as u32, end: end as u32, variations: [first, second], struck })
+        let (start, end) = (start as u32, end as u32);
+        let struck = match self.whole(b"struck=", 0, 1)? {
+            0 => Struck::NOTHING,
+            _ => Struck::only(Stretch { from: start, to: end }),
+        };
+        Some(Order { number, layout, start, end, variations: [first, second], struck })
     }
 
     /// The value of the next line, if it has this key and its LF.

@@ -32,6 +32,9 @@ fn none() {
     let accented: Vec<u8> = bytes(&SAMPLES[QR].1.replace("Quantita", "Quantità"));
     let mut out = [0; 8192];
     let (mut book, _) = Book::fresh(b"UP_PROVA_1");
+    let mut revoked = read_as(MARKET, SAMPLES[MARKET].1).unwrap();
+    revoked.number = 17; // which the revocation names
+    book.hold(&revoked).unwrap();
     let before = COUNT.load(Ordering::Relaxed);
     for (plan, (_, file)) in plans.iter().zip(SAMPLES) {
         let (plan, file) = (plan.as_bytes(), file.as_bytes());
@@ -44,5 +47,6 @@ fn none() {
     }
     assert!(normalise_entry(7, 300, plans[QR].as_bytes(), &accented, &mut out) < 65_536);
     assert!(normalise_entry(7, 300, plans[VQ].as_bytes(), &accented, &mut out) >> 16 == 3);
+    assert_ne!(book.orders[0].struck, stretches::Struck::NOTHING);
     assert_eq!(COUNT.load(Ordering::Relaxed), before);
 }

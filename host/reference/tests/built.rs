@@ -6,6 +6,7 @@ use common::*;
 use halimpung_reference::book::{CommandLayout, Order};
 use halimpung_reference::lists::Profile;
 use halimpung_reference::record::*;
+use halimpung_reference::stretches::{Stretch, Struck};
 use halimpung_reference::*;
 
 fn is_refused(record: Record) {
@@ -134,17 +135,22 @@ fn held() -> Book {
     book
 }
 
+fn is_malformed(book: Book) {
+    let bad = Refusal::plain(20);
+    assert_eq!(book.command(&sample(MARKET)), (book, Err(bad)));
+    assert_eq!(book.revoke(&sample(RC)), (book, Err(bad)));
+    assert_eq!(book.close(5), (book, Err(bad)));
+    assert_eq!(book.in_force(5), (book, Err(bad)));
+    assert_eq!(saved::save(&book, &mut []), Err(bad));
+}
+
 #[test]
 fn malformed_books() {
     let spoilt = |spoil: fn(&mut Book)| {
         let mut book = held();
         assert!(book.in_force(0).1.is_ok());
         spoil(&mut book);
-        let bad = Refusal::plain(20);
-        assert_eq!(book.command(&sample(MARKET)), (book, Err(bad)));
-        assert_eq!(book.revoke(&sample(RC)), (book, Err(bad)));
-        assert_eq!(book.close(5), (book, Err(bad)));
-        assert_eq!(book.in_force(5), (book, Err(bad)));
+        is_malformed(book);
     };
     spoilt(|book| *book = Book::ZERO);
     spoilt(|book| *book = Book::fresh(b"A-B").0);
@@ -156,7 +162,8 @@ fn malformed_books() {
     spoilt(|book| book.orders.swap(3, 4));
     spoilt(|book| book.orders[1] = Order::EMPTY);
     spoilt(|book| book.orders[50].number = 1);
-    spoilt(|book| book.orders[50].struck = true);
+    spoilt(|book| book.orders[50].struck = Struck::only(book.orders[0].whole()));
+    spoilt(|book| book.orders[50].struck.0[3].from = 1);
     spoilt(|book| book.orders[50].layout = CommandLayout::Mfrr);
     spoilt(|book| book.floor = book.orders[0].end);
     spoilt(|book| book.orders[0].start = book.orders[0].end);
@@ -171,6 +178,43 @@ fn malformed_books() {
     book.orders[0].start = 31_615_200;
     book.orders[0].end = 3_155_756_399;
     assert!(book.in_force(0).1.is_ok());
+}
+
+/// A6: stretches that no revocations leave, of the first order; in seconds after its start.
+#[test]
+fn malformed_stretches() {
+    let struck = |pairs: &[(u32, u32)]| {
+        let mut book = held();
+        let order = &mut book.orders[0];
+        assert_eq!(order.end - order.start, 1_800);
+        for (place, &(from, to)) in order.struck.0.iter_mut().zip(pairs) {
+            *place = Stretch { from: order.start + from, to: order.start + to };
+        }
+        book
+    };
+    for good in [&[(0, 1_800)][..], &[(0, 1), (2, 3), (4, 5), (6, 1_800)], &[(10, 20), (21, 30)]] {
+        assert!(struck(good).in_force(0).1.is_ok(), "{good:?}");
+    }
+    is_malformed(struck(&[(10, 10)]));
+    is_malformed(struck(&[(20, 10)]));
+    is_malformed(struck(&[(10, 1_801)]));
+    is_malformed(struck(&[(30, 40), (10, 20)]));
+    is_malformed(struck(&[(10, 20), (15, 30)]));
+    is_malformed(struck(&[(10, 20), (20, 30)])); // touching ones are one
+    is_malformed(struck(&[(10, 20), (10, 20)]));
+    let spoilt = |spoil: fn(&mut Order)| {
+        let mut book = struck(&[(10, 20), (30, 40)]);
+        spoil(&mut book.orders[0]);
+        is_malformed(book);
+    };
+    spoilt(|order| order.struck.0[0].from = order.start - 1);
+    spoilt(|order| order.struck.0[0] = Stretch::UNUSED); // the first places are filled
+    spoilt(|order| order.struck.0[3] = Stretch { from: order.start + 50, to: order.start + 60 });
+    spoilt(|order| order.struck.0[2].from = 1);
+    spoilt(|order| order.struck.0[2].to = 1);
+    spoilt(|order| order.struck.0[1].to = 0);
+    spoilt(|order| order.start += 11); // its first stretch sticks out
+    spoilt(|order| order.end = order.start + 39);
 }
 
 #[test]

@@ -4,11 +4,11 @@ use Rattle.book_places.proofs.fits_after.Statement.{statement}
 use Rattle.book_places.proofs.fits_after.Tie as tie
 use borrow.Author.Needs.{needs}
 
-could-come-requires : tie.Need-could-come-requires
-could-come-requires c κs = search needs
+could-hold-requires : tie.Need-could-hold-requires
+could-hold-requires c κs = search needs
 
 returns : tie.Need-returns
-returns c = let a = c .before .before .before .args in fits-is (a .floor) (a .least) (a .o) _ (c .could-come .ensures)
+returns c = let a = c .before .before .before .args in fits-is (a .floor) (a .least) (a .o) _ (c .could-hold .ensures)
 
 pub fits-after-spec : {M : Type 1} → statement M
-fits-after-spec = tie.close (tie.spec could-come-requires returns)
+fits-after-spec = tie.close (tie.spec could-hold-requires returns)

@@ -1,15 +1,13 @@
--- Malformed, a message refused for itself, or the number that it names as it is struck.
-use Prim.Native.Nat.{ℕ}
-use Rattle.book_order.specs.Orders.{strikeFor, couldStrike}
+-- Malformed, a message refused for itself, or the stretch that it says of the number that it names as it is struck.
 use Rattle.book_places.specs.declared.Tally.the-variants.{Holds}
 use Rattle.book.proofs.Book.revoke.Statement.{statement}
 use Rattle.book.proofs.Book.revoke.Tie as tie
-use Rattle.book.proofs.Calls.{call-malformed, revoke-unfit, revocation-names, revoke-strikes}
+use Rattle.book.proofs.Calls.{call-malformed, revoke-unfit, revocation-instants, revocation-names, could-be, revoke-strikes}
 use Rattle.book.proofs.Holding.{Holding, holds}
 use Rattle.book.proofs.Sizes.{sized}
 use Rattle.book.specs.Places.{tallyOf}
 use borrow.Author.Needs.{needs}
-use mathlib.Core.Path.{_≡_, sym, ap, _∙_}
+use mathlib.Core.Path.{_≡_, sym, _∙_}
 
 -- what is known of the book where its orders are counted
 abbrev start : tie.After-known-told → tie.Start
@@ -58,23 +56,32 @@ returns-2 c =
 named-by-requires : tie.Need-named-by-requires
 named-by-requires c κs = search needs
 
-strike-in-requires : tie.Need-strike-in-requires
-strike-in-requires c κs =
+struck-by-requires : tie.Need-struck-by-requires
+struck-by-requires c κs =
     let i = c .before in
     let u = i .before in
     let k = u .before .before .before in
-    let names = revocation-names _ (start k .args .r) _ _ (u .unfit .ensures) (i .if1 .left) (u .before .is-revocation .ensures) in
-    (counted k, ap (λ (n : ℕ). couldStrike (strikeFor n)) (c .named-by .ensures) ∙ names)
+    revocation-instants _ (start k .args .r) _ _ (u .unfit .ensures) (i .if1 .left) (u .before .is-revocation .ensures)
 
-returns-3 : tie.Need-returns-3
-returns-3 c =
+strike-in-requires : tie.Need-strike-in-requires
+strike-in-requires c κs =
     let n = c .before in
     let i = n .before in
     let u = i .before in
     let k = u .before .before .before in
+    let names = revocation-names _ (start k .args .r) _ _ (u .unfit .ensures) (i .if1 .left) (u .before .is-revocation .ensures) in
+    (counted k, could-be _ _ _ (n .named-by .ensures) (c .struck-by .ensures) names)
+
+returns-3 : tie.Need-returns-3
+returns-3 c =
+    let x = c .before in
+    let n = x .before in
+    let i = n .before in
+    let u = i .before in
+    let k = u .before .before .before in
     c .strike-in .ensures
-    ∙ revoke-strikes (start k .args .self) _ (holding k) (start k .args .r) _ _ (u .unfit .ensures) (u .before .is-revocation .ensures) (i .if1 .left) _
-    (n .named-by .ensures)
+    ∙ revoke-strikes (start k .args .self) _ (holding k) (start k .args .r) _ _ (u .unfit .ensures) (u .before .is-revocation .ensures) (i .if1 .left)
+    _ _ (n .named-by .ensures) (x .struck-by .ensures)
 
 pub revoke-spec : {M : Type 1} → statement M
 revoke-spec =
@@ -90,5 +97,6 @@ revoke-spec =
     answered-requires-2
     returns-2
     named-by-requires
+    struck-by-requires
     strike-in-requires
     returns-3)

@@ -1,4 +1,4 @@
--- Malformed, a number that no valid record names, or as it is struck.
+-- Malformed, a strike that no valid record asks for, or as it is struck.
 use Rattle.book_places.specs.declared.Tally.the-variants.{Holds}
 use Rattle.book.proofs.Book.strike.Statement.{statement}
 use Rattle.book.proofs.Book.strike.Tie as tie
@@ -7,9 +7,8 @@ use Rattle.book.proofs.Formed.{deed-invalid}
 use Rattle.book.proofs.Holding.{Holding, holds}
 use Rattle.book.proofs.Sizes.{sized}
 use Rattle.book.specs.Places.{tallyOf}
-use Rattle.value_bounds.specs.Bounds.{mostNumber}
 use borrow.Author.Needs.{needs}
-use borrow.Author.Tests.{le-leb, lt-leb}
+use borrow.Author.Tests.{not-true, not-false}
 use mathlib.Core.Path.{_≡_, sym, _∙_}
 
 -- what is known of the book where its orders are counted
@@ -39,16 +38,20 @@ answered-requires c κs = search needs
 returns : tie.Need-returns
 returns c = c .answered .ensures ∙ undone-malformed _ _ _ (c .before .before .before .tally .ensures) (c .before .before .match .keys2)
 
+could-strike-requires : tie.Need-could-strike-requires
+could-strike-requires c κs = search needs
+
 answered-requires-2 : tie.Need-answered-requires-2
 answered-requires-2 c κs = search needs
 
 returns-2 : tie.Need-returns-2
 returns-2 c =
-    let k = c .before .before in
-    c .answered2 .ensures ∙ deed-invalid _ _ (holding k .formed) (lt-leb (start k .args .n) mostNumber (c .before .if1 .taken))
+    let asked = c .before .before in
+    c .answered2 .ensures
+    ∙ deed-invalid _ _ (holding (asked .before) .formed) (sym (asked .could-strike .ensures) ∙ not-true _ (c .before .if1 .taken))
 
 strike-in-requires : tie.Need-strike-in-requires
-strike-in-requires c κs = (counted (c .before), le-leb (start (c .before) .args .n) mostNumber (c .if1 .left))
+strike-in-requires c κs = (counted (c .before .before), sym (c .before .could-strike .ensures) ∙ not-false _ (c .if1 .left))
 
 returns-3 : tie.Need-returns-3
 returns-3 c = c .strike-in .ensures
@@ -62,6 +65,7 @@ strike-spec =
     enum-told
     answered-requires
     returns
+    could-strike-requires
     answered-requires-2
     returns-2
     strike-in-requires

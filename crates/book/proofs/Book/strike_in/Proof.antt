@@ -1,8 +1,8 @@
--- The three ways out.
+-- The three ways out: the number is not held, the order refuses the stretch, or it is struck.
 use Prim.Native.Nat.{_<_}
 use Rattle.book.proofs.Book.strike_in.Statement.{statement}
 use Rattle.book.proofs.Book.strike_in.Tie as tie
-use Rattle.book.proofs.Calls.{strike-unheld, strike-struck, strike-done, at-inside}
+use Rattle.book.proofs.Calls.{strike-unheld, strike-refused, strike-done, at-inside}
 use Rattle.book.proofs.Holding.{Holding, holds}
 use Rattle.book.proofs.Sizes.{sized}
 use borrow.Author.Needs.{needs}
@@ -18,7 +18,7 @@ inside : (c : tie.Else1) → c .before .before .seat-of .result .at < 96
 inside c =
     let t = c .before .before in
     let s = t .before .before in
-    at-inside (s .args .self) _ (holding s) (s .args .n) (s .pre .1) _ (t .seat-of .ensures) (not-false _ (c .if1 .left))
+    at-inside (s .args .self) _ (holding s) (s .args .n) (s .args .over) (s .pre .1) _ (t .seat-of .ensures) (not-false _ (c .if1 .left))
 
 seat-of-requires : tie.Need-seat-of-requires
 seat-of-requires c κs = (omega arith, holding (c .before) .few)
@@ -30,7 +30,8 @@ returns : tie.Need-returns
 returns c =
     let t = c .before .before .before in
     let s = t .before .before in
-    c .answered .ensures ∙ strike-unheld (s .args .self) _ (holding s) (s .args .n) (s .pre .1) _ (t .seat-of .ensures) (not-true _ (c .before .if1 .taken))
+    c .answered .ensures
+    ∙ strike-unheld (s .args .self) _ (holding s) (s .args .n) (s .args .over) (s .pre .1) _ (t .seat-of .ensures) (not-true _ (c .before .if1 .taken))
 
 mul-o : tie.Need-mul-o
 mul-o c = omega (arith, inside c)
@@ -38,25 +39,27 @@ mul-o c = omega (arith, inside c)
 array-copy-out-o : tie.Need-array-copy-out-o
 array-copy-out-o c = omega (arith, inside c)
 
+strike-requires : tie.Need-strike-requires
+strike-requires c κs = search needs
+
 answered-requires-2 : tie.Need-answered-requires-2
 answered-requires-2 c κs = search needs
 
 returns-2 : tie.Need-returns-2
 returns-2 c =
-    let i = c .before .before .before in
+    let k = c .before .before .before in
+    let i = k .before .before in
     let t = i .before .before in
     let s = t .before .before in
     c .answered2 .ensures
-    ∙ strike-struck (s .args .self) _ (holding s) (s .args .n) (s .pre .1) _ (t .seat-of .ensures) (not-false _ (i .if1 .left)) (c .before .if2 .taken)
-
-struck-out-requires : tie.Need-struck-out-requires
-struck-out-requires c κs = search needs
+    ∙ strike-refused (s .args .self) _ (holding s) (s .args .n) (s .args .over) (s .pre .1) _ (t .seat-of .ensures) (not-false _ (i .if1 .left))
+    _ (k .strike .ensures) (c .before .if2 .taken)
 
 mul-orders : tie.Need-mul-orders
-mul-orders c = omega (arith, inside (c .before .before .before))
+mul-orders c = let k = c .before .before .before in omega (arith, inside (k .before .before))
 
 array-set-from-orders : tie.Need-array-set-from-orders
-array-set-from-orders c = omega (arith, inside (c .before .before .before))
+array-set-from-orders c = let k = c .before .before .before in omega (arith, inside (k .before .before))
 
 made-requires : tie.Need-made-requires
 made-requires c κs = search needs
@@ -66,13 +69,14 @@ answered-requires-3 c κs = search needs
 
 returns-3 : tie.Need-returns-3
 returns-3 c =
-    let x = c .before .before in
-    let i = x .before .before .before in
+    let d = c .before .before .before in
+    let k = d .before .before in
+    let i = k .before .before in
     let t = i .before .before in
     let s = t .before .before in
     c .answered3 .ensures
-    ∙ strike-done (s .args .self) _ (holding s) (s .args .n) (s .pre .1) _ (t .seat-of .ensures) (not-false _ (i .if1 .left)) (x .before .if2 .left)
-    _ (x .struck-out .ensures) _ (c .before .made .ensures)
+    ∙ strike-done (s .args .self) _ (holding s) (s .args .n) (s .args .over) (s .pre .1) _ (t .seat-of .ensures) (not-false _ (i .if1 .left))
+    _ (k .strike .ensures) (d .if2 .left) _ (c .before .made .ensures)
 
 pub strike-in-spec : {M : Type 1} → statement M
 strike-in-spec =
@@ -83,9 +87,9 @@ strike-in-spec =
     returns
     mul-o
     array-copy-out-o
+    strike-requires
     answered-requires-2
     returns-2
-    struck-out-requires
     mul-orders
     array-set-from-orders
     made-requires

@@ -37,8 +37,23 @@ array-read-layout-of c = search needs
 layout-of-requires : tie.Need-layout-of-requires
 layout-of-requires c κs = search needs
 
-array-read-t28 : tie.Need-array-read-t28
-array-read-t28 c = search needs
+array-read-struck-from : tie.Need-array-read-struck-from
+array-read-struck-from c = search needs
+
+array-read-struck-from-2 : tie.Need-array-read-struck-from-2
+array-read-struck-from-2 c = search needs
+
+cast-struck-from : tie.Need-cast-struck-from
+cast-struck-from c = search needs
+
+array-read-struck-from-3 : tie.Need-array-read-struck-from-3
+array-read-struck-from-3 c = search needs
+
+cast-struck-from-2 : tie.Need-cast-struck-from-2
+cast-struck-from-2 c = search needs
+
+struck-from-requires : tie.Need-struck-from-requires
+struck-from-requires c κs = search needs
 
 returns : tie.Need-returns
 returns c = search (order-is, needs)
@@ -58,5 +73,10 @@ order-of-spec =
     lowered-requires-2
     array-read-layout-of
     layout-of-requires
-    array-read-t28
+    array-read-struck-from
+    array-read-struck-from-2
+    cast-struck-from
+    array-read-struck-from-3
+    cast-struck-from-2
+    struck-from-requires
     returns)

@@ -35,22 +35,19 @@ array-write-v-4 : tie.Need-array-write-v-4
 array-write-v-4 c = search needs
 
 raised-requires : tie.Need-raised-requires
-raised-requires c κs =
-    let s = c .before .before .before .before in
-    first-asked (s .args .o) (s .pre) (first-fits s)
+raised-requires c κs = search (first-asked, first-fits, needs)
 
 array-write-v-5 : tie.Need-array-write-v-5
 array-write-v-5 c = search needs
 
 raised-requires-2 : tie.Need-raised-requires-2
-raised-requires-2 c κs =
-    let first = c .before in
-    let kind = first .before .before .before .before in
-    let s = kind .before in
-    second-asked (s .args .o) (s .pre) (second-fits s)
+raised-requires-2 c κs = search (second-asked, second-fits, needs)
 
 array-write-v-6 : tie.Need-array-write-v-6
 array-write-v-6 c = search needs
+
+is-whole-requires : tie.Need-is-whole-requires
+is-whole-requires c κs = search needs
 
 struck-in-requires : tie.Need-struck-in-requires
 struck-in-requires c κs = search needs
@@ -59,12 +56,7 @@ array-write-v-7 : tie.Need-array-write-v-7
 array-write-v-7 c = search needs
 
 returns : tie.Need-returns
-returns c =
-    let mid = c .before .before .before in
-    let kind = mid .before .before .before .before in
-    let s = kind .before in
-    values-are (s .args .o) (first-fits s) (second-fits s) _ _ _ _ (kind .kind-of .ensures) (mid .raised .ensures) (c .before .raised2 .ensures)
-    (c .struck-in .ensures)
+returns c = search (values-are, first-fits, second-fits, needs)
 
 pub values-of-spec : {M : Type 1} → statement M
 values-of-spec =
@@ -81,6 +73,7 @@ values-of-spec =
     array-write-v-5
     raised-requires-2
     array-write-v-6
+    is-whole-requires
     struck-in-requires
     array-write-v-7
     returns)
