@@ -1,28 +1,32 @@
 -- Every way out of a call on a book, from what its code knows there to the answer that is defined. Assumes nothing.
-use Prim.Native.Nat.{ℕ, _≤_, _<_}
+use Prim.Native.Nat.{ℕ, _+_, _≤_, _<_}
 use Rattle.book.proofs.Formed.{malformed, refused, by-deed, with-book, deed-malformed, deed-refused, deed-done}
 use Rattle.book.proofs.Formed.{asked-malformed, asked-refused, asked-done}
 use Rattle.book.proofs.Holding.{Holding, holds-none}
-use Rattle.book.specs.Answers.{outcome, outcomeOf, deedOutcomeOf, found, askedOf}
+use Rattle.book.proofs.Tally.{the-type}
+use Rattle.book.specs.Answers.{outcome, outcomeOf, deedOutcomeOf, found, askedOf, shownOf}
 use Rattle.book.specs.Places.{withOrders, bookOf, shelf, tallyOf, unfitIn}
 use Rattle.book.specs.declared.Book.{Book}
 use Rattle.book.specs.declared.InForce.{InForce}
 use Rattle.book.specs.declared.InForce.the-variants.{Refused}
+use Rattle.book.specs.declared.Panel.the-variants.{Refused as Unshown, Shows}
+use Rattle.book.specs.declared.Tally.{Tally}
 use Rattle.book_ledger.specs.Calls.{Call, command, revoke, close, Deed, hold, strike, shut, deedOf, unfit, couldAsk}
 use Rattle.book_ledger.specs.Ledger.{answer, effect, rungsOf, isFull}
-use Rattle.book_lists.specs.Keyed.{keep, insert, greatest, Ascending}
+use Rattle.book_lists.proofs.Least.{least-insert, least-map}
+use Rattle.book_lists.proofs.Sorting.{length-insert}
+use Rattle.book_lists.specs.Keyed.{keep, insert, greatest, sooner, Ascending}
 use Rattle.book_order.specs.Messages.{orderOf, strikeOf}
-use Rattle.book_order.specs.Orders.{Strike, number, nameOf, named, live, pastEnd, strikeFor, couldStrike, strikeRefusals, struckBy, strikeAt}
+use Rattle.book_order.specs.Orders.{Strike, number, nameOf, named, live, pastEnd, nextEnd, strikeFor, couldStrike, strikeRefusals, struckBy, strikeAt}
 use Rattle.book_order.specs.Orders.{outside, already, crowded, isBrought}
 use Rattle.book_order.specs.declared.Order.{Order}
 use Rattle.book_order.specs.declared.Struck.{Struck}
 use Rattle.book_places.proofs.Seats.{held-seat, any-seat, put-seat, change-seat}
 use Rattle.book_places.proofs.Seats as seats
 use Rattle.book_places.proofs.Staying.{kept-all}
-use Rattle.book_places.proofs.Tally.{the-type}
-use Rattle.book_places.specs.Places.{packed, orderAt, seatIn, keptIn}
+use Rattle.book_places.specs.Places.{packed, orderAt, seatIn, keptOf}
+use Rattle.book_places.specs.declared.Kept.{Kept}
 use Rattle.book_places.specs.declared.Seat.{Seat}
-use Rattle.book_places.specs.declared.Tally.{Tally}
 use Rattle.book_shelf.proofs.Ranks.{ascending-rising}
 use Rattle.book_shelf.proofs.Replacing.{replace-set}
 use Rattle.book_shelf.specs.Shelf.{putIn, replaced}
@@ -34,14 +38,15 @@ use Rattle.layout.specs.declared.Layout.{Layout}
 use Rattle.record.specs.declared.Record.{Record}
 use Rattle.record_check.specs.Validity.{isValid}
 use Rattle.report_brief.specs.Brief.{unitOf, startOf, endOf}
+use Rattle.text.proofs.Tests.{by-test}
 use Rattle.text.specs.Bytes.{any, all, same}
 use Rattle.text.specs.Refusals.{Refusal, refusal as row, firstNumber}
 use Rattle.value_ask.specs.Values.{instantIn}
 use borrow.Author.Tests.{le-leb, lt-leb, lt-ltb, le-ltb, ne-eqb, eqb-false}
 use denote.Enum.Declared.{tagOf}
 use lib.Dec.{eqb, leb}
-use lib.ListN.{length, take, set}
-use lib.Seq.{length-take-le}
+use lib.ListN.{length, take, set, length-map}
+use lib.Seq.{length-take-le, take-append-seam}
 use mathlib.Core.Bool.{Bool, true, false, not}
 use mathlib.Core.List.{List, [], _∷_, map}
 use mathlib.Core.Path.{_≡_, refl, sym, ap, _∙_}
@@ -59,6 +64,10 @@ undone-malformed d b y e h = deed-malformed d b (holds-none b y e h)
 pub question-malformed : (t : ℕ) (b : Book) (y : Tally) → y ≡ tallyOf b → OneOf (0 ∷ []) (tagOf the-type y)
     → record { answer = Refused 20 0; book = b } ≡ askedOf t b
 question-malformed t b y e h = asked-malformed t b (holds-none b y e h)
+
+pub panel-malformed : (b : Book) (y : Tally) → y ≡ tallyOf b → OneOf (0 ∷ []) (tagOf the-type y) → record { answer = Unshown 20 0; book = b } ≡ shownOf b
+unfolding shownOf
+panel-malformed b y e h = rw (holds-none b y e h)
 
 -- ---- what is refused for the message alone stands before all else
 
@@ -121,6 +130,13 @@ module _ (b : Book) (count : ℕ) (h : Holding b count) where
   fits : count ≤ length (b .orders)
   fits = omega (arith, h .few, h .size .long)
 
+  -- the panel's numbers, of the places that are looked at
+  many : b .held ≡ length (take count (b .orders))
+  many = h .panel .0 ∙ ap length (h .held)
+
+  soon : b .next ≡ nextEnd (take count (b .orders))
+  soon = h .panel .1 ∙ ap nextEnd (h .held)
+
   -- the places that are looked at stand by ascending number, and one that the test finds is a place of the book
   pub ascends : Ascending number (take count (b .orders))
   ascends = ascending-rising number 0 (take count (b .orders)) (h .rising)
@@ -132,10 +148,11 @@ module _ (b : Book) (count : ℕ) (h : Holding b count) where
     no-deed n a z = deed-refused d b (h .formed) c n a z
 
     -- one that makes a book with these orders
-    makes : (f : ℕ) (l m : List Order) (next : Book) → firstNumber (rungsOf (isFull (shelf b)) d (shelf b)) ≡ 0 → next ≡ withOrders b f l → l ≡ packed m
+    makes : (f held soon : ℕ) (l m : List Order) (next : Book) → firstNumber (rungsOf (isFull (shelf b)) d (shelf b)) ≡ 0
+        → next ≡ withOrders b f held soon l → l ≡ packed m → held ≡ length m → soon ≡ nextEnd m
         → record { unit = shelf b .unit; floor = f; orders = m } ≡ effect d (shelf b) → outcome 0 next ≡ deedOutcomeOf d b
-    makes f l m next a e p q =
-        deed-done d b (h .formed) c 0 a refl next (e ∙ with-book b f l m (h .size .wide) (h .formed) p ∙ ap bookOf q)
+    makes f held soon l m next a e p n x q =
+        deed-done d b (h .formed) c 0 a refl next (e ∙ with-book b f held soon l m (h .size .wide) (h .formed) p n x ∙ ap bookOf q)
 
   -- ---- hold: 23, 22, 24
 
@@ -164,15 +181,19 @@ module _ (b : Book) (count : ℕ) (h : Holding b count) where
         pub hold-full : count ≡ 96 → outcome 24 b ≡ deedOutcomeOf (hold o) b
         hold-full e = no-deed (hold o) c 24 (hold-last ∙ rw e) refl
 
-        pub hold-done : (count ≡ 96 → ⊥) → (l : List Order) → l ≡ putIn (seat .at) count o (b .orders) → (next : Book) → next ≡ withOrders b (b .floor) l
+        pub hold-done : (count ≡ 96 → ⊥) → (l : List Order) → l ≡ putIn (seat .at) count o (b .orders)
+            → (x : ℕ) → x ≡ sooner (b .next) (o .end) → (next : Book) → next ≡ withOrders b (b .floor) (count + 1) x l
             → outcome 0 next ≡ deedOutcomeOf (hold o) b
         unfolding shelf
-        hold-done e l put next m =
+        hold-done e l put x early next m =
             let k : count < 96 = omega (arith, h .few, e) in
-            makes (hold o) c (b .floor) l (insert number o (take count (b .orders))) next
+            let held = take count (b .orders) in
+            makes (hold o) c (b .floor) (count + 1) x l (insert number o held) next
             (hold-last ∙ rw (lt-leb 96 count k)) m
             (put ∙ ap (λ (s : Seat). putIn (s .at) count o (b .orders)) seated
             ∙ put-seat count (b .orders) (h .size .long) (h .places) o k (ap (λ (s : Seat). s .held) (sym seated) ∙ t))
+            (omega (arith, length-insert number o held, length-take-le count (b .orders) fits))
+            (early ∙ ap (λ (n : ℕ). sooner n (o .end)) soon ∙ sym (least-insert number (λ (y : Order). y .end) o held))
             (rw (h .held))
 
   -- ---- strike: 25, and what the order that has the number answers
@@ -249,11 +270,16 @@ module _ (b : Book) (count : ℕ) (h : Holding b count) where
               ∙ ap (λ (y : Seat). replaced (y .at) (strikeAt s (orderAt (y .at) l)) l) seated
               ∙ change-seat count l (h .size .long) (h .places) n (strikeAt s) (λ y z. rw z) (h .few) (h .rising) its-held)
 
-          pub strike-done : (next : Book) → next ≡ withOrders b (b .floor) (set (b .orders) (seat .at) (struck .order)) → outcome 0 next ≡ deedOutcomeOf (strike s) b
+          pub strike-done : (next : Book) → next ≡ withOrders b (b .floor) (b .held) (b .next) (set (b .orders) (seat .at) (struck .order))
+              → outcome 0 next ≡ deedOutcomeOf (strike s) b
           unfolding shelf
           strike-done next q =
-              makes (strike s) c (b .floor) (set (b .orders) (seat .at) (struck .order)) (map (strikeAt s) (take count (b .orders))) next
-              (strike-last ∙ answer-is ∙ z) q stored (rw (h .held))
+              let held = take count (b .orders) in
+              makes (strike s) c (b .floor) (b .held) (b .next) (set (b .orders) (seat .at) (struck .order)) (map (strikeAt s) held) next
+              (strike-last ∙ answer-is ∙ z) q stored
+              (many ∙ sym (length-map held (strikeAt s)))
+              (soon ∙ sym (least-map (λ (y : Order). y .end) (strikeAt s) (λ y. by-test (named (s .name) y) (λ e. rw e) (λ e. rw e)) held))
+              (rw (h .held))
 
   -- ---- close
 
@@ -261,12 +287,17 @@ module _ (b : Book) (count : ℕ) (h : Holding b count) where
   unfolding shelf
   close-early t k = refused (close t) b (h .size .long) (h .size .wide) (h .formed) 27 (rw (lt-ltb t (b .floor) k)) refl
 
-  pub close-done : (t : ℕ) → b .floor ≤ t → (l : List Order) → l ≡ packed (keptIn 0 count count t (b .orders)) → (next : Book) → next ≡ withOrders b t l
+  pub close-done : (t : ℕ) → b .floor ≤ t → (kept : Kept) → kept ≡ keptOf 0 count count t (b .orders)
+      → (x : ℕ) → x ≡ nextEnd (take (kept .count) (kept .orders)) → (next : Book) → next ≡ withOrders b t (kept .count) x (kept .orders)
       → outcome 0 next ≡ outcomeOf (close t) b
   unfolding shelf
-  close-done t k l kept next e =
-      makes (shut t) refl t l (keep (pastEnd t) (take count (b .orders))) next (rw (le-ltb t (b .floor) k)) e
-      (kept ∙ ap packed (kept-all count t (b .orders))) (rw (h .held))
+  close-done t k kept done x early next e =
+      let left = keep (pastEnd t) (take count (b .orders)) in
+      let stays = kept-all count t (b .orders) in
+      let orders : kept .orders ≡ packed left = ap (λ (y : Kept). y .orders) done ∙ ap packed stays in
+      let few : kept .count ≡ length left = ap (λ (y : Kept). y .count) done ∙ ap length stays in
+      makes (shut t) refl t (kept .count) x (kept .orders) left next (rw (le-ltb t (b .floor) k)) e orders few
+      (early ∙ rw (orders, few) (ap nextEnd (take-append-seam left _))) (rw (h .held))
       ∙ by-deed (close t) b (h .size .long) (h .size .wide) (h .formed) refl refl
 
   -- ---- a call with a message
@@ -307,6 +338,12 @@ module _ (b : Book) (count : ℕ) (h : Holding b count) where
           (λ i. deedOutcomeOf (strike (strikeFor (e i) (d i))) b)
           ∙ by-deed (revoke r) b (h .size .long) (h .size .wide) (h .formed) (revocation-names unit r right n u z which)
           (unfit-none isRevocation unit r right which n u (rest (strike (strikeOf r))) z)
+
+  -- ---- the panel
+
+  pub panel-shows : record { answer = Shows (b .held) (b .next); book = b } ≡ shownOf b
+  unfolding shownOf
+  panel-shows = rw (h .formed)
 
   -- ---- the question
 

@@ -1,12 +1,14 @@
 -- What the parts of a book's fitness answer, test by test as the definitions say, and a fresh book. Assumes nothing.
 use Prim.Native.Nat.{ℕ, _≤_, _<_}
 use Rattle.book.specs.Answers.{outcome, freshOf}
-use Rattle.book.specs.Places.{bookFrom, bookOf, zeroBook, formedUnit, unfitIn}
+use Rattle.book.specs.Places.{bookWith, bookFrom, bookOf, zeroBook, formedUnit, unfitIn}
+use Rattle.book.specs.declared.Book.{Book}
 use Rattle.report_brief.specs.Brief.{unitOf, briefOf, toldOf}
 use Rattle.report_brief.specs.declared.Brief.{Brief}
 use Rattle.value_name.proofs.RoundTrip.{unit-size}
 use Rattle.value_name.specs.Names.{isUnit}
-use Rattle.book_order.specs.Orders.{emptyOrder}
+use Rattle.book_order.specs.Orders.{nextEnd, emptyOrder}
+use Rattle.book_order.specs.declared.Order.{Order}
 use Rattle.record.specs.declared.Record.{Record}
 use Rattle.text_room.specs.Rooms.{keptIn}
 use Rattle.text.specs.Bytes.{all, is, same}
@@ -15,7 +17,7 @@ use borrow.Author.Tests.{le-leb, lt-leb}
 use lib.ListN.{length, take, drop, replicate}
 use mathlib.Core.Bool.{Bool, true, false, _&&_}
 use mathlib.Core.List.{List}
-use mathlib.Core.Path.{_≡_, ap}
+use mathlib.Core.Path.{_≡_, ap, _∙_}
 
 -- ---- a unit's room
 
@@ -55,6 +57,13 @@ pub unit-told : (r : Record) (t : Brief) → t ≡ briefOf r → take (t .size) 
 unfolding briefOf toldOf unitOf
 unit-told r t e = ap (λ (k : Brief). take (k .size) (k .unit)) e
 
+-- ---- a book of a unit
+
+pub from-parts : (unit : List ℕ) (floor count : ℕ) (orders : List Order) (room : List ℕ) (next : ℕ) (b : Book) → room ≡ keptIn 16 unit
+    → next ≡ nextEnd (take count orders) → b ≡ bookWith (length unit) room floor count next orders → b ≡ bookFrom unit floor count orders
+unfolding bookFrom
+from-parts unit floor count orders room next b r n e = e ∙ (λ i. bookWith (length unit) (r i) floor count (n i) orders)
+
 -- ---- a fresh book
 
 module _ (unit : List ℕ) where
@@ -63,6 +72,6 @@ module _ (unit : List ℕ) where
   fresh-bad e = rw e
 
   -- a good code is kept in its room whole
-  pub fresh-good : isUnit unit ≡ true → outcome 0 (bookFrom unit 0 (replicate 96 emptyOrder)) ≡ freshOf unit
+  pub fresh-good : isUnit unit ≡ true → outcome 0 (bookFrom unit 0 0 (replicate 96 emptyOrder)) ≡ freshOf unit
   unfolding freshOf bookOf bookFrom keptIn
   fresh-good e = rw (e, le-leb (length unit) 16 (unit-size unit e .1))

@@ -1,16 +1,17 @@
 -- A book that is not malformed is the one that holds its ledger; and what a call answers by that. Assumes nothing.
 use Prim.Native.Nat.{ℕ, zero, suc}
 use Rattle.book.specs.Answers.{outcome, callNumber, nextOf, outcomeOf, deedNumber, deedNext, deedOutcomeOf, found, askedOf}
-use Rattle.book.specs.Places.{withOrders, bookOf, shelf, formedUnit, formedBook}
+use Rattle.book.specs.Places.{withOrders, bookOf, shelf, formedUnit, truePanel, formedBook}
 use Rattle.book.specs.declared.Book.{Book}
 use Rattle.book.specs.declared.InForce.the-variants.{Refused}
 use Rattle.book_ledger.specs.Calls.{Call, ask, Deed, deedOf, couldAsk}
 use Rattle.book_ledger.specs.Ledger.{Ledger, rungsOf, isFull, answer, effect, inForce}
+use Rattle.book_order.specs.Orders.{nextEnd}
 use Rattle.book_order.specs.declared.Order.{Order}
 use Rattle.book_places.proofs.Leading.{formed-places}
 use Rattle.book_places.specs.Places.{packed, formedFrom}
 use Rattle.book_shelf.proofs.Packing.{all-rest}
-use Rattle.text.proofs.Tests.{by-test, and-parts}
+use Rattle.text.proofs.Tests.{by-test, and-parts, Tells, told, itself, eqb-tells, _and_}
 use Rattle.text.specs.Bytes.{all, is}
 use Rattle.text.specs.Puts.{roomOf}
 use Rattle.text.specs.Refusals.{firstNumber}
@@ -35,21 +36,43 @@ formed-unit size unit h e =
     let s : length (take size unit) ≡ size = length-take-le size unit (omega (arith, leb-true size 16 (p .0))) in
     (sym s, rw s (all-rest (is 0) 0 (λ x. eqb-true x 0) size 16 unit h (q .1)))
 
+-- ---- what is so of a book that is not malformed
+
+pub record Formed (b : Book) : Type 0 where
+  pub unit-good : formedUnit (b .size) (b .unit) ≡ true
+  pub places-good : formedFrom (b .floor) 0 (b .orders) ≡ true
+  pub held-is : b .held ≡ length (shelf b .orders)
+  pub next-is : b .next ≡ nextEnd (shelf b .orders)
+
+panel-tells : (b : Book) → Tells (truePanel b) ((b .held ≡ length (shelf b .orders)) × (b .next ≡ nextEnd (shelf b .orders)))
+unfolding truePanel
+panel-tells b = eqb-tells (b .held) (length (shelf b .orders)) and eqb-tells (b .next) (nextEnd (shelf b .orders))
+
+pub formed-tells : (b : Book) → Tells (formedBook b) (Formed b)
+unfolding formedBook
+formed-tells b =
+    told
+    (itself (formedUnit (b .size) (b .unit)) and (itself (formedFrom (b .floor) 0 (b .orders)) and panel-tells b))
+    (λ p. record { unit-good = p .0; places-good = p .1 .0; held-is = p .1 .1 .0; next-is = p .1 .1 .1 })
+    (λ w. (w .unit-good, (w .places-good, (w .held-is, w .next-is))))
+
 -- THE LAW: a book that is not malformed is the one that holds its ledger
 pub shelf-book : (b : Book) → length (b .orders) ≡ 96 → length (b .unit) ≡ 16 → formedBook b ≡ true → b ≡ bookOf (shelf b)
-unfolding formedBook bookOf shelf
+unfolding bookOf shelf
 shelf-book b h k e =
-    let p = and-parts (formedUnit (b .size) (b .unit)) (formedFrom (b .floor) 0 (b .orders)) e in
-    let u = formed-unit (b .size) (b .unit) k (p .0) in
-    λ i. record { size = u .0 i; unit = u .1 i; floor = b .floor; orders = formed-places (b .floor) (b .orders) h (p .1) i }
+    let w = formed-tells b .0 e in
+    let u = formed-unit (b .size) (b .unit) k (w .unit-good) in
+    let places = formed-places (b .floor) (b .orders) h (w .places-good) in
+    λ i. record { size = u .0 i; unit = u .1 i; floor = b .floor; held = w .held-is i; next = w .next-is i; orders = places i }
 
--- with another floor and other orders it is the one that holds them
-pub with-book : (b : Book) (f : ℕ) (l m : List Order) → length (b .unit) ≡ 16 → formedBook b ≡ true → l ≡ packed m
-    → withOrders b f l ≡ bookOf (record { unit = shelf b .unit; floor = f; orders = m })
-unfolding formedBook bookOf shelf
-with-book b f l m k e q =
-    let u = formed-unit (b .size) (b .unit) k (and-parts (formedUnit (b .size) (b .unit)) (formedFrom (b .floor) 0 (b .orders)) e .0) in
-    λ i. record { size = u .0 i; unit = u .1 i; floor = f; orders = q i }
+-- with another floor and other orders, and the two numbers of these, it is the one that holds them
+pub with-book : (b : Book) (f held next : ℕ) (l m : List Order) → length (b .unit) ≡ 16 → formedBook b ≡ true → l ≡ packed m
+    → held ≡ length m → next ≡ nextEnd m
+    → withOrders b f held next l ≡ bookOf (record { unit = shelf b .unit; floor = f; orders = m })
+unfolding bookOf shelf
+with-book b f held next l m k e q n x =
+    let u = formed-unit (b .size) (b .unit) k (formed-tells b .0 e .unit-good) in
+    λ i. record { size = u .0 i; unit = u .1 i; floor = f; held = n i; next = x i; orders = q i }
 
 -- ---- what a deed answers
 

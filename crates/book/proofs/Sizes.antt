@@ -15,4 +15,4 @@ pub record Sized (b : Book) : Type 0 where
 pub sized : (b : Book) (vs : List Val) → Is (row the-type) b vs → Sized b
 sized b vs p =
     let q = p .1 .1 .1 in
-    record { wide = sym (length-map (b .unit) _) ∙ q .0 .1 .0 .1; long = sym (length-map (b .orders) _) ∙ q .1 .1 .0 .1 .0 .1 }
+    record { wide = sym (length-map (b .unit) _) ∙ q .0 .1 .0 .1; long = sym (length-map (b .orders) _) ∙ q .1 .1 .1 .1 .0 .1 .0 .1 }

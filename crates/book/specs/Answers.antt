@@ -6,10 +6,13 @@ use Rattle.book.specs.declared.Book.{Book}
 use Rattle.book.specs.declared.InForce.{InForce}
 use Rattle.book.specs.declared.InForce.the-variants.{Refused, Nothing, Number}
 use Rattle.book.specs.declared.Outcome.{Outcome}
+use Rattle.book.specs.declared.Panel.{Panel}
+use Rattle.book.specs.declared.Panel.the-variants.{Refused as Unshown, Shows}
+use Rattle.book.specs.declared.Shown.{Shown}
+use Rattle.book.specs.declared.Tally.{Tally}
+use Rattle.book.specs.declared.Tally.the-variants.{Malformed, Holds}
 use Rattle.book_ledger.specs.Calls.{Call, ask, Deed, couldAsk}
 use Rattle.book_ledger.specs.Ledger.{fresh, rungsOf, isFull, answer, effect, step, inForce}
-use Rattle.book_places.specs.declared.Tally.{Tally}
-use Rattle.book_places.specs.declared.Tally.the-variants.{Malformed, Holds}
 use Rattle.value_name.specs.Names.{isUnit}
 use Rattle.text.specs.Refusals.{refusal, firstNumber}
 use Rattle.text.specs.Said.{Said, said}
@@ -85,3 +88,18 @@ ofInForce (Number n) = said 0 0 (n ∷ [])
 -- THE DEFINITION: in force at t; the question hands the same book back
 unfoldable pub askedOf : ℕ → Book → Asked
 askedOf t b = record { answer = askedAs (callNumber (ask t) b) (inForce t (shelf b)); book = b }
+
+-- ---- the panel. Document 02, A7: "The panel shows how many orders are held and when the next one ends"
+
+-- 20, the book is malformed; else the two stored numbers
+abbrev pub panelOf : Book → Panel
+panelOf b = cond (formedBook b) (Shows (b .held) (b .next)) (Unshown 20 0)
+
+-- what that answer says: a refusal's number and detail, or the two numbers
+abbrev pub ofPanel : Panel → Said
+ofPanel (Unshown n d) = said n d []
+ofPanel (Shows held next) = said 0 0 (held ∷ next ∷ [])
+
+-- THE DEFINITION: the panel reads them, and hands the same book back
+unfoldable pub shownOf : Book → Shown
+shownOf b = record { answer = panelOf b; book = b }

@@ -3,13 +3,13 @@
 mod fitness;
 
 use book_order::Order;
+use book_places::Count;
 use book_places::Place;
-use book_places::Tally;
 use book_stretch::Stretch;
 use record::Record;
 use value_name::unit;
 ghost use Prim.Native.Nat.{_≤_};
-ghost use Rattle.book.specs.Answers.{outcome, outcomeOf, deedOutcomeOf, freshOf, found, askedOf};
+ghost use Rattle.book.specs.Answers.{outcome, outcomeOf, deedOutcomeOf, freshOf, found, askedOf, shownOf};
 ghost use Rattle.book.specs.Places.{bookWith, bookFrom, zeroBook, withOrders, tallyOf};
 ghost use Rattle.book_ledger.specs.Calls.{Call, Deed};
 ghost use Rattle.book_lists.specs.Keyed.{greatest, Ascending};
@@ -18,12 +18,21 @@ ghost use lib.ListN.{take};
 ghost use mathlib.Core.Bool.{true};
 ghost use mathlib.Core.Path.{_≡_};
 
-// The unit's code stands in the first `size` bytes of its room.
+// The unit's code stands in the first `size` bytes of its room. `held` and `next` are what the panel shows: how many orders are held, and when the next
+// of them ends, 0 where none is.
 pub struct Book {
     pub size: usize,
     pub unit: [u8; 16],
     pub floor: u32,
+    pub held: usize,
+    pub next: u32,
     pub orders: [Order; 96],
+}
+
+// How many orders a book holds, unless it is malformed.
+pub enum Tally {
+    Malformed,
+    Holds(usize),
 }
 
 // What a command, a revocation or a close answers, the number 0 or a refusal's and its detail, and the book that it hands back.
@@ -46,6 +55,18 @@ pub struct Asked {
     pub book: Book,
 }
 
+// What the panel shows: a refusal's number and detail, or how many orders are held and when the next of them ends.
+pub enum Panel {
+    Refused(u8, usize),
+    Shows(usize, u32),
+}
+
+// The panel, and the same book.
+pub struct Shown {
+    pub answer: Panel,
+    pub book: Book,
+}
+
 fn answered(number: u8, book: Book) -> Outcome
     ensures { λ r. ⌜ r ≡ outcome number book ⌝ }
 {
@@ -57,13 +78,22 @@ fn answered(number: u8, book: Book) -> Outcome
 }
 
 // Every book is made here.
-fn make(size: usize, unit: [u8; 16], floor: u32, orders: [Order; 96]) -> Book
-    ensures { λ r. ⌜ r ≡ bookWith size unit floor orders ⌝ }
+fn make(
+    size: usize,
+    unit: [u8; 16],
+    floor: u32,
+    held: usize,
+    next: u32,
+    orders: [Order; 96],
+) -> Book
+    ensures { λ r. ⌜ r ≡ bookWith size unit floor held next orders ⌝ }
 {
     Book {
         size,
         unit,
         floor,
+        held,
+        next,
         orders,
     }
 }
@@ -72,14 +102,21 @@ fn make(size: usize, unit: [u8; 16], floor: u32, orders: [Order; 96]) -> Book
 pub fn zero() -> Book
     ensures { λ r. ⌜ r ≡ zeroBook ⌝ }
 {
-    make(0, [0; 16], 0, [book_order::EMPTY; 96])
+    make(0, [0; 16], 0, 0, 0, [book_order::EMPTY; 96])
 }
 
-// The book of a unit with a floor and orders.
-pub fn with(unit: &[u8], floor: u32, orders: [Order; 96]) -> Book
-    ensures { λ r. ⌜ r ≡ bookFrom (now (unit .entry)) floor orders ⌝ }
+// The book of a unit with a floor and so many orders in the first places.
+pub fn with(unit: &[u8], floor: u32, count: usize, orders: [Order; 96]) -> Book
+    ensures { λ r. ⌜ r ≡ bookFrom (now (unit .entry)) floor count orders ⌝ }
 {
-    make(unit.len(), text_room::keep_unit(unit), floor, orders)
+    make(
+        unit.len(),
+        text_room::keep_unit(unit),
+        floor,
+        count,
+        book_places::next_end(orders, count),
+        orders,
+    )
 }
 
 // A fresh book for a unit: 96 empty places and the floor 0. A bad code is refused 21, and gives the all-zero book, which every call refuses.
@@ -89,7 +126,7 @@ pub fn fresh(unit: &[u8]) -> Outcome
     if !unit::is_unit(unit) {
         return answered(21, zero());
     }
-    answered(0, with(unit, 0, [book_order::EMPTY; 96]))
+    answered(0, with(unit, 0, 0, [book_order::EMPTY; 96]))
 }
 
 // Of the first `count` orders, which stand by ascending number, the last one that is in force at t.
@@ -114,15 +151,21 @@ impl Book {
             return Tally::Malformed;
         }
         let orders = self.orders;
-        book_places::count_held(orders, self.floor)
+        let Count::Holds(count, next) = book_places::count_held(orders, self.floor) else {
+            return Tally::Malformed;
+        };
+        if (self.held != count) | (self.next != next) {
+            return Tally::Malformed;
+        }
+        Tally::Holds(count)
     }
 
-    // The book with another floor and other orders.
-    fn made(self, floor: u32, orders: [Order; 96]) -> Book
-        ensures { λ r. ⌜ r ≡ withOrders self floor orders ⌝ }
+    // The book with another floor and other orders, and the panel's two numbers of these.
+    fn made(self, floor: u32, held: usize, next: u32, orders: [Order; 96]) -> Book
+        ensures { λ r. ⌜ r ≡ withOrders self floor held next orders ⌝ }
     {
         let unit = self.unit;
-        make(self.size, unit, floor, orders)
+        make(self.size, unit, floor, held, next, orders)
     }
 
     // Holds an order that some valid CB record brings, in a book that holds `count`.
@@ -141,9 +184,15 @@ impl Book {
         if count == 96 {
             return answered(24, self);
         }
+        let next = book_places::sooner(self.next, o.end);
         answered(
             0,
-            self.made(self.floor, book_places::put_in(orders, seat.at, count, o)),
+            self.made(
+                self.floor,
+                count + 1,
+                next,
+                book_places::put_in(orders, seat.at, count, o),
+            ),
         )
     }
 
@@ -166,7 +215,7 @@ impl Book {
         }
         let next = struck.order;
         orders[at] = next;
-        answered(0, self.made(self.floor, orders))
+        answered(0, self.made(self.floor, self.held, self.next, orders))
     }
 
     // Holds an order. 12: no valid CB record brings it.
@@ -239,8 +288,9 @@ impl Book {
         }
         let orders = self.orders;
         let kept = book_places::keep_past(orders, 0, count, count, t);
-        let next = kept.orders;
-        answered(0, self.made(t, next))
+        let left = kept.orders;
+        let next = book_places::next_end(left, kept.count);
+        answered(0, self.made(t, kept.count, next, left))
     }
 
     // The order in force at t.
@@ -262,6 +312,22 @@ impl Book {
         let orders = self.orders;
         Asked {
             answer: in_force_in(orders, count, t),
+            book: self,
+        }
+    }
+
+    // What the panel shows: the two numbers as they are stored, of a book that is not malformed.
+    pub fn panel(self) -> Shown
+        ensures { λ r. ⌜ r ≡ shownOf self ⌝ }
+    {
+        let Tally::Holds(_) = self.tally() else {
+            return Shown {
+                answer: Panel::Refused(20, 0),
+                book: self,
+            };
+        };
+        Shown {
+            answer: Panel::Shows(self.held, self.next),
             book: self,
         }
     }

@@ -37,9 +37,10 @@ module _ {A : Type 0} (P : A → Type 0) where
   all-map f h [] a = tt
   all-map f h (x ∷ l) a = (h x (a .0), all-map f h l (a .1))
 
-  pub all-made : (f : A → A) → ((x : A) → P (f x)) → (l : List A) → All (map f l)
-  all-made f h [] = tt
-  all-made f h (x ∷ l) = (h x, all-made f h l)
+-- what is kept passes the test
+pub all-kept : {A : Type 0} (p : A → Bool) (l : List A) → All (λ (x : A). p x ≡ true) (keep p l)
+all-kept p [] = tt
+all-kept p (x ∷ l) = by-test (p x) (λ e. rw e (e, all-kept p l)) (λ e. rw e (all-kept p l))
 
 pub all-weaker : {A : Type 0} (P Q : A → Type 0) → ((x : A) → P x → Q x) → (l : List A) → All P l → All Q l
 all-weaker P Q h [] a = tt

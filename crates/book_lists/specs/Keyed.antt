@@ -1,8 +1,12 @@
 -- Lists of things that have a key, a number: the operations by which the book of commands is defined.
-use Prim.Native.Nat.{ℕ, suc, max, _≤_}
-use lib.Dec.{ltb}
+use Prim.Native.Nat.{ℕ, suc, min, max, _≤_}
+use lib.Dec.{eqb, ltb}
 use mathlib.Core.Bool.{Bool, cond}
 use mathlib.Core.List.{List, [], _∷_}
+
+-- the lesser of two numbers, of which 0 stands for none
+abbrev pub sooner : ℕ → ℕ → ℕ
+sooner a b = cond (eqb a 0) b (cond (eqb b 0) a (min a b))
 
 module _ {A : Type 0} where
   -- the things that pass a test, in their order
@@ -24,6 +28,11 @@ module _ {A : Type 0} where
   abbrev pub greatest : (A → ℕ) → (A → Bool) → List A → ℕ
   greatest key p [] = 0
   greatest key p (x ∷ l) = max (cond (p x) (suc (key x)) 0) (greatest key p l)
+
+  -- the least key, where no key is 0: 0 where there is nothing
+  abbrev pub leastOf : (A → ℕ) → List A → ℕ
+  leastOf key [] = 0
+  leastOf key (x ∷ l) = sooner (key x) (leastOf key l)
 
   -- every key is at least k; each key is at most those after it
   abbrev pub Above : (A → ℕ) → ℕ → List A → Type 0

@@ -1,5 +1,6 @@
 -- What an order is to the book. Document 01, "The book of commands". What an order carries, how it is struck and by what it is named is said here alone.
 use Prim.Native.Nat.{ℕ, _-_}
+use Rattle.book_lists.specs.Keyed.{leastOf}
 use Rattle.layout.specs.Layouts.{isMarket}
 use Rattle.layout.specs.declared.Layout.{Layout}
 use Rattle.layout.specs.declared.Layout.the-variants.{Market, Mfrr, Revocation, Generic, Exclusion, Limitation, Secondary, VoltVar, Rejection, Reserve}
@@ -46,6 +47,10 @@ live t o = covers t (timeOf o) && not (any (covers t) (o .struck))
 -- an order that ends past t. No end is 0 but an empty place's, so that `pastEnd 0` is whether a place is filled
 abbrev pub pastEnd : ℕ → Order → Bool
 pastEnd t o = ltb t (o .end)
+
+-- when the next of some orders ends: 0 where there is none. Document 02, A7
+abbrev pub nextEnd : List Order → ℕ
+nextEnd l = leastOf (λ (o : Order). o .end) l
 
 -- ---- a revocation strikes a stretch of the order. Document 02, A6
 

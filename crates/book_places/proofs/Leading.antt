@@ -3,11 +3,11 @@ use Prim.Native.Nat.{ℕ, suc, _+_, _≤_, _<_}
 use Rattle.value_bounds.specs.Bounds.{mostNumber}
 use Rattle.book_lists.specs.Keyed.{keep, Ascending}
 use Rattle.book_order.proofs.Joined.{three}
-use Rattle.book_order.specs.Orders.{number, pastEnd, emptyOrder, timeOf, isEmpty, couldCome, couldHold}
+use Rattle.book_order.specs.Orders.{number, pastEnd, nextEnd, emptyOrder, timeOf, isEmpty, couldCome, couldHold}
 use Rattle.book_order.specs.declared.Order.{Order}
 use Rattle.book_places.proofs.Empty.{empty-is, empty-end, empty-dropped}
-use Rattle.book_places.specs.Places.{packed, pastOrder, orderAt, fitsAfter, formedFrom, leading, tallyIn}
-use Rattle.book_places.specs.declared.Tally.the-variants.{Malformed, Holds}
+use Rattle.book_places.specs.Places.{packed, pastOrder, orderAt, fitsAfter, formedFrom, leading, countIn}
+use Rattle.book_places.specs.declared.Count.the-variants.{Malformed, Holds}
 use Rattle.book_shelf.proofs.Packing.{all-packed}
 use Rattle.book_shelf.proofs.Ranks.{ascending-rising}
 use Rattle.book_shelf.specs.Shelf.{Rising}
@@ -149,10 +149,10 @@ module _ (f count : ℕ) (l : List Order) (c : count ≡ leading f 0 l) where
   formed-rest : formedFrom f 0 l ≡ all isEmpty (drop count l)
   formed-rest = formed-leading f 0 l ∙ ap (λ (k : ℕ). all isEmpty (drop k l)) (sym c)
 
-  pub held-malformed : all isEmpty (drop count l) ≡ false → Malformed ≡ tallyIn f l
-  unfolding tallyIn
+  pub held-malformed : all isEmpty (drop count l) ≡ false → Malformed ≡ countIn f l
+  unfolding countIn
   held-malformed e = rw (formed-rest ∙ e)
 
-  pub held-count : all isEmpty (drop count l) ≡ true → Holds count ≡ tallyIn f l
-  unfolding tallyIn
-  held-count e = rw (formed-rest ∙ e) (ap Holds c)
+  pub held-count : (next : ℕ) → next ≡ nextEnd (take count l) → all isEmpty (drop count l) ≡ true → Holds count next ≡ countIn f l
+  unfolding countIn
+  held-count next n e = rw (formed-rest ∙ e, n, c)

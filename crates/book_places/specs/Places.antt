@@ -1,14 +1,14 @@
 -- The 96 places of a book of commands. Document 01, "The book of commands": held orders fill the first places by ascending number; all other places are
 -- zero. Which orders may stand there, where a number stands, and what is left after a close.
 use Prim.Native.Nat.{ℕ, zero, suc, _+_}
-use Rattle.book_order.specs.Orders.{number, pastEnd, emptyOrder, isEmpty, couldHold}
+use Rattle.book_order.specs.Orders.{number, pastEnd, nextEnd, emptyOrder, isEmpty, couldHold}
 use Rattle.book_order.specs.declared.Order.{Order}
+use Rattle.book_places.specs.declared.Count.{Count}
+use Rattle.book_places.specs.declared.Count.the-variants.{Malformed, Holds}
 use Rattle.book_places.specs.declared.Kept.{Kept}
 use Rattle.book_places.specs.declared.Place.{Place}
 use Rattle.book_places.specs.declared.Place.the-variants.{At, Nothing}
 use Rattle.book_places.specs.declared.Seat.{Seat}
-use Rattle.book_places.specs.declared.Tally.{Tally}
-use Rattle.book_places.specs.declared.Tally.the-variants.{Malformed, Holds}
 use Rattle.book_shelf.specs.Shelf.{packed as packedIn, thing, between, rankOf, isHeldAt, keepAt}
 use Rattle.layout.specs.declared.Layout.the-variants.{Market}
 use Rattle.text.specs.Bytes.{all}
@@ -47,9 +47,9 @@ unfoldable pub leading : ℕ → ℕ → List Order → ℕ
 leading f lo [] = 0
 leading f lo (o ∷ l) = cond (fitsAfter f lo o) (suc (leading f (suc (o .number)) l)) 0
 
--- how many orders the places of a book with the floor f hold, unless they are malformed
-unfoldable pub tallyIn : ℕ → List Order → Tally
-tallyIn f l = cond (formedFrom f 0 l) (Holds (leading f 0 l)) Malformed
+-- how many orders the places of a book with the floor f hold, and when the next of them ends, unless they are malformed
+unfoldable pub countIn : ℕ → List Order → Count
+countIn f l = cond (formedFrom f 0 l) (Holds (leading f 0 l) (nextEnd (take (leading f 0 l) l))) Malformed
 
 -- ---- the seat of the number n among the places from..to: where it stands or would stand, and whether an order has it
 

@@ -2,15 +2,17 @@
 // places with an order put in or let go. What holds of places whatever stands there is in book_shelf.
 use book_order::Order;
 ghost use Prim.Native.Nat.{_≤_, _<_};
-ghost use Rattle.book_order.specs.Orders.{live};
-ghost use Rattle.book_places.specs.Places.{fitsAfter, tallyIn, seatIn, keptOf, placeOf};
+ghost use Rattle.book_lists.specs.Keyed.{sooner};
+ghost use Rattle.book_order.specs.Orders.{live, nextEnd};
+ghost use Rattle.book_places.specs.Places.{fitsAfter, countIn, seatIn, keptOf, placeOf};
 ghost use Rattle.book_shelf.specs.Shelf.{between, putIn, lastAt};
+ghost use lib.ListN.{take};
 ghost use mathlib.Core.Path.{_≡_};
 
-// How many orders the places hold, unless they are malformed.
-pub enum Tally {
+// How many orders the places hold, and when the next of them ends, unless they are malformed.
+pub enum Count {
     Malformed,
-    Holds(usize),
+    Holds(usize, u32),
 }
 
 // Where a number stands among the orders looked at, or would stand, and whether an order has it.
@@ -38,12 +40,26 @@ fn fits_after(floor: u32, least: u64, o: Order) -> bool
     (least <= o.number) & (floor < o.end) & book_order::could_hold(o)
 }
 
-// How many of the places hold orders, by ascending number, that fit a book with this floor, if those after them are empty. One look at the places for
-// both, since each look by a function of its own copies them.
-pub fn count_held(orders: [Order; 96], floor: u32) -> Tally
-    ensures { λ r. ⌜ r ≡ tallyIn floor orders ⌝ }
+// The earlier of two ends, of which 0 stands for none.
+pub fn sooner(a: u32, b: u32) -> u32
+    ensures { λ r. ⌜ r ≡ sooner a b ⌝ }
+{
+    if a == 0 {
+        return b;
+    }
+    if (b != 0) & (b < a) {
+        return b;
+    }
+    a
+}
+
+// How many of the places hold orders, by ascending number, that fit a book with this floor, if those after them are empty, and when the next of them ends.
+// One look at the places for all, since each look by a function of its own copies them.
+pub fn count_held(orders: [Order; 96], floor: u32) -> Count
+    ensures { λ r. ⌜ r ≡ countIn floor orders ⌝ }
 {
     let mut least: u64 = 0;
+    let mut next = 0;
     let mut count = 0;
     while count < 96 {
         let o = orders[count];
@@ -51,16 +67,34 @@ pub fn count_held(orders: [Order; 96], floor: u32) -> Tally
             break;
         }
         least = o.number + 1;
+        next = sooner(next, o.end);
         count += 1;
     }
     let mut i = count;
     while i < 96 {
         if !book_order::is_empty(orders[i]) {
-            return Tally::Malformed;
+            return Count::Malformed;
         }
         i += 1;
     }
-    Tally::Holds(count)
+    Count::Holds(count, next)
+}
+
+// When the next of the first `count` orders ends.
+pub fn next_end(orders: [Order; 96], count: usize) -> u32
+    ensures { λ r. ⌜ r ≡ nextEnd (take count orders) ⌝ }
+{
+    let mut next = 0;
+    let mut i = 0;
+    while i < 96 {
+        if i == count {
+            return next;
+        }
+        let o = orders[i];
+        next = sooner(next, o.end);
+        i += 1;
+    }
+    next
 }
 
 // The seat of a number among the orders from `from` up to `to`.

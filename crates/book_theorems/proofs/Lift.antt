@@ -3,6 +3,7 @@ use Prim.Native.Nat.{ℕ, zero, suc, _-_, _≤_}
 use Rattle.book_places.proofs.Empty.{zero-is, empty-dropped}
 use Rattle.book_places.proofs.Leading.{fits-past, fits-filled, fits-facts, kept-leading, leading-long}
 use Rattle.book_places.specs.Places.{fitsAfter, formedFrom, leading}
+use Rattle.book.proofs.Formed.{formed-tells}
 use Rattle.book.specs.Answers.{callNumber, nextOf, deedNumber, deedNext, deedOutcomeOf, found, askedOf}
 use Rattle.book.specs.Places.{bookOf, shelf, formedUnit, formedBook}
 use Rattle.book_lists.specs.Keyed.{keep}
@@ -10,7 +11,7 @@ use Rattle.book.specs.declared.Book.{Book}
 use Rattle.book_ledger.specs.Calls.{Call, ask, Deed, couldAsk}
 use Rattle.book_ledger.specs.Ledger.{Ledger, rungsOf, isFull, answer, effect, step, inForce}
 use Rattle.value_name.specs.Names.{isUnit}
-use Rattle.book_order.specs.Orders.{pastEnd, emptyOrder, isEmpty}
+use Rattle.book_order.specs.Orders.{pastEnd, nextEnd, emptyOrder, isEmpty}
 use Rattle.book_order.specs.declared.Order.{Order}
 use Rattle.book_theorems.proofs.Fitting.{Fitted, Fits, fits-deed}
 use Rattle.text.proofs.Tests.{by-test, and-parts}
@@ -23,7 +24,7 @@ use lib.ListN.{length, take, replicate, length-append, length-replicate, length-
 use lib.Seq.{take-append-seam, drop-append-seam}
 use mathlib.Core.Bool.{Bool, true}
 use mathlib.Core.List.{List, [], _∷_, _++_}
-use mathlib.Core.Path.{_≡_, refl, ap}
+use mathlib.Core.Path.{_≡_, refl, sym, ap}
 use native.Mathlib.Omega.{arith}
 
 -- ---- places that are filled with copies
@@ -63,10 +64,6 @@ unit-formed unit e =
 -- ---- such a book
 
 module _ (b : Ledger) (g : Fits b) where
-  pub formed : formedBook (bookOf b) ≡ true
-  unfolding formedBook bookOf
-  formed = rw (unit-formed (b .unit) (g .unit-good)) (orders-formed (b .floor) 0 (96 - length (b .orders)) (b .orders) (g .orders-fit))
-
   pub shelved : shelf (bookOf b) ≡ b
   unfolding shelf bookOf roomOf
   shelved = λ i. record {
@@ -74,6 +71,17 @@ module _ (b : Ledger) (g : Fits b) where
     floor = b .floor;
     orders = orders-kept (b .floor) 0 (96 - length (b .orders)) (b .orders) (g .orders-fit) i;
   }
+
+  pub formed : formedBook (bookOf b) ≡ true
+  unfolding bookOf
+  formed =
+      formed-tells (bookOf b) .1
+      (record {
+        unit-good = unit-formed (b .unit) (g .unit-good);
+        places-good = orders-formed (b .floor) 0 (96 - length (b .orders)) (b .orders) (g .orders-fit);
+        held-is = ap (λ (l : Ledger). length (l .orders)) (sym shelved);
+        next-is = ap (λ (l : Ledger). nextEnd (l .orders)) (sym shelved);
+      })
 
   -- it has 96 places, and its unit a room of 16 bytes
   pub sized : (length (bookOf b .orders) ≡ 96) × (length (bookOf b .unit) ≡ 16)
@@ -107,13 +115,13 @@ fitted-leading f lo (o ∷ l) =
     (λ e. rw e tt)
 
 pub formed-fits : (b : Book) → length (b .orders) ≡ 96 → formedBook b ≡ true → Fits (shelf b)
-unfolding formedBook formedUnit shelf
+unfolding formedUnit shelf
 formed-fits b h e =
     let f = b .floor in
     let l = b .orders in
-    let p = and-parts (formedUnit (b .size) (b .unit)) (formedFrom f 0 l) e in
-    let u = and-parts (leb (b .size) 16) _ (p .0) in
-    let kept = kept-leading f 0 l (p .1) in
+    let w = formed-tells b .0 e in
+    let u = and-parts (leb (b .size) 16) _ (w .unit-good) in
+    let kept = kept-leading f 0 l (w .places-good) in
     record {
       unit-good = and-parts (isUnit (take (b .size) (b .unit))) _ (u .1) .0;
       orders-fit = rw kept (fitted-leading f 0 l);

@@ -1,15 +1,20 @@
 -- Demand 3 of the book with its 96 places: the ledger's theorems, carried over. Assumes nothing.
-use Prim.Native.Nat.{ℕ, zero, suc, _≤_}
+use Prim.Native.Nat.{ℕ, zero, suc, _≤_, _<_}
 use Rattle.book.proofs.Formed.{shelf-book}
 use Rattle.book.specs.Answers.{callNumber, nextOf, deedNumber, deedNext, freshOf, found, foundNumber, askedAs, ofInForce, ofTally, askedOf}
-use Rattle.book.specs.Places.{shelf, zeroBook, formedUnit, formedBook, tallyOf}
+use Rattle.book.specs.Places.{bookOf, shelf, zeroBook, formedUnit, formedBook, tallyOf}
 use Rattle.book.specs.declared.Book.{Book}
 use Rattle.book_ledger.proofs.Agreement.{agreement, same-answer, same-in-force}
 use Rattle.book_ledger.proofs.ByCalls.{by-calls}
 use Rattle.book_ledger.proofs.Removal.{removal as ledger-removal, whole-answers as ledger-answers}
 use Rattle.book_ledger.specs.Calls.{Call, command, revoke, ask, Deed, deedOf, names}
 use Rattle.book_ledger.specs.Demand.{wantsPlace, whole, leftOut, found as foundAt, taken, met, struck, otherAnswers, Revoked, LeftOut}
-use Rattle.book_ledger.specs.History.{floorFrom, ledgerOf, inForceBy}
+use Rattle.book_ledger.specs.History.{floorFrom, takings, heldBy, ledgerOf, inForceBy}
+use Rattle.book_lists.proofs.Keeping.{All, all-kept, all-weaker}
+use Rattle.book_lists.proofs.Least.{least-sort}
+use Rattle.book_lists.proofs.Sorting.{length-sort}
+use Rattle.book_order.specs.Orders.{number, pastEnd, nextEnd}
+use Rattle.book_order.specs.declared.Order.{Order}
 use Rattle.book_ledger.specs.Keepers.{run, answers}
 use Rattle.book_ledger.specs.Ledger.{fresh, answer, inForce, ledgers, accepted}
 use Rattle.value_name.specs.Names.{isUnit}
@@ -21,7 +26,7 @@ use Rattle.book_theorems.specs.Books.{books, bookFor, after, history, Ke
 use Rattle.text.proofs.Tests.{by-test}
 use Rattle.text.specs.Bytes.{any}
 use Rattle.text.specs.Said.{said}
-use borrow.Author.Tests.{eqb-false, ne-eqb}
+use borrow.Author.Tests.{eqb-false, ltb-true, ne-eqb}
 use lib.Dec.{eqb}
 use lib.ListN.{length}
 use mathlib.Core.Bool.{true, false, cond}
@@ -57,6 +62,26 @@ kept-by-calls unit ks e t h =
     ap (λ (l : List Call). floorFrom 0 (map deedOf l)) (sym (same-accepted ks start)) in
     kept unit ks e .in-force-so t h
     ∙ ap found (by-calls t (history unit ks) (omega (arith, h, same-floor (carries-run ks start), agreement unit ks .floors, calls)))
+
+-- the panel's two numbers are those of the orders that the calls hold
+pub kept-panel : (unit : List ℕ) (ks : List Call) → isUnit unit ≡ true
+    → (after unit ks .held ≡ length (heldBy (history unit ks))) × (after unit ks .next ≡ nextEnd (heldBy (history unit ks)))
+unfolding bookOf
+kept-panel unit ks e =
+    let start = fresh-carries unit e in
+    let now = carries-run ks start .is-book in
+    let calls = ap (λ (l : List Call). heldBy (map deedOf l)) (sym (same-accepted ks start)) in
+    let orders = agreement unit ks .helds in
+    let held = heldBy (map deedOf (accepted ks (fresh unit))) in (
+      ap (λ (x : Book). x .held) now ∙ ap length orders ∙ length-sort number [] held ∙ omega (arith, ap length calls),
+      ap (λ (x : Book). x .next) now ∙ ap nextEnd orders ∙ least-sort number (λ (o : Order). o .end) held ∙ ap nextEnd calls,
+    )
+
+-- no order that is held ends at 0
+pub held-end : (h : List Deed) → All (λ (o : Order). 0 < o .end) (heldBy h)
+held-end h =
+    all-weaker (λ (o : Order). pastEnd (floorFrom 0 h) o ≡ true) (λ (o : Order). 0 < o .end)
+    (λ o e. omega (arith, ltb-true (floorFrom 0 h) (o .end) e)) (heldBy h) (all-kept (pastEnd (floorFrom 0 h)) (takings h))
 
 -- ---- for a bad unit the book is all zero, and every call refuses it
 

@@ -9,6 +9,7 @@ use crate::said;
 use book::Book;
 use book::InForce;
 use book::Outcome;
+use book::Panel;
 use reader::Answer;
 use record::Record;
 use said::say;
@@ -44,6 +45,26 @@ fn ask(b: Book, t: u32) -> Book {
     let answer = asked.answer;
     say_in_force(answer);
     asked.book
+}
+
+fn say_panel(p: Panel) {
+    match p {
+        Panel::Refused(number, detail) => say_code(number, detail),
+        Panel::Shows(held, next) => {
+            say(b"p:");
+            say_number(held as u64);
+            say(b":");
+            say_number(next as u64);
+        }
+    }
+}
+
+// `P`
+fn show(b: Book) -> Book {
+    let shown = b.panel();
+    let answer = shown.answer;
+    say_panel(answer);
+    shown.book
 }
 
 // `X:t`
@@ -137,6 +158,7 @@ fn answer(b: Book, line: &[u8], c: Call) -> Book {
         Act::Ask => ask(b, c.t),
         Act::Save => save(b, c.t),
         Act::Load => load(text_of(line, c.file)),
+        Act::Panel => show(b),
         Act::Unknown => not_called(b),
     }
 }

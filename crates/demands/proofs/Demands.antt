@@ -1,6 +1,6 @@
 -- THE THEOREMS: the three demands. Assumes nothing.
 use Prim.Native.Nat.{ℕ}
-use Rattle.book.specs.Answers.{freshOf, ofInForce, askedOf}
+use Rattle.book.specs.Answers.{freshOf, ofInForce, askedOf, shownOf}
 use Rattle.book_ledger.specs.History.{ledgerOf}
 use Rattle.book_ledger.specs.Ledger.{inForce}
 use Rattle.book_source.proofs.Given.{given-tells}
@@ -30,7 +30,7 @@ use mathlib.Core.List.{List}
 use mathlib.Core.Path.{_≡_, refl, ap, _∙_}
 
 pub demand-1 : Demand1
-unfolding askedOf
+unfolding askedOf shownOf
 demand-1 =
     record {
       code = meets;
@@ -49,6 +49,7 @@ demand-1 =
       refused-call = λ k b orders unit refused. refused-same k b refused orders unit;
       refused-deed = λ d b refused. deed-same d b refused;
       question = λ t b. refl;
+      panel = λ b. refl;
       refused-time = answers.refused-time;
     }
 

@@ -1,13 +1,13 @@
 -- THE THEOREM: request A6. Assumes nothing.
 use Prim.Native.Nat.{ℕ, _≤_}
-use Rattle.book.specs.Places.{shelf, formedUnit, formedBook}
+use Rattle.book.proofs.Formed.{formed-tells}
+use Rattle.book.specs.Places.{shelf, formedBook}
 use Rattle.book.specs.declared.Book.{Book}
 use Rattle.book_ledger.proofs.Strikes.{struck-exactly, strike-other}
 use Rattle.book_order.specs.Messages.{orderOf, strikeOf}
 use Rattle.book_order.specs.Orders.{timeOf, live, sticksOut, makesFive}
 use Rattle.book_order.specs.declared.Order.{Order}
 use Rattle.book_places.proofs.Leading.{formed-struck}
-use Rattle.book_places.specs.Places.{formedFrom}
 use Rattle.book_source.proofs.GivenStrikes.{strike-tells}
 use Rattle.book_stretch.proofs.Formed.{joined-formed, lies-exactly}
 use Rattle.book_stretch.specs.Stretches.{covers, lies, usedIn, formedIn, joined}
@@ -15,7 +15,7 @@ use Rattle.book_stretch.specs.declared.Stretch.{Stretch}
 use Rattle.book_theorems.proofs.Theorems.{kept-by-calls, removal}
 use Rattle.demands.specs.Request6.{Request6}
 use Rattle.saved.specs.Saved.{saveOf}
-use Rattle.text.proofs.Tests.{Tells, told, leb-tells, itself, _and_, and-parts}
+use Rattle.text.proofs.Tests.{Tells, told, leb-tells, itself, _and_}
 use Rattle.text.specs.Bytes.{all, any}
 use borrow.Author.Tests.{le-ltb, ltb-false, not-true, not-false}
 use lib.ListN.{length}
@@ -44,8 +44,8 @@ four c o =
     (λ e. ltb-false 4 n e, λ h. le-ltb 4 n h)
 
 formed : (b : Book) → formedBook b ≡ true → all (λ (o : Order). formedIn (timeOf o) (o .struck)) (shelf b .orders) ≡ true
-unfolding formedBook shelf
-formed b e = formed-struck (b .floor) 0 (b .orders) (and-parts (formedUnit (b .size) (b .unit)) (formedFrom (b .floor) 0 (b .orders)) e .1)
+unfolding shelf
+formed b e = formed-struck (b .floor) 0 (b .orders) (formed-tells b .0 e .places-good)
 
 pub request-6 : Request6
 unfolding strikeOf saveOf

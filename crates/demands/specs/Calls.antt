@@ -48,6 +48,7 @@ pub record Calls : Type 0 where
   pub book-revoke : Answers book.Book.revoke.ended book.Book.revoke.Reads.Asked book.Book.revoke.Reads.Learnt
   pub book-close : Answers book.Book.close.ended book.Book.close.Reads.Asked book.Book.close.Reads.Learnt
   pub book-in-force : Answers book.Book.in_force.ended book.Book.in_force.Reads.Asked book.Book.in_force.Reads.Learnt
+  pub book-panel : Answers book.Book.panel.ended book.Book.panel.Reads.Asked book.Book.panel.Reads.Learnt
   pub book-with : Answers book.with.ended book.with.Reads.Asked book.with.Reads.Learnt
   pub book-hold : Answers book.Book.hold.ended book.Book.hold.Reads.Asked book.Book.hold.Reads.Learnt
   pub book-strike : Answers book.Book.strike.ended book.Book.strike.Reads.Asked book.Book.strike.Reads.Learnt
@@ -102,6 +103,7 @@ pub record Meets : Type 2 where
   pub book-revoke : (M : Type 1) → book.Book.revoke.Statement.statement M
   pub book-close : (M : Type 1) → book.Book.close.Statement.statement M
   pub book-in-force : (M : Type 1) → book.Book.in_force.Statement.statement M
+  pub book-panel : (M : Type 1) → book.Book.panel.Statement.statement M
   pub book-with : (M : Type 1) → book.with.Statement.statement M
   pub book-hold : (M : Type 1) → book.Book.hold.Statement.statement M
   pub book-strike : (M : Type 1) → book.Book.strike.Statement.statement M

@@ -2,10 +2,11 @@
 -- exit in order; κs are lifetimes. (`Learnt` is what the toolchain makes of a contract for its callers: text/specs/Shapes.antt)
 use Prim.Native.Nat.{ℕ}
 use Rattle.book.proofs as book
-use Rattle.book.specs.Answers.{outcomeOf, deedOutcomeOf, freshOf, askedOf}
+use Rattle.book.specs.Answers.{outcomeOf, deedOutcomeOf, freshOf, askedOf, shownOf}
 use Rattle.book.specs.declared.Asked.{Asked}
 use Rattle.book.specs.declared.Book.{Book}
 use Rattle.book.specs.declared.Outcome.{Outcome}
+use Rattle.book.specs.declared.Shown.{Shown}
 use Rattle.report_brief.specs.Brief.{sixLines}
 use Rattle.gateway.proofs as gateway
 use Rattle.gateway.specs.Collecting.{collectCode}
@@ -89,6 +90,7 @@ pub record Contracts : Type 0 where
   pub revokes : (κs : _) (b : Book) (r : Record) (z : Outcome) (e : _) → book.Book.revoke.Reads.Learnt κs (b, (r, tt)) z e → z ≡ outcomeOf (revoke r) b
   pub closes : (κs : _) (b : Book) (t : ℕ) (z : Outcome) (e : _) → book.Book.close.Reads.Learnt κs (b, (t, tt)) z e → z ≡ outcomeOf (close t) b
   pub in-force : (κs : _) (b : Book) (t : ℕ) (z : Asked) (e : _) → book.Book.in_force.Reads.Learnt κs (b, (t, tt)) z e → z ≡ askedOf t b
+  pub panel : (κs : _) (b : Book) (z : Shown) (e : _) → book.Book.panel.Reads.Learnt κs (b, tt) z e → z ≡ shownOf b
   pub holds : (κs : _) (b : Book) (o : Order) (z : Outcome) (e : _) → book.Book.hold.Reads.Learnt κs (b, (o, tt)) z e → z ≡ deedOutcomeOf (hold o) b
   pub strikes : (κs : _) (b : Book) (n : ℕ) (c : Stretch) (z : Outcome) (e : _)
       → book.Book.strike.Reads.Learnt κs (b, (n, (c, tt))) z e

@@ -1,7 +1,7 @@
 -- Demand 1, sentence by sentence, over the definitions that the contracts name. (`IsFirst`, a refusal that is the first of a list to hold, is in
 -- reader/specs/Refusals.antt; `ofWritten`, `ofWrote`, `ofTime`, what an answer that is an enum says, stand beside their enums' definitions)
 use Prim.Native.Nat.{ℕ, _≤_, _<_}
-use Rattle.book.specs.Answers.{outcomeOf, deedOutcomeOf, askedOf}
+use Rattle.book.specs.Answers.{outcomeOf, deedOutcomeOf, askedOf, shownOf}
 use Rattle.book.specs.declared.Book.{Book}
 use Rattle.report_brief.specs.Brief.{sixLines}
 use Rattle.demands.specs.Calls.{Calls, Meets}
@@ -67,10 +67,12 @@ pub record Demand1 : Type 2 where
   pub refused-value : (out : List ℕ) (at : ℕ) (text : List ℕ) → (ofWrote (wroteOf out at text) .number ≡ 0 → ⊥) → bufferOf out at text ≡ out
   pub refused-read-entry : Leaves sixLines
   pub refused-normalise-entry : Leaves fileOf
-  -- "A refused book call hands the same book back." Of every book of the code, whose rooms have these sizes; the question hands it back in any case
+  -- "A refused book call hands the same book back." Of every book of the code, whose rooms have these sizes; the question and the panel
+  -- hand it back in any case
   pub refused-call : (k : Call) (b : Book) → length (b .orders) ≡ 96 → length (b .unit) ≡ 16 → (outcomeOf k b .number ≡ 0 → ⊥) → outcomeOf k b .book ≡ b
   pub refused-deed : (d : Deed) (b : Book) → (deedOutcomeOf d b .number ≡ 0 → ⊥) → deedOutcomeOf d b .book ≡ b
   pub question : (t : ℕ) (b : Book) → askedOf t b .book ≡ b
+  pub panel : (b : Book) → shownOf b .book ≡ b
   -- The times: "A refusal gives an empty part, which no value is"
   pub refused-time : (w : Which) (ca ioa : ℕ) (plan file sheet : List ℕ)
       → (ofTime file sheet (timeOf w ca ioa plan file sheet) .number ≡ 0 → ⊥) ↔ ofTime file sheet (timeOf w ca ioa plan file sheet) .values ≡ []

@@ -199,6 +199,8 @@ pub record Within : Type 0 where
   pub record-rules-lowest-of : Answers record-rules.lowest_of.ended record-rules.lowest_of.Reads.Asked record-rules.lowest_of.Reads.Learnt
   -- book_places
   pub book-places-count-held : Answers book_places.count_held.ended book_places.count_held.Reads.Asked book_places.count_held.Reads.Learnt
+  pub book-places-sooner : Answers book_places.sooner.ended book_places.sooner.Reads.Asked book_places.sooner.Reads.Learnt
+  pub book-places-next-end : Answers book_places.next_end.ended book_places.next_end.Reads.Asked book_places.next_end.Reads.Learnt
   pub book-places-seat-of : OneResult book_places.seat_of.ended book_places.seat_of.Reads.Learnt
   pub book-places-put-in : OneResult book_places.put_in.ended book_places.put_in.Reads.Learnt
   pub book-places-keep-past : OneResult book_places.keep_past.ended book_places.keep_past.Reads.Learnt

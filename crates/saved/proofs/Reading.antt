@@ -4,7 +4,7 @@ use Rattle.book.specs.Answers.{outcome}
 use Rattle.book.specs.Places.{bookOf, bookWith, bookFrom}
 use Rattle.book.specs.declared.Book.{Book}
 use Rattle.book_ledger.specs.Ledger.{Ledger}
-use Rattle.book_order.specs.Orders.{emptyOrder}
+use Rattle.book_order.specs.Orders.{nextEnd, emptyOrder}
 use Rattle.book_order.specs.declared.Order.{Order}
 use Rattle.book_places.specs.Places.{packed}
 use Rattle.saved.proofs.Ordering.{said-fits}
@@ -218,12 +218,14 @@ module _ (h : Head) (s : List ℕ) where
       unfolding readRest
       too-many n = rw (all-read, ne-eqb (length rest) 0 n)
 
-      pub all-there : length rest ≡ 0 → (unit : List ℕ) → unit ≡ take (h .size) (h .unit) → (b : Book) → b ≡ bookFrom unit (h .floor) orders
-          → length unit ≤ 16 → record { number = 0; detail = 0; book = b } ≡ readAs (readBelow h (drop (h .end) s))
+      pub all-there : length rest ≡ 0 → (unit : List ℕ) → unit ≡ take (h .size) (h .unit) → (b : Book) → b ≡ bookFrom unit (h .floor) count orders
+          → length unit ≤ 16 → h .count ≤ 96 → record { number = 0; detail = 0; book = b } ≡ readAs (readBelow h (drop (h .end) s))
       unfolding readRest bookFrom bookOf keptIn
-      all-there y unit u b e k =
+      all-there y unit u b e k most =
           let l : Ledger = record { unit = unit; floor = h .floor; orders = take count orders } in
-          let kept : bookFrom unit (h .floor) orders ≡ bookOf l =
-          rw (le-leb (length unit) 16 k) (λ i. bookWith (length unit) (roomOf 16 unit) (h .floor) (g .room i)) in
+          let many : length (take count orders) ≡ count = length-take-le count orders (omega (arith, g .few, g .long, most)) in
+          let kept : bookFrom unit (h .floor) count orders ≡ bookOf l =
+          rw (le-leb (length unit) 16 k)
+          (λ i. bookWith (length unit) (roomOf 16 unit) (h .floor) (sym many i) (nextEnd (take count orders)) (g .room i)) in
           let is : readAs (readBelow h (drop (h .end) s)) ≡ outcome 0 (bookOf l) = rw (all-read, eq-eqb (length rest) 0 y, sym u) in
           ap (outcome 0) (e ∙ kept) ∙ sym is

@@ -1,12 +1,13 @@
 -- The text of a book, put line by line: an order's, those above the orders, and the loop over the orders. Assumes nothing.
 use Prim.Native.Nat.{ℕ, zero, suc, _+_, _*_, _≤_, _<_}
+use Rattle.book.proofs.Formed.{formed-tells}
 use Rattle.book.proofs.Holding.{Holding}
-use Rattle.book.specs.Places.{shelf, formedUnit, formedBook}
+use Rattle.book.specs.Places.{shelf}
 use Rattle.book.specs.declared.Book.{Book}
 use Rattle.book_order.specs.Orders.{couldCome}
 use Rattle.book_order.specs.declared.Order.{Order}
 use Rattle.book_places.proofs.Leading.{fits-facts, leading-long, kept-leading}
-use Rattle.book_places.specs.Places.{pastOrder, orderAt, fitsAfter, formedFrom, leading}
+use Rattle.book_places.specs.Places.{pastOrder, orderAt, fitsAfter, leading}
 use Rattle.saved.proofs.Valued.{seven-first, small-room}
 use Rattle.saved.specs.Orders.{valuesOf}
 use Rattle.saved.specs.Saved.{nothing, orderText, ordersText, headText, textOf}
@@ -16,7 +17,7 @@ use Rattle.saved_lines.specs.Tables.{nextOf}
 use Rattle.saved_lines.specs.Values.{Small}
 use Rattle.saved_lines.specs.declared.Table.the-variants.{Form, Head as HeadTable, Order as OrderTable}
 use Rattle.text.proofs.Runs.{Run, puts, puts-none, then, same-puts}
-use Rattle.text.proofs.Tests.{by-test, and-parts}
+use Rattle.text.proofs.Tests.{by-test}
 use Rattle.text.specs.Bytes.{bytes}
 use Rattle.text.specs.Puts.{limit, Puts, roomOf}
 use Rattle.text_keyline.proofs.Putting.{line-length}
@@ -111,12 +112,11 @@ module _ (b : Book) (count : ℕ) (held : Holding b count) where
   size = length-take-le count (b .orders) (omega (arith, held .few, held .size .long))
 
   all-leading : count ≡ leading (b .floor) 0 (b .orders)
-  unfolding shelf formedBook
+  unfolding shelf
   all-leading =
       let n = leading (b .floor) 0 (b .orders) in
-      let q = and-parts (formedUnit (b .size) (b .unit)) (formedFrom (b .floor) 0 (b .orders)) (held .formed) in
       sym size
-      ∙ ap length (sym (held .held) ∙ kept-leading (b .floor) 0 (b .orders) (q .1))
+      ∙ ap length (sym (held .held) ∙ kept-leading (b .floor) 0 (b .orders) (formed-tells b .0 (held .formed) .places-good))
       ∙ length-take-le n (b .orders) (leading-long (b .floor) 0 (b .orders))
 
   pub order-come : (i : ℕ) → i < count → couldCome (orderAt i (b .orders)) ≡ true

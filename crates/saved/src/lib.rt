@@ -4,8 +4,8 @@ mod puts;
 
 use book::Book;
 use book::Outcome;
+use book::Tally;
 use book_order::Order;
-use book_places::Tally;
 use saved_lines::Above;
 use saved_lines::NOTHING;
 use saved_lines::Table;
@@ -161,7 +161,7 @@ fn read_below(h: Head, s: &[u8]) -> Outcome
     Outcome {
         number: 0,
         detail: 0,
-        book: book::with(scan::front(&unit, h.size), h.floor, orders),
+        book: book::with(scan::front(&unit, h.size), h.floor, count, orders),
     }
 }
 

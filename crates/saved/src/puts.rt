@@ -8,7 +8,7 @@ use text::scan;
 ghost use Prim.Native.Nat.{_+_, _*_, _≤_, _<_};
 ghost use Rattle.book.specs.Places.{tallyOf, shelf};
 ghost use Rattle.book_order.specs.Orders.{couldCome};
-ghost use Rattle.book_places.specs.declared.Tally.{Tally};
+ghost use Rattle.book.specs.declared.Tally.{Tally};
 ghost use Rattle.saved.specs.Saved.{orderText, headText, textOf};
 ghost use Rattle.text.specs.Puts.{limit, Puts};
 ghost use lib.ListN.{length, take};

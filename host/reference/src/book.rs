@@ -4,6 +4,10 @@
 //! known by its end, 0, which no order has; number 0 is a number like others.
 //! Each call judges the whole book first (20): fields are public, and the book
 //! comes from outside.
+//!
+//! How many orders are held and when the next one ends stand in the book (document
+//! 02, A7). The calls that put orders in or drop them keep both; every call judges
+//! them by the orders.
 
 use crate::record::{Body, Record};
 use crate::stretches::{Stretch, Struck};
@@ -75,16 +79,27 @@ impl Order {
     }
 }
 
+/// What the panel shows.
+#[derive(Clone, Copy, Debug, PartialEq, Eq)]
+pub struct Panel {
+    pub held: usize,
+    pub next_end: u32,
+}
+
 #[derive(Clone, Copy, Debug, PartialEq, Eq)]
 pub struct Book {
     pub unit: Unit,
     pub floor: u32,
+    /// How many orders are held, struck or not.
+    pub held: usize,
+    /// The least end of those held, struck or not; 0 where none is.
+    pub next_end: u32,
     pub orders: [Order; PLACES],
 }
 
 impl Book {
     /// The all-zero book, which every call refuses: its unit is bad.
-    pub const ZERO: Book = Book { unit: Unit::EMPTY, floor: 0, orders: [Order::EMPTY; PLACES] };
+    pub const ZERO: Book = Book { unit: Unit::EMPTY, floor: 0, held: 0, next_end: 0, orders: [Order::EMPTY; PLACES] };
 
     /// A fresh book for a unit; a bad unit code is refused 21 and gives the zero book.
     pub fn fresh(unit: &[u8]) -> (Book, Result<(), Refusal>) {
@@ -118,34 +133,39 @@ impl Book {
         (self, answer)
     }
 
+    /// How many orders are held, and when the next one ends.
+    pub fn panel(self) -> (Book, Result<Panel, Refusal>) {
+        let answer = self.shown();
+        (self, answer)
+    }
+
     /// [`Book::command`] in place; a refusal leaves the book as it was.
     pub fn hold(&mut self, record: &Record) -> Result<(), Refusal> {
-        let held = self.judge(record)?;
+        self.judge(record)?;
         let order = order_of(record).ok_or(Refusal::plain(29))?;
         self.same_unit(record)?;
         if order.end <= self.floor {
             return Err(Refusal::plain(23));
         }
-        let place = match self.orders[..held].binary_search_by_key(&order.number, |order| order.number) {
+        let place = match self.orders[..self.held].binary_search_by_key(&order.number, |order| order.number) {
             Ok(_) => return Err(Refusal::plain(22)),
-            Err(_) if held == PLACES => return Err(Refusal::plain(24)),
+            Err(_) if self.held == PLACES => return Err(Refusal::plain(24)),
             Err(place) => place,
         };
-        self.orders.copy_within(place..held, place + 1);
-        self.orders[place] = order;
+        self.put_in(place, order);
         Ok(())
     }
 
     /// [`Book::revoke`] in place. The sequence names the order, not the revocation's own
     /// number. A stretch that sticks out of the order is refused, not cut; the floor is
-    /// not asked.
+    /// not asked. The order stays held with its end, so the panel's numbers stay too.
     pub fn strike(&mut self, record: &Record) -> Result<(), Refusal> {
-        let held = self.judge(record)?;
+        self.judge(record)?;
         let Body::Revocation { span, sequence } = record.body else {
             return Err(Refusal::plain(29));
         };
         self.same_unit(record)?;
-        let place = self.orders[..held]
+        let place = self.orders[..self.held]
             .binary_search_by_key(&sequence, |order| order.number)
             .map_err(|_| Refusal::plain(25))?;
         let order = &mut self.orders[place];
@@ -162,38 +182,64 @@ impl Book {
 
     /// [`Book::close`] in place.
     pub fn close_at(&mut self, t: u32) -> Result<(), Refusal> {
-        let held = self.held()?;
+        self.formed()?;
         if t < self.floor {
             return Err(Refusal::plain(27));
         }
         self.floor = t;
-        let mut kept = 0;
-        for place in 0..held {
-            let order = self.orders[place];
-            if order.end > t {
-                self.orders[kept] = order;
-                kept += 1;
-            }
+        // Up to the next end no order goes, so the places stay as they are.
+        if self.next_end <= t {
+            self.drop_ended(t);
         }
-        self.orders[kept..held].fill(Order::EMPTY);
         Ok(())
     }
 
     /// [`Book::in_force`] on a lent book.
     pub fn in_force_at(&self, t: u32) -> Result<Option<u64>, Refusal> {
-        let held = self.held()?;
+        let orders = self.formed()?;
         if t < self.floor {
             return Err(Refusal::plain(28));
         }
         // Numbers ascend, so the last that fits is the greatest.
-        Ok(self.orders[..held].iter().rev().find(|order| order.is_in_force(t)).map(|order| order.number))
+        Ok(orders.iter().rev().find(|order| order.is_in_force(t)).map(|order| order.number))
     }
 
-    /// The first two refusals of a command or revocation; gives the count of held orders.
-    fn judge(&self, record: &Record) -> Result<usize, Refusal> {
-        let held = self.held()?;
+    /// [`Book::panel`] on a lent book.
+    pub fn shown(&self) -> Result<Panel, Refusal> {
+        self.formed()?;
+        Ok(Panel { held: self.held, next_end: self.next_end })
+    }
+
+    /// Puts an order in at its place; those from there on move up. There is room.
+    pub(crate) fn put_in(&mut self, place: usize, order: Order) {
+        self.orders.copy_within(place..self.held, place + 1);
+        self.orders[place] = order;
+        self.held += 1;
+        self.next_end = sooner(self.next_end, order.end);
+    }
+
+    /// Orders that end by `t` go, the others move down. The next end is that of the
+    /// kept ones: the one that stood there has gone.
+    fn drop_ended(&mut self, t: u32) {
+        let (mut kept, mut next_end) = (0, 0);
+        for place in 0..self.held {
+            let order = self.orders[place];
+            if order.end > t {
+                self.orders[kept] = order;
+                kept += 1;
+                next_end = sooner(next_end, order.end);
+            }
+        }
+        self.orders[kept..self.held].fill(Order::EMPTY);
+        self.held = kept;
+        self.next_end = next_end;
+    }
+
+    /// The first two refusals of a command or revocation.
+    fn judge(&self, record: &Record) -> Result<(), Refusal> {
+        self.formed()?;
         if valid::is_valid(record) {
-            Ok(held)
+            Ok(())
         } else {
             Err(Refusal::plain(12))
         }
@@ -207,8 +253,9 @@ impl Book {
         }
     }
 
-    /// How many orders are held, or 20 if the book is malformed.
-    pub(crate) fn held(&self) -> Result<usize, Refusal> {
+    /// The held orders, or 20 if the book is malformed. They are found by the places and
+    /// not by the two stored numbers, which are judged by them.
+    pub(crate) fn formed(&self) -> Result<&[Order], Refusal> {
         let mut held = 0;
         let mut least = 0; // the next number may not be below this
         let mut well = valid::unit(&self.unit);
@@ -221,12 +268,28 @@ impl Book {
             least = order.number.saturating_add(1);
             held += 1;
         }
-        well &= self.orders[held..].iter().all(|place| *place == Order::EMPTY);
+        let (orders, rest) = self.orders.split_at(held);
+        well &= rest.iter().all(|place| *place == Order::EMPTY);
+        well &= self.held == held && self.next_end == least_end(orders);
         if well {
-            Ok(held)
+            Ok(orders)
         } else {
             Err(Refusal::plain(20))
         }
+    }
+}
+
+/// When the next of these ends; 0 where there is none.
+fn least_end(orders: &[Order]) -> u32 {
+    orders.iter().map(|order| order.end).min().unwrap_or(0)
+}
+
+/// The next end with one order more; 0 says that there was none.
+fn sooner(next_end: u32, end: u32) -> u32 {
+    if next_end == 0 {
+        end
+    } else {
+        next_end.min(end)
     }
 }
 

@@ -1,7 +1,7 @@
 //! Messages of Annex A.34 Rev. 10, read, written and booked as document 01 says,
 //! with requests A1 (accented labels and the short VMAX), A2 (files from their
-//! segments), A4 (a book over a restart), A5 (profiles with fewer than 24 values) and
-//! A6 (a revocation for part of the time) of document 02.
+//! segments), A4 (a book over a restart), A5 (profiles with fewer than 24 values), A6 (a
+//! revocation for part of the time) and A7 (the panel's two numbers) of document 02.
 //!
 //! The path of a file: [`plan`] gives the type and unit of the address, [`lines`]
 //! walks the file once and finds where each value lies, [`fields`] turns the
@@ -40,7 +40,7 @@ pub mod values;
 pub mod words;
 pub mod writer;
 
-pub use book::{Book, Order};
+pub use book::{Book, Order, Panel};
 pub use collect::{Collector, Heard};
 pub use entries::{normalise_entry, read_entry};
 pub use normaliser::normalise;

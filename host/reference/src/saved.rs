@@ -1,7 +1,8 @@
 //! A book as text, over a restart (document 02, A4): `key=value` lines in fixed
 //! order, each ended by LF. A line is judged with those above it, and the first bad
 //! one is told. Form 1 says of an order only whether it is struck, all of it or none,
-//! so a book with an order that is struck in part has no text (A6).
+//! so a book with an order that is struck in part has no text (A6). The panel's numbers
+//! (A7) are not in it: they come with the orders that are read.
 
 use crate::book::{Book, CommandLayout, Order, FIRST_INSTANT, LAST_INSTANT, PLACES};
 use crate::stretches::{Stretch, Struck};
@@ -14,8 +15,8 @@ const MOST_AMOUNT: u64 = 999_999_999;
 /// Writes the book's text where `out` begins, and gives its length. 20, then 52 where
 /// an order is struck in part, then 11 with the length needed; a refusal changes no byte.
 pub fn save(book: &Book, out: &mut [u8]) -> Result<usize, Refusal> {
-    let held = book.held()?;
-    let text = text_of(book, held).ok_or(Refusal::plain(52))?;
+    let orders = book.formed()?;
+    let text = text_of(book, orders).ok_or(Refusal::plain(52))?;
     match out.get_mut(..text.len()) {
         Some(room) => room.copy_from_slice(&text),
         None => return Err(Refusal::new(11, text.len() as u32)),
@@ -33,13 +34,13 @@ pub fn load(text: &[u8]) -> (Book, Result<(), Refusal>) {
 }
 
 /// None where an order is struck in part.
-fn text_of(book: &Book, held: usize) -> Option<Vec<u8>> {
+fn text_of(book: &Book, orders: &[Order]) -> Option<Vec<u8>> {
     let mut text = Vec::new();
     put(&mut text, "form", &1);
     put(&mut text, "unit", &String::from_utf8_lossy(book.unit.get()));
     put(&mut text, "floor", &book.floor);
-    put(&mut text, "count", &held);
-    for order in &book.orders[..held] {
+    put(&mut text, "count", &orders.len());
+    for order in orders {
         put(&mut text, "number", &order.number);
         put(&mut text, "kind", &if order.layout == CommandLayout::Market { 'M' } else { 'F' });
         put(&mut text, "start", &order.start);
@@ -82,7 +83,7 @@ impl<'a> Lines<'a> {
         for place in 0..count as usize {
             let order = self.order(least, floor)?;
             least = order.number + 1;
-            book.orders[place] = order;
+            book.put_in(place, order);
         }
         if self.rest.is_empty() {
             return Some(book);

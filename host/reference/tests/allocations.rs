@@ -43,10 +43,11 @@ fn none() {
         assert!(normalise_entry(7, 300, plan, file, &mut out[..9]) >= 65_536);
         let record = read(7, 300, plan, file).unwrap();
         assert!(write(&record, &mut out).is_ok());
-        book = book.command(&record).0.revoke(&record).0.close(1).0.in_force(1).0;
+        book = book.command(&record).0.revoke(&record).0.close(1).0.in_force(1).0.panel().0;
     }
     assert!(normalise_entry(7, 300, plans[QR].as_bytes(), &accented, &mut out) < 65_536);
     assert!(normalise_entry(7, 300, plans[VQ].as_bytes(), &accented, &mut out) >> 16 == 3);
     assert_ne!(book.orders[0].struck, stretches::Struck::NOTHING);
+    assert!(book.held > 1);
     assert_eq!(COUNT.load(Ordering::Relaxed), before);
 }

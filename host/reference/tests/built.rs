@@ -141,7 +141,23 @@ fn is_malformed(book: Book) {
     assert_eq!(book.revoke(&sample(RC)), (book, Err(bad)));
     assert_eq!(book.close(5), (book, Err(bad)));
     assert_eq!(book.in_force(5), (book, Err(bad)));
+    assert_eq!(book.panel(), (book, Err(bad)));
     assert_eq!(saved::save(&book, &mut []), Err(bad));
+}
+
+/// The book with both of the panel's numbers as its first places, up to an empty one,
+/// have them.
+fn numbered(mut book: Book) -> Book {
+    let ends = || book.orders.iter().map(|order| order.end).take_while(|&end| end != 0);
+    (book.held, book.next_end) = (ends().count(), ends().min().unwrap_or(0));
+    book
+}
+
+/// A book with one thing wrong, the panel's numbers aside: with those that the orders
+/// had, and with those that they have.
+fn is_malformed_by_its_orders(book: Book) {
+    is_malformed(book);
+    is_malformed(numbered(book));
 }
 
 #[test]
@@ -150,7 +166,7 @@ fn malformed_books() {
         let mut book = held();
         assert!(book.in_force(0).1.is_ok());
         spoil(&mut book);
-        is_malformed(book);
+        is_malformed_by_its_orders(book);
     };
     spoilt(|book| *book = Book::ZERO);
     spoilt(|book| *book = Book::fresh(b"A-B").0);
@@ -177,7 +193,46 @@ fn malformed_books() {
     book.orders[2].end = book.orders[2].start + 2;
     book.orders[0].start = 31_615_200;
     book.orders[0].end = 3_155_756_399;
-    assert!(book.in_force(0).1.is_ok());
+    is_malformed(book);
+    assert!(numbered(book).in_force(0).1.is_ok());
+}
+
+/// A7: the two numbers are those of the held orders.
+#[test]
+fn wrong_panel_numbers() {
+    let spoilt = |book: Book, spoil: fn(&mut Book)| {
+        assert_eq!(numbered(book), book);
+        assert!(book.panel().1.is_ok());
+        let mut wrong = book;
+        spoil(&mut wrong);
+        is_malformed(wrong);
+        assert!(numbered(wrong).panel().1.is_ok()); // nothing else is wrong
+    };
+    let fresh = Book::fresh(b"UP_PROVA_1").0;
+    let four = held();
+    assert_eq!((four.held, four.next_end), (4, four.orders[2].end));
+    assert!(four.next_end < four.orders[0].end);
+    for book in [four, fresh] {
+        spoilt(book, |book| book.held += 1);
+        spoilt(book, |book| book.held = 96);
+        spoilt(book, |book| book.held = 97);
+        spoilt(book, |book| book.held = usize::MAX);
+        spoilt(book, |book| book.next_end += 1);
+        spoilt(book, |book| book.next_end = u32::MAX);
+    }
+    spoilt(four, |book| book.held -= 1);
+    spoilt(four, |book| book.held = 0);
+    spoilt(four, |book| book.next_end -= 1);
+    spoilt(four, |book| book.next_end = 0);
+    spoilt(four, |book| book.next_end = book.orders[0].end); // not the least
+    spoilt(four, |book| book.next_end = book.orders[2].start);
+    spoilt(four, |book| (book.held, book.next_end) = (0, 0));
+    // other orders, the numbers as they were
+    spoilt(four, |book| book.orders[3] = Order::EMPTY);
+    spoilt(fresh, |book| book.orders = held().orders);
+    spoilt(four, |book| (0..4).for_each(|place| book.orders[place].end += 1));
+    // nothing held ends with the floor
+    spoilt(fresh.close(5).0, |book| book.next_end = 5);
 }
 
 /// A6: stretches that no revocations leave, of the first order; in seconds after its start.
@@ -205,7 +260,7 @@ fn malformed_stretches() {
     let spoilt = |spoil: fn(&mut Order)| {
         let mut book = struck(&[(10, 20), (30, 40)]);
         spoil(&mut book.orders[0]);
-        is_malformed(book);
+        is_malformed_by_its_orders(book);
     };
     spoilt(|order| order.struck.0[0].from = order.start - 1);
     spoilt(|order| order.struck.0[0] = Stretch::UNUSED); // the first places are filled

@@ -3,39 +3,14 @@
 
 mod common;
 
-use common::*;
-use halimpung_reference::dates::Date;
-use halimpung_reference::record::Span;
+use common::orders::*;
 use halimpung_reference::stretches::Stretch;
 use halimpung_reference::*;
 
-/// 15-01-2025 10:00:00 S.
-const T: u32 = 790_246_800;
 const NUMBER: u64 = 17;
-const HOUR: u32 = 3_600;
-
-/// From so many seconds after T to so many.
-fn span(from: u32, to: u32) -> Span {
-    let [start, end] = [from, to].map(|passed| {
-        let text = format!("15-01-2025 {:02}:{:02}:{:02} S", 10 + passed / HOUR, passed / 60 % 60, passed % 60);
-        Date::read(text.as_bytes()).unwrap()
-    });
-    assert_eq!((start.instant(), end.instant()), (T + from, T + to));
-    Span { start, end }
-}
-
-fn command(number: u64, from: u32, to: u32) -> Record {
-    let mut record = read_as(MARKET, SAMPLES[MARKET].1).unwrap();
-    record.number = number;
-    let Body::Market(order) = &mut record.body else { unreachable!() };
-    order.span = span(from, to);
-    record
-}
 
 fn revocation(from: u32, to: u32) -> Record {
-    let mut record = read_as(RC, SAMPLES[RC].1).unwrap();
-    record.body = Body::Revocation { span: span(from, to), sequence: NUMBER };
-    record
+    revocation_of(NUMBER, from, to)
 }
 
 /// A book that holds NUMBER, alone.

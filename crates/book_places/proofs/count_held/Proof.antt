@@ -1,6 +1,7 @@
--- What is counted, with what leads from here on, is what leads; then all after the counted ones are empty where all that are left are.
-use Prim.Native.Nat.{ℕ, _+_, _-_, _<_}
-use Rattle.book_order.specs.Orders.{isEmpty}
+-- The counted ones, with what leads from here on, are what leads, and `next` is their next end; then all after them are empty where all that are left are.
+use Prim.Native.Nat.{_+_, _-_, _<_}
+use Rattle.book_order.specs.Orders.{nextEnd, isEmpty}
+use Rattle.book_places.proofs.Ends.{next-on}
 use Rattle.book_places.proofs.Leading.{fits-small, counted-on, counted-here, counted-all, counted-none, held-malformed, held-count}
 use Rattle.book_places.proofs.count_held.Statement.{statement}
 use Rattle.book_places.proofs.count_held.Tie as tie
@@ -9,26 +10,28 @@ use Rattle.text.proofs.Cuts.{all-here, all-on, all-end}
 use Rattle.text.specs.Bytes.{all}
 use borrow.Author.Needs.{needs}
 use borrow.Author.Tests.{not-true, not-false}
-use lib.ListN.{length, drop}
+use lib.ListN.{length, take, drop}
 use mathlib.Core.Bool.{true}
 use mathlib.Core.Logic.{⊎-elim}
 use mathlib.Core.Path.{_≡_, refl, sym, _∙_}
 use native.Mathlib.Omega.{arith}
 
 abbrev Inv-loop : tie.InvT-loop
-Inv-loop floor orders least₀ count₀ least count = count + leading floor least (drop count orders) ≡ leading floor 0 orders
+Inv-loop floor orders least₀ next₀ count₀ least next count =
+    (count + leading floor least (drop count orders) ≡ leading floor 0 orders) × (next ≡ nextEnd (take count orders))
 
 abbrev μ-loop : tie.MeasureT-loop
-μ-loop floor orders least₀ count₀ least count = 96 - count
+μ-loop floor orders least₀ next₀ count₀ least next count = 96 - count
 
 abbrev Inv-loop2 : tie.InvT-loop2
-Inv-loop2 floor orders least count i₀ i = (count ≡ leading floor 0 orders) × (all isEmpty (drop count orders) ≡ all isEmpty (drop i orders))
+Inv-loop2 floor orders least next count i₀ i =
+    (count ≡ leading floor 0 orders) × (next ≡ nextEnd (take count orders)) × (all isEmpty (drop count orders) ≡ all isEmpty (drop i orders))
 
 abbrev μ-loop2 : tie.MeasureT-loop2
-μ-loop2 floor orders least count i₀ i = 96 - i
+μ-loop2 floor orders least next count i₀ i = 96 - i
 
 loop-holds : tie.Need-loop-holds Inv-loop μ-loop Inv-loop2 μ-loop2
-loop-holds c = counted-none (c .args .floor) (c .args .t1)
+loop-holds c = (counted-none (c .args .floor) (c .args .t1), refl)
 
 mul-o : tie.Need-mul-o Inv-loop μ-loop Inv-loop2 μ-loop2
 mul-o c = search needs
@@ -53,6 +56,9 @@ add-least c =
     let a = l .before .args in
     omega (arith, fits-small (a .floor) (l .loop .least) (orderAt (l .loop .count) (a .t1)) (fits (c .before)))
 
+sooner-requires : tie.Need-sooner-requires Inv-loop μ-loop Inv-loop2 μ-loop2
+sooner-requires c κs = search needs
+
 add-count : tie.Need-add-count Inv-loop μ-loop Inv-loop2 μ-loop2
 add-count c = search needs
 
@@ -61,10 +67,13 @@ loop-less c = search needs
 
 loop-again : tie.Need-loop-again Inv-loop μ-loop Inv-loop2 μ-loop2
 loop-again c =
-    let l = turned (c .before) in
+    let e = c .before .before in
+    let l = turned e in
     let a = l .before .args in
-    let h : l .loop .count < length (a .t1) = omega arith in
-    counted-on (a .floor) (l .loop .least) (l .loop .count) _ (a .t1) (l .loop .inv) h (fits (c .before))
+    let h : l .loop .count < length (a .t1) = omega arith in (
+      counted-on (a .floor) (l .loop .least) (l .loop .count) _ (a .t1) (l .loop .inv .0) h (fits e),
+      next-on (l .loop .next) _ (l .loop .count) (a .t1) h (l .loop .inv .1) (c .sooner .ensures),
+    )
 
 -- the loop is left at the last place, or at an order that does not fit
 counted : (c : tie.Left-loop Inv-loop μ-loop Inv-loop2 μ-loop2)
@@ -73,14 +82,14 @@ counted c =
     let l = c .before in
     let a = l .before .args in
     ⊎-elim
-    (λ w. counted-all (a .floor) (l .loop .least) (l .loop .count) _ (a .t1) (l .loop .inv) (omega (arith, w .left)))
+    (λ w. counted-all (a .floor) (l .loop .least) (l .loop .count) _ (a .t1) (l .loop .inv .0) (omega (arith, w .left)))
     (λ w.
     let h : l .loop .count < length (a .t1) = omega (arith, w .0 .taken) in
-    counted-here (a .floor) (l .loop .least) (l .loop .count) _ (a .t1) (l .loop .inv) h (sym (w .2 .ensures) ∙ not-true _ (w .3 .taken)))
+    counted-here (a .floor) (l .loop .least) (l .loop .count) _ (a .t1) (l .loop .inv .0) h (sym (w .2 .ensures) ∙ not-true _ (w .3 .taken)))
     (c .loop-test .came)
 
 loop2-holds : tie.Need-loop2-holds Inv-loop μ-loop Inv-loop2 μ-loop2
-loop2-holds c = (counted c, refl)
+loop2-holds c = (counted c, c .before .loop .inv .1, refl)
 
 mul-is-empty : tie.Need-mul-is-empty Inv-loop μ-loop Inv-loop2 μ-loop2
 mul-is-empty c = search needs
@@ -105,7 +114,7 @@ returns c =
     let a = places l .args in
     let filled = sym (e .is-empty .ensures) ∙ not-true _ (c .if2 .taken) in
     held-malformed (a .floor) _ (a .t1) (l .loop2 .inv .0)
-    (l .loop2 .inv .1 ∙ all-here isEmpty pastOrder (a .t1) (l .loop2 .i) (in-range (e .before .before)) filled)
+    (l .loop2 .inv .2 ∙ all-here isEmpty pastOrder (a .t1) (l .loop2 .i) (in-range (e .before .before)) filled)
 
 add-i : tie.Need-add-i Inv-loop μ-loop Inv-loop2 μ-loop2
 add-i c = search needs
@@ -118,13 +127,14 @@ loop2-again c =
     let e = c .before in
     let l = e .before .before .before in
     let empty = sym (e .is-empty .ensures) ∙ not-false _ (c .if2 .left) in
-    (l .loop2 .inv .0, l .loop2 .inv .1 ∙ all-on isEmpty pastOrder (places l .args .t1) (l .loop2 .i) (in-range (e .before .before)) empty)
+    (l .loop2 .inv .0, l .loop2 .inv .1, l .loop2 .inv .2 ∙ all-on isEmpty pastOrder (places l .args .t1) (l .loop2 .i) (in-range (e .before .before)) empty)
 
 returns-2 : tie.Need-returns-2 Inv-loop μ-loop Inv-loop2 μ-loop2
 returns-2 c =
     let l = c .before in
     let a = places l .args in
-    held-count (a .floor) _ (a .t1) (l .loop2 .inv .0) (l .loop2 .inv .1 ∙ all-end isEmpty (a .t1) (l .loop2 .i) (omega (arith, c .loop2-test .left)))
+    let empty = all-end isEmpty (a .t1) (l .loop2 .i) (omega (arith, c .loop2-test .left)) in
+    held-count (a .floor) _ (a .t1) (l .loop2 .inv .0) _ (l .loop2 .inv .1) (l .loop2 .inv .2 ∙ empty)
 
 pub count-held-spec : {M : Type 1} → statement M
 count-held-spec =
@@ -139,6 +149,7 @@ count-held-spec =
     array-copy-out-o
     fits-after-requires
     add-least
+    sooner-requires
     add-count
     loop-less
     loop-again

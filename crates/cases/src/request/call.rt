@@ -15,10 +15,11 @@ pub(crate) enum Act {
     Ask,
     Save,
     Load,
+    Panel,
     Unknown,
 }
 
-// `C:TYPE:UNIT:FILE`, `V:..`, `X:t`, `Q:t`, `S:ROOM` or `L:TEXT`, and the calls that are left after it. `t` is a room's size too, and `file` a saved text.
+// `C:TYPE:UNIT:FILE`, `V:..`, `X:t`, `Q:t`, `S:ROOM`, `L:TEXT` or `P`, and the calls that are left after it. `t` is a room's size too, and `file` a saved text.
 // What its letter does not ask for says nothing.
 pub(crate) struct Call {
     pub(crate) act: Act,
@@ -29,10 +30,11 @@ pub(crate) struct Call {
     pub(crate) rest: Part,
 }
 
-// Whether what follows the letter of a call is of its form: bytes, or a number.
+// Whether what follows the letter of a call is of its form: bytes, a number, or nothing that is looked at.
 fn is_formed(letter: u8, numbered: bool, filed: bool) -> bool {
     match letter {
         b'C' | b'V' | b'L' => filed,
+        b'P' => true,
         _ => numbered,
     }
 }
@@ -49,6 +51,7 @@ fn act_of(letter: u8, formed: bool) -> Act {
         b'Q' => Act::Ask,
         b'S' => Act::Save,
         b'L' => Act::Load,
+        b'P' => Act::Panel,
         _ => Act::Unknown,
     }
 }

@@ -96,7 +96,7 @@ returns-3 c =
     let t = e .before .before .before in
     let a = begun t .args .h in
     all-there _ _ _ _ _ _ _ (t .loop .inv) (e .before .if1 .left) (e .if3 .left) _ (f .front .ensures) _ (c .with .ensures)
-    (omega (arith, ap length (f .front .ensures), length-take (a .size) (a .unit), begun t .pre .3))
+    (omega (arith, ap length (f .front .ensures), length-take (a .size) (a .unit), begun t .pre .3)) (begun t .pre .1)
 
 pub read-below-spec : {M : Type 1} → statement M
 read-below-spec =

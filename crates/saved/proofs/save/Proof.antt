@@ -2,7 +2,7 @@
 use Rattle.book.proofs.Holding.{Holding, holds, holds-none}
 use Rattle.book.proofs.Sizes.{sized}
 use Rattle.book.specs.Places.{tallyOf}
-use Rattle.book_places.specs.declared.Tally.the-variants.{Holds}
+use Rattle.book.specs.declared.Tally.the-variants.{Holds}
 use Rattle.saved.proofs.Saving.{partial-held, save-malformed, save-partial, save-full, save-done}
 use Rattle.saved.proofs.save.Statement.{statement}
 use Rattle.saved.proofs.save.Tie as tie

@@ -78,49 +78,49 @@ fn book(unit: &[u8], calls: &str) -> Option<String> {
     let (mut book, answer) = Book::fresh(unit);
     let mut answers = vec![numbers(answer)];
     for call in calls.split(',').filter(|&call| call != "-") {
-        let parts: Vec<&str> = call.split(':').collect();
-        answers.push(match *parts {
-            [kind @ ("C" | "V"), code, unit, file] => {
-                let plan = format!("ca=1\nioa=1\nunit={unit}\ntype={code}\n");
-                match read(1, 1, plan.as_bytes(), &bytes(file)?) {
-                    Ok(record) => {
-                        let (next, answer) = if kind == "C" { book.command(&record) } else { book.revoke(&record) };
-                        book = next;
-                        numbers(answer)
-                    }
-                    Err(_) => "unread".into(),
-                }
-            }
-            ["X", t] => {
-                let (next, answer) = book.close(t.parse().ok()?);
-                book = next;
-                numbers(answer)
-            }
-            ["Q", t] => {
-                let (next, answer) = book.in_force(t.parse().ok()?);
-                book = next;
-                match answer {
-                    Ok(Some(number)) => format!("f:{number}"),
-                    Ok(None) => "f:none".into(),
-                    Err(refusal) => numbers(Err(refusal)),
-                }
-            }
-            ["S", room] => {
-                let mut out = vec![0xaa; room.parse().ok()?];
-                match saved::save(&book, &mut out) {
-                    Ok(length) => format!("t:{}", hex(&out[..length])),
-                    Err(refusal) => numbers(Err(refusal)),
-                }
-            }
-            ["L", text] => {
-                let (next, answer) = saved::load(&bytes(text)?);
-                book = next;
-                numbers(answer)
-            }
-            _ => return None,
-        });
+        let (next, answer) = called(book, call)?;
+        book = next;
+        answers.push(answer);
     }
     Some(answers.join(" "))
+}
+
+/// The book after a call, and what the call answers.
+fn called(book: Book, call: &str) -> Option<(Book, String)> {
+    let parts: Vec<&str> = call.split(':').collect();
+    Some(match *parts {
+        [kind @ ("C" | "V"), code, unit, file] => {
+            let plan = format!("ca=1\nioa=1\nunit={unit}\ntype={code}\n");
+            match read(1, 1, plan.as_bytes(), &bytes(file)?) {
+                Ok(record) if kind == "C" => told(book.command(&record), taken),
+                Ok(record) => told(book.revoke(&record), taken),
+                Err(_) => (book, "unread".into()),
+            }
+        }
+        ["X", t] => told(book.close(t.parse().ok()?), taken),
+        ["Q", t] => told(book.in_force(t.parse().ok()?), |number| match number {
+            Some(number) => format!("f:{number}"),
+            None => "f:none".into(),
+        }),
+        ["P"] => told(book.panel(), |panel| format!("p:{}:{}", panel.held, panel.next_end)),
+        ["S", room] => {
+            let mut out = vec![0xaa; room.parse().ok()?];
+            let answer = saved::save(&book, &mut out);
+            told((book, answer), |length| format!("t:{}", hex(&out[..length])))
+        }
+        ["L", text] => told(saved::load(&bytes(text)?), taken),
+        _ => return None,
+    })
+}
+
+/// Of a call that gives nothing but the book.
+fn taken((): ()) -> String {
+    numbers(Ok(()))
+}
+
+/// What a call hands back, its answer in words: a refusal, or `words` of what it gave.
+fn told<T>((book, answer): (Book, Result<T, Refusal>), words: impl FnOnce(T) -> String) -> (Book, String) {
+    (book, answer.map_or_else(|refusal| numbers(Err(refusal)), words))
 }
 
 /// A `-` alone is no unit at all; among others it is one without octets.

@@ -44,7 +44,7 @@ fn plan(rows: u32, code: &str) -> String {
     (0..rows).rev().map(|k| format!("ca=7\nioa={}\nunit=UP_PROVA_1\ntype={code}\n", 300 - k)).collect()
 }
 
-/// A book of 95 orders: one more command, a question, a close that drops none.
+/// A book of 95 orders: one more command, a question, the panel, a close that drops none.
 fn book(rounds: u32) {
     let (mut book, _) = Book::fresh(b"UP_PROVA_1");
     let mut record = read(7, 300, plan(1, "CB").as_bytes(), SAMPLES[0].2).unwrap();
@@ -59,8 +59,10 @@ fn book(rounds: u32) {
     println!("  revoke   {:>8.0}", pace(rounds, || black_box(book).revoke(black_box(&revocation)).1.is_ok() as u32));
     println!("  close    {:>8.0}", pace(rounds, || black_box(book).close(black_box(5)).1.is_ok() as u32));
     println!("  in force {:>8.0}", pace(rounds, || black_box(book).in_force(black_box(5)).1.is_ok() as u32));
+    println!("  panel    {:>8.0}", pace(rounds, || black_box(book).panel().1.is_ok() as u32));
     println!("lent:");
     println!("  in force {:>8.0}", pace(rounds, || black_box(&book).in_force_at(black_box(5)).is_ok() as u32));
+    println!("  panel    {:>8.0}", pace(rounds, || black_box(&book).shown().is_ok() as u32));
     println!("  close    {:>8.0}", pace(rounds, || black_box(&mut book).close_at(black_box(5)).is_ok() as u32));
 }
 

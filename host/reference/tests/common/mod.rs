@@ -1,6 +1,8 @@
 //! Samples and small helpers for the tests.
 #![allow(dead_code)]
 
+pub mod orders;
+
 use halimpung_reference::{read, Record, Refusal};
 
 pub const SAMPLES: [(&str, &str); 10] = [

@@ -1,12 +1,11 @@
 -- The three ways out of a close.
-use Rattle.book_places.specs.declared.Kept.{Kept}
 use Rattle.book.proofs.Book.close.Statement.{statement}
 use Rattle.book.proofs.Book.close.Tie as tie
 use Rattle.book.proofs.Calls.{call-malformed, close-early, close-done}
 use Rattle.book.proofs.Holding.{Holding, holds}
 use Rattle.book.proofs.Sizes.{sized}
 use borrow.Author.Needs.{needs}
-use mathlib.Core.Path.{ap, _∙_}
+use mathlib.Core.Path.{_∙_}
 
 -- what is known of the book where its orders are counted
 abbrev start : tie.After-known-told → tie.Start
@@ -43,6 +42,9 @@ returns-2 c =
 keep-past-requires : tie.Need-keep-past-requires
 keep-past-requires c κs = holding (c .before .before .before) .few
 
+next-end-requires : tie.Need-next-end-requires
+next-end-requires c κs = search needs
+
 made-requires : tie.Need-made-requires
 made-requires c κs = search needs
 
@@ -51,11 +53,12 @@ answered-requires-3 c κs = search needs
 
 returns-3 : tie.Need-returns-3
 returns-3 c =
-    let p = c .before .before .before in
+    let n = c .before .before in
+    let p = n .before .before in
     let i = p .before .before in
     let k = i .before .before in
     c .answered3 .ensures
-    ∙ close-done (start k .args .self) _ (holding k) _ (i .if1 .left) _ (ap (λ (x : Kept). x .orders) (p .keep-past .ensures)) _ (c .before .made .ensures)
+    ∙ close-done (start k .args .self) _ (holding k) _ (i .if1 .left) _ (p .keep-past .ensures) _ (n .next-end .ensures) _ (c .before .made .ensures)
 
 pub close-spec : {M : Type 1} → statement M
 close-spec =
@@ -69,6 +72,7 @@ close-spec =
     answered-requires-2
     returns-2
     keep-past-requires
+    next-end-requires
     made-requires
     answered-requires-3
     returns-3)

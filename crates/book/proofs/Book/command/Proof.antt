@@ -1,7 +1,7 @@
 -- Malformed, a message refused for itself, or its order as it is held.
 use Rattle.book_order.specs.Orders.{isBrought}
 use Rattle.book_order.specs.declared.Order.{Order}
-use Rattle.book_places.specs.declared.Tally.the-variants.{Holds}
+use Rattle.book.specs.declared.Tally.the-variants.{Holds}
 use Rattle.book.proofs.Book.command.Statement.{statement}
 use Rattle.book.proofs.Book.command.Tie as tie
 use Rattle.book.proofs.Calls.{call-malformed, command-unfit, command-instants, command-brings, command-holds}

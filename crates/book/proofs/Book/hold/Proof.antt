@@ -1,5 +1,5 @@
 -- Malformed, an order that no valid record brings, or as it is held.
-use Rattle.book_places.specs.declared.Tally.the-variants.{Holds}
+use Rattle.book.specs.declared.Tally.the-variants.{Holds}
 use Rattle.book.proofs.Book.hold.Statement.{statement}
 use Rattle.book.proofs.Book.hold.Tie as tie
 use Rattle.book.proofs.Calls.{undone-malformed}

@@ -48,11 +48,20 @@ returns-3 c =
     ∙ hold-full (s .args .self) _ (holding s) (s .args .o) (s .pre .1) (l .if1 .left) _ (t .seat-of .ensures) (c .before .before .if2 .left)
     (c .before .if3 .taken)
 
+sooner-requires : tie.Need-sooner-requires
+sooner-requires c κs = search needs
+
+add-made : tie.Need-add-made
+add-made c =
+    let t = c .before .before .before in
+    let s = t .before .before .before .before .before in
+    record { fits = omega (arith, holding s .few) }
+
 put-in-requires : tie.Need-put-in-requires
 put-in-requires c κs =
-    let t = c .before .before in
+    let t = c .before .before .before in
     let s = t .before .before .before .before .before in
-    (seat-within _ _ _ _ _ (t .seat-of .ensures) (omega arith), omega (arith, holding s .few, c .if3 .left))
+    (seat-within _ _ _ _ _ (t .seat-of .ensures) (omega arith), omega (arith, holding s .few, c .before .if3 .left))
 
 made-requires : tie.Need-made-requires
 made-requires c κs = search needs
@@ -63,12 +72,13 @@ answered-requires-4 c κs = search needs
 returns-4 : tie.Need-returns-4
 returns-4 c =
     let p = c .before .before in
-    let t = p .before .before .before in
+    let i = p .before .before in
+    let t = i .before .before in
     let l = t .before .before in
     let s = l .before .before .before in
     c .answered4 .ensures
-    ∙ hold-done (s .args .self) _ (holding s) (s .args .o) (s .pre .1) (l .if1 .left) _ (t .seat-of .ensures) (p .before .before .if2 .left)
-    (p .before .if3 .left) _ (p .put-in .ensures) _ (c .before .made .ensures)
+    ∙ hold-done (s .args .self) _ (holding s) (s .args .o) (s .pre .1) (l .if1 .left) _ (t .seat-of .ensures) (i .before .if2 .left)
+    (i .if3 .left) _ (p .put-in .ensures) _ (p .before .sooner .ensures) _ (c .before .made .ensures)
 
 pub hold-in-spec : {M : Type 1} → statement M
 hold-in-spec =
@@ -81,6 +91,8 @@ hold-in-spec =
     returns-2
     answered-requires-3
     returns-3
+    sooner-requires
+    add-made
     put-in-requires
     made-requires
     answered-requires-4

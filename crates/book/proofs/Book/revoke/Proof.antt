@@ -1,5 +1,5 @@
 -- Malformed, a message refused for itself, or the stretch that it says of the number that it names as it is struck.
-use Rattle.book_places.specs.declared.Tally.the-variants.{Holds}
+use Rattle.book.specs.declared.Tally.the-variants.{Holds}
 use Rattle.book.proofs.Book.revoke.Statement.{statement}
 use Rattle.book.proofs.Book.revoke.Tie as tie
 use Rattle.book.proofs.Calls.{call-malformed, revoke-unfit, revocation-instants, revocation-names, could-be, revoke-strikes}

@@ -1,5 +1,5 @@
 -- Malformed, a strike that no valid record asks for, or as it is struck.
-use Rattle.book_places.specs.declared.Tally.the-variants.{Holds}
+use Rattle.book.specs.declared.Tally.the-variants.{Holds}
 use Rattle.book.proofs.Book.strike.Statement.{statement}
 use Rattle.book.proofs.Book.strike.Tie as tie
 use Rattle.book.proofs.Calls.{undone-malformed}
