@@ -122,8 +122,9 @@ fits-deed (hold o) b c a g =
     record {
       unit-good = g .unit-good;
       orders-fit =
-          fitted-insert (b .floor) 0 o (b .orders) (fits-of (b .floor) 0 o (omega arith) (leb-false (o .end) (b .floor) (x .0)) (could .0) (none-formed (timeOf o) (o .struck) (could .1))) (y .0)
-          (g .orders-fit);
+          fitted-insert (b .floor) 0 o (b .orders)
+          (fits-of (b .floor) 0 o (omega arith) (leb-false (o .end) (b .floor) (x .0)) (could .0) (none-formed (timeOf o) (o .struck) (could .1)))
+          (y .0) (g .orders-fit);
       room = rw (length-insert number o (b .orders)) (leb-false 96 (length (b .orders)) (z .0));
     }
 fits-deed (strike s) b c a g =

@@ -40,10 +40,10 @@ pub record Request5 : Type 0 where
   pub no-number : (s : List ℕ) → partsRead s ≡ none → shapeOf IsProfile s ≡ Bad
   -- "the first filled line may hold one to four, and only later lines must hold four": rule 3 says this of lines that are lists of one to four
   pub profile-exactly : (cells : List Cell) → HLists cells → profiled cells ≡ true ↔ Profile cells
-  -- "one to three values in a line that isn't the first filled is rule 3": where 1 and 2 hold, it is the one that is told exactly where the lines are no profile
+  -- "one to three values in a line that isn't the first filled is rule 3": where 1 and 2 hold, it is told exactly where the lines are no profile
   pub rule-three : (r : Record) → r .layout ≡ Market → HLists (r .cells)
       → brokenIn r ≡ 3 ↔ (inOrder (r .cells) ≡ true) × (updated (r .cells) ≡ true) × (Profile (r .cells) → ⊥)
-  -- "the record [...] follow[s]": the lines of a valid one are such a profile; each list says how many numbers it has, one to four, and the unused ones are zero
+  -- "the record [...] follow[s]": the lines of a valid one are such a profile; each list says how many numbers it has, one to four, and unused ones are zero
   pub valid-profile : (r : Record) → Valid r → r .layout ≡ Market → HLists (r .cells) × Profile (r .cells)
   pub valid-list : (r : Record) → Valid r → r .layout ≡ Market → (k : ℕ) (x : Few) → k < 6 → hLine (r .cells) k ≡ Numbers x → ValidNumbers 1 4 x
   -- so are those of every file that is accepted

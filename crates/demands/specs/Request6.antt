@@ -31,7 +31,7 @@ use mathlib.Core.Logic.{_↔_}
 use mathlib.Core.Path.{_≡_}
 
 pub record Request6 : Type 0 where
-  -- "A revocation shall strike from its start to its end": it says that stretch, and a strike is one that some valid RC record says exactly where the test is passed
+  -- "A revocation shall strike from its start to its end": it says that stretch; and a strike passes its test exactly where some valid RC record says it
   pub says : (r : Record) → strikeOf r .over ≡ stretch (instantIn (startOf r)) (instantIn (endOf r))
   pub could-strike : (s : Strike) → couldStrike s ≡ true ↔ GivenStrike s
   -- the order that it names is then live at t exactly where it was and t is outside the stretch; every other order is as before
@@ -44,8 +44,8 @@ pub record Request6 : Type 0 where
   -- and joining keeps stretches so
   pub joining-keeps : (time s : Stretch) (l : List Stretch) → formedIn time l ≡ true → s .from < s .to → lies s time ≡ true → length (joined s (usedIn l)) ≤ 4
       → formedIn time (inFour (joined s (usedIn l))) ≡ true
-  -- "Demand 3's first half reads so.": after any calls the order in force at an instant not yet closed is, of the orders that accepted commands brought and that
-  -- run there, struck by no accepted revocation that came after, the one with the greatest number. No stretch is joined in this
+  -- "Demand 3's first half reads so.": after any calls the order in force at an instant not yet closed is, of the orders that accepted commands brought and
+  -- that run there, struck by no accepted revocation that came after, the one with the greatest number. No stretch is joined in this
   pub by-calls : (unit : List ℕ) (ks : List Call) → isUnit unit ≡ true → (t : ℕ) → after unit ks .floor ≤ t
       → askedOf t (after unit ks) .answer ≡ found (inForceBy t (history unit ks))
   -- "Its second half now needs the removed revocation to cover the whole order and no other revocation in the run to name that number.": it is demand 3's

@@ -54,13 +54,15 @@ sooner-requires c κs = search needs
 add-made : tie.Need-add-made
 add-made c =
     let t = c .before .before .before in
-    let s = t .before .before .before .before .before in
+    let l = t .before .before in
+    let s = l .before .before .before in
     record { fits = omega (arith, holding s .few) }
 
 put-in-requires : tie.Need-put-in-requires
 put-in-requires c κs =
     let t = c .before .before .before in
-    let s = t .before .before .before .before .before in
+    let l = t .before .before in
+    let s = l .before .before .before in
     (seat-within _ _ _ _ _ (t .seat-of .ensures) (omega arith), omega (arith, holding s .few, c .before .if3 .left))
 
 made-requires : tie.Need-made-requires
