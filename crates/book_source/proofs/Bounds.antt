@@ -75,8 +75,9 @@ pub come-tells : (o : Order) → Tells (couldCome o) (Bounds o)
 unfolding couldCome
 come-tells o =
     let instant = within-tells firstInstant lastInstant in
+    let amounts = itself (isAmount (o .first)) and itself (fitsLayout (o .layout) (o .end - o .start) (o .second)) in
     told
-    (leb-tells (o .number) mostNumber and (instant (o .start) and (instant (o .end) and (itself (isAmount (o .first)) and itself (fitsLayout (o .layout) (o .end - o .start) (o .second))))))
+    (leb-tells (o .number) mostNumber and (instant (o .start) and (instant (o .end) and amounts)))
     (λ p.
     record {
       number-to = p .0;

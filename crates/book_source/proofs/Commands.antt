@@ -60,10 +60,12 @@ mfrrCommand n s u e v =
 
 module _ (n : ℕ) (s e : Date) (v : ℤ) (low : ltb n 10000000000 ≡ true) (starts : isReal s ≡ true) (ends : isReal e ≡ true) (first : isAmount v ≡ true) where
   pub market-valid : (w : ℤ) → isAmount w ≡ true → ltb (instantOf s) (instantOf e) ≡ true → isValid (marketCommand n s e v w) ≡ true
-  unfolding isValid isSized holdsAll areClear noTriples holds fits isAmong isAmount isRanged isNoTriple areTriples isNamed isUnit all kindsOf fieldsOf market command technical valuesIn cellsOf fieldOf brokenIn lowest rulesOf inOrder updated profiled sloped rises
+  unfolding isValid isSized holdsAll areClear noTriples holds fits isAmong isAmount isRanged isNoTriple areTriples isNamed isUnit all kindsOf fieldsOf market
+      command technical valuesIn cellsOf fieldOf brokenIn lowest rulesOf inOrder updated profiled sloped rises
   market-valid w second before = rw (low, starts, ends, first, second, before)
 
   pub mfrr-valid : (u : Date) → isReal u ≡ true → ltb (instantOf s) (instantOf u) ≡ true → ltb (instantOf u) (instantOf e) ≡ true
       → isValid (mfrrCommand n s u e v) ≡ true
-  unfolding isValid isSized holdsAll areClear noTriples holds fits isAmong isAmount isNoTriple isNamed isUnit all kindsOf fieldsOf mfrr valuesIn cellsOf fieldOf brokenIn lowest rulesOf ramps
+  unfolding isValid isSized holdsAll areClear noTriples holds fits isAmong isAmount isNoTriple isNamed isUnit all kindsOf fieldsOf mfrr valuesIn cellsOf fieldOf
+      brokenIn lowest rulesOf ramps
   mfrr-valid u up rise fall = rw (low, starts, ends, first, up, rise, le-leb (instantOf u) (instantOf u) (omega arith), fall)

@@ -23,7 +23,8 @@ messageTypes = Cb ∷ Rc ∷ Mg ∷ Eb ∷ Lb ∷ Sr ∷ Vq ∷ Ri ∷ Qr ∷ []
 -- the shapes from 0 to 14: none has the number 0, and the words of 7 are not told by it
 abbrev shapes : List Shape
 shapes =
-    IsUnit ∷ IsUnit ∷ IsWhen ∷ IsAmount ∷ IsCount ∷ IsReason ∷ IsNote ∷ IsWord 0 0 ∷ IsProfile ∷ IsBands ∷ IsTriples ∷ IsVoltage ∷ IsRegulator ∷ IsChange ∷ IsReactive ∷ []
+    IsUnit ∷ IsUnit ∷ IsWhen ∷ IsAmount ∷ IsCount ∷ IsReason ∷ IsNote ∷ IsWord 0 0 ∷ IsProfile ∷ IsBands ∷ IsTriples
+    ∷ IsVoltage ∷ IsRegulator ∷ IsChange ∷ IsReactive ∷ []
 
 abbrev pub shapeAt : ℕ → Shape
 shapeAt n = cond (leb 21 n) (IsId (getD messageTypes (n - 21) Cb)) (getD shapes n IsUnit)
