@@ -1,4 +1,6 @@
 // For make bench alone: the book's calls in a loop, since a book cannot cross to C.
+#![tactic(auto)]
+
 ghost use Rattle.std.specs.Prelude.{◌<◌};
 
 use book::{Book, InForce};

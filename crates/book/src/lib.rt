@@ -1,5 +1,7 @@
 // The book of commands of one unit, by value: each call takes the book and hands one back. Held orders fill the first places by ascending number; all
 // other places are zero. A caller may have built the book from anything: a malformed one is refused.
+#![tactic(auto)]
+
 mod fitness;
 
 ghost use Rattle.std.specs.Prelude.{◌≤◌, take, true, ◌≡◌};
@@ -17,7 +19,7 @@ use value_name::unit;
 
 // The unit's code stands in the first `size` bytes of its room. `held` and `next` are what the panel shows: how many orders are held, and when the next
 // of them ends, 0 where none is.
-#[derive(Drop)]
+#[derive(Clone, Copy)]
 pub struct Book {
     pub size: usize,
     pub unit: [u8; 16],
@@ -28,14 +30,14 @@ pub struct Book {
 }
 
 // How many orders a book holds, unless it is malformed.
-#[derive(Drop)]
+#[derive(Clone, Copy)]
 pub enum Tally {
     Malformed,
     Holds(usize),
 }
 
 // What a command, a revocation or a close answers, the number 0 or a refusal's and its detail, and the book that it hands back.
-#[derive(Drop)]
+#[derive(Clone, Copy)]
 pub struct Outcome {
     pub number: u8,
     pub detail: usize,
@@ -43,7 +45,7 @@ pub struct Outcome {
 }
 
 // Which order is in force: a refusal's number and detail, none, or the order's number.
-#[derive(Drop)]
+#[derive(Clone, Copy)]
 pub enum InForce {
     Refused(u8, usize),
     Nothing,
@@ -51,21 +53,21 @@ pub enum InForce {
 }
 
 // The answer to that question, and the same book.
-#[derive(Drop)]
+#[derive(Clone, Copy)]
 pub struct Asked {
     pub answer: InForce,
     pub book: Book,
 }
 
 // What the panel shows: a refusal's number and detail, or how many orders are held and when the next of them ends.
-#[derive(Drop)]
+#[derive(Clone, Copy)]
 pub enum Panel {
     Refused(u8, usize),
     Shows(usize, u32),
 }
 
 // The panel, and the same book.
-#[derive(Drop)]
+#[derive(Clone, Copy)]
 pub struct Shown {
     pub answer: Panel,
     pub book: Book,

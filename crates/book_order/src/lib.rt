@@ -1,4 +1,6 @@
 // An order as the book holds it: what it takes of a CB record, whether it is in force, and what a held order may be.
+#![tactic(auto)]
+
 ghost use Rattle.std.specs.Prelude.{◌≤◌, ◌≡◌};
 ghost use Rattle.value_ask.specs.Values.{instant_in};
 ghost use Rattle.report_brief.specs.Brief.{start_of, end_of};
@@ -12,7 +14,7 @@ use record::{Cell, Record};
 
 // Start and end are instants, the variations thousandths of a megawatt. Of mFRR: TINI1 and TFIN2, its one variation and 0. What is struck of it are up to
 // four stretches of its time.
-#[derive(Drop)]
+#[derive(Clone, Copy)]
 pub struct Order {
     pub number: u64,
     pub start: u32,
@@ -24,7 +26,7 @@ pub struct Order {
 }
 
 // What a strike answers on the order that it names, and the order then.
-#[derive(Drop)]
+#[derive(Clone, Copy)]
 pub struct Struck {
     pub number: u8,
     pub order: Order,

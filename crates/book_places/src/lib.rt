@@ -1,5 +1,7 @@
 // The 96 places of a book, as an array by value: which of them hold orders, where a number stands among those from one place up to another, and the
 // places with an order put in or let go. What holds of places whatever stands there is in book_shelf.
+#![tactic(auto)]
+
 ghost use Rattle.std.specs.Prelude.{◌≤◌, ◌<◌, take, ◌≡◌};
 ghost use Rattle.book_lists.specs.Keyed.{sooner};
 ghost use Rattle.book_order.specs.Orders.{live, next_end};
@@ -9,28 +11,28 @@ ghost use Rattle.book_shelf.specs.Shelf.{between, put_in, last_at};
 use book_order::Order;
 
 // How many orders the places hold, and when the next of them ends, unless they are malformed.
-#[derive(Drop)]
+#[derive(Clone, Copy)]
 pub enum Count {
     Malformed,
     Holds(usize, u32),
 }
 
 // Where a number stands among the orders looked at, or would stand, and whether an order has it.
-#[derive(Drop)]
+#[derive(Clone, Copy)]
 pub struct Seat {
     pub at: usize,
     pub held: bool,
 }
 
 // The place of an order, if there is one.
-#[derive(Drop)]
+#[derive(Clone, Copy)]
 pub enum Place {
     At(usize),
     Nothing,
 }
 
 // The places that are left filled, and how many.
-#[derive(Drop)]
+#[derive(Clone, Copy)]
 pub struct Kept {
     pub orders: [Order; 96],
     pub count: usize,

@@ -6,7 +6,7 @@ ghost use Rattle.book_stretch.specs.Stretches.{hull};
 use crate::{NONE, Stretch};
 
 // The stretch as far as it has grown, whether it stands in the room by now, and what stands there. Four and one more are five.
-#[derive(Drop)]
+#[derive(Clone, Copy)]
 pub struct Joining {
     pub next: Stretch,
     pub settled: bool,

@@ -1,11 +1,13 @@
 // Stretches of time that are struck out of an order: each from an instant up to, not with, another. An order has room for four.
+#![tactic(auto)]
+
 mod joining;
 
 ghost use Rattle.book_stretch.specs.Stretches.{covers, lies, is_none, are_none, formed_in, fits_in, joined_in};
 ghost use Rattle.text.specs.Bytes.{any};
 ghost use Rattle.std.specs.Prelude.{◌≡◌};
 
-#[derive(Drop)]
+#[derive(Clone, Copy)]
 pub struct Stretch {
     pub from: u32,
     pub to: u32,
@@ -15,7 +17,7 @@ pub struct Stretch {
 pub const NONE: Stretch = Stretch { from: 0, to: 0 };
 
 // Stretches that were joined: how many they are, and the first four.
-#[derive(Drop)]
+#[derive(Clone, Copy)]
 pub struct Joined {
     pub count: usize,
     pub list: [Stretch; 4],

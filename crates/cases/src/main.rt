@@ -1,5 +1,7 @@
 // The case runner: each line of standard input is a request, and one line answers it. So document 01's cases, and vectors from outside, are run
 // through the compiled code and compared. A request that is not of the form, or longer than the buffer, answers `?`.
+#![tactic(auto)]
+
 mod answers;
 mod calls;
 mod lookups;
@@ -13,7 +15,7 @@ use text::scan;
 
 // What a turn leaves: how many bytes at the front of the buffer are the start of a line, whether a line was too long for the buffer and is being
 // passed over, and whether the input has ended.
-#[derive(Drop)]
+#[derive(Clone, Copy)]
 struct State {
     have: usize,
     long: bool,

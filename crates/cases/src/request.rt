@@ -10,7 +10,7 @@ use crate::request::hex::is_good;
 use crate::request::parts::{Fields, NOWHERE, cut, field, letter_of, word_of};
 
 // A part of a line, by its ends. (A line may have a MiB, and so its places need more than the 16 bits of a file's.)
-#[derive(Drop)]
+#[derive(Clone, Copy)]
 pub(crate) struct Part {
     pub(crate) from: usize,
     pub(crate) to: usize,
@@ -18,7 +18,7 @@ pub(crate) struct Part {
 
 // What a request asks for: a file's reading, the normaliser or one of the two entries on it, one of its two times, what the program prints, a book,
 // or a transfer. `Blind` is the program with a plan that cannot be read; `Unknown` is a line that is not of the form.
-#[derive(Drop)]
+#[derive(Clone, Copy)]
 pub(crate) enum Kind {
     Read,
     Norm,
@@ -34,7 +34,7 @@ pub(crate) enum Kind {
 }
 
 // A request. What its kind has not is 0 or empty. A book's unit stands for its plan, and the program's input for its file.
-#[derive(Drop)]
+#[derive(Clone, Copy)]
 pub(crate) struct Request {
     pub(crate) kind: Kind,
     pub(crate) ca: u32,

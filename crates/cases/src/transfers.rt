@@ -8,7 +8,7 @@ use text::scan;
 use transfer::{Collector, Heard};
 
 // The place of a unit's bytes, and the units that are left after it.
-#[derive(Drop)]
+#[derive(Clone, Copy)]
 struct Unit {
     bytes: Part,
     rest: Part,

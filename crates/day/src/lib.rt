@@ -1,5 +1,7 @@
 // The book with a summary beside it: of one chosen UTC day, for each quarter hour the greatest number in force at some instant of it. Each call takes both
 // and hands both back. A caller may have built them from anything: a malformed book, or a summary that is not the book's own, is refused.
+#![tactic(auto)]
+
 ghost use Rattle.book.specs.Places.{shelf, formed_book};
 ghost use Rattle.book_ledger.specs.Calls.{Call};
 ghost use Rattle.day.specs.Answers.{turn, turn_of, chosen_of, shown_at};
@@ -13,21 +15,21 @@ use day_quarters::Span;
 use record::Record;
 
 // The day is counted from 0, and 0 where none is chosen. An entry is one more than its number, or 0 for none.
-#[derive(Drop)]
+#[derive(Clone, Copy)]
 pub struct Summary {
     pub chosen: bool,
     pub day: u32,
     pub entries: [u64; 96],
 }
 
-#[derive(Drop)]
+#[derive(Clone, Copy)]
 pub struct Agenda {
     pub book: Book,
     pub summary: Summary,
 }
 
 // What a call answers, the number 0 or a refusal's and its detail, and the book and the summary that it hands back.
-#[derive(Drop)]
+#[derive(Clone, Copy)]
 pub struct Turn {
     pub number: u8,
     pub detail: usize,
@@ -35,7 +37,7 @@ pub struct Turn {
 }
 
 // What an entry shows: none, or the greatest number in force.
-#[derive(Drop)]
+#[derive(Clone, Copy)]
 pub enum Entry {
     Nothing,
     Number(u64),

@@ -1,5 +1,7 @@
 // The quarter hours of a day: which of them a stretch of time overlaps, whether an order is in force in one, and their entries. An entry is one more than the
 // greatest number in force at some instant of its quarter, or 0 for none.
+#![tactic(auto)]
+
 ghost use Rattle.std.specs.Prelude.{min, max, ◌≤◌, ◌<◌, take, ◌≡◌};
 ghost use Rattle.book_lists.proofs.Keeping.{All};
 ghost use Rattle.day_quarters.specs.Entries.{numbered, overlapped, cleared, marked, worked_out};
@@ -10,7 +12,7 @@ use book_order::Order;
 use book_stretch::Stretch;
 
 // Quarters of a day: from one up to, not with, another.
-#[derive(Drop)]
+#[derive(Clone, Copy)]
 pub struct Span {
     pub from: usize,
     pub to: usize,

@@ -1,4 +1,6 @@
 // What the gateway's host calls from C: numbers and byte slices only. Each slice goes as a pointer and a length (host/include/halimpung.h).
+#![tactic(auto)]
+
 ghost use Rattle.report_brief.specs.Brief.{six_lines};
 ghost use Rattle.gateway.specs.Collecting.{collect_code};
 ghost use Rattle.gateway.specs.Entry.{entry_code, out_of};

@@ -1,5 +1,7 @@
 // The program of document 01: the plan from plan.txt, the address and the file from standard input, six lines or a refusal to standard output.
 // Both buffers hold more than any text that is not refused: a plan of 64 rows has at most 3,328 bytes, a file 8,192.
+#![tactic(auto)]
+
 ghost use Rattle.halimpung.specs.Plan.{as_read};
 ghost use Rattle.report.specs.Program.{printed_of};
 ghost use Rattle.std.specs.Prelude.{take, ◌≡◌};
@@ -11,7 +13,7 @@ use text::scan;
 const ROOM: usize = 89;
 
 // A file as it was read: whether it could be, and how many bytes of it are in the buffer.
-#[derive(Drop)]
+#[derive(Clone, Copy)]
 struct Found {
     readable: bool,
     size: usize,
@@ -43,7 +45,7 @@ fn as_read(readable: bool, plan: &[u8]) -> &[u8]
 }
 
 // What is printed, and how long it is: all of it stands in the room.
-#[derive(Drop)]
+#[derive(Clone, Copy)]
 struct Output {
     room: [u8; ROOM],
     size: usize,

@@ -1,5 +1,7 @@
 // The ten layouts of messages. Its specs/ is the one table of fields, labels, kinds, rows and banners; the crates layout_label, layout_kind and
 // layout_banner tie the code's own tables to it, and this one its sizes and the order of its rows.
+#![tactic(auto)]
+
 pub mod fields;
 pub mod row;
 
@@ -9,7 +11,7 @@ ghost use Rattle.std.specs.Prelude.{◌≡◌};
 use value_name::MessageType;
 
 // The type CB has two layouts, every other type has one.
-#[derive(Drop)]
+#[derive(Clone, Copy)]
 pub enum Layout {
     Market,
     Mfrr,

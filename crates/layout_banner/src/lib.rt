@@ -1,4 +1,6 @@
 // The banners, byte for byte as Annex A.34 prints them. The writer puts them; the reader never asks for them.
+#![tactic(auto)]
+
 ghost use Rattle.std.specs.Prelude.{◌+◌, ◌≤◌, ◌<◌, length, take, ◌≡◌};
 ghost use Rattle.layout.specs.Banners.{banner_of};
 ghost use Rattle.text.specs.Puts.{limit, Puts};

@@ -1,4 +1,6 @@
 // What each field of a layout may hold, and whether a blank may stand. The arms are the fields in printed order, so they go by number.
+#![tactic(auto)]
+
 ghost use Rattle.layout.specs.Fields.{command, technical, Field};
 ghost use Rattle.layout.specs.Layouts.{kind_at, no_kind};
 ghost use Rattle.std.specs.Prelude.{get_or, true, false, map, ◌≡◌};

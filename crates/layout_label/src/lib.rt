@@ -1,4 +1,6 @@
 // The labels of the layouts. One table serves the reader and the writer.
+#![tactic(auto)]
+
 ghost use Rattle.std.specs.Prelude.{◌+◌, ◌≤◌, ◌<◌, length, [], ◌≡◌};
 ghost use Rattle.layout_label.specs.Labels.{words_of, label_of, label_text};
 ghost use Rattle.layout.specs.Layouts.{label_at};
@@ -11,7 +13,7 @@ use text::{put, words};
 
 // A label padded to 36 bytes, as words of eight bytes, the first byte of each the lowest, and a last one of four; and how long it is without its blanks.
 // Words are compared and put at once; a text of 36 bytes would be stored by one function and read by another in pieces that overlap, which is slow.
-#[derive(Drop)]
+#[derive(Clone, Copy)]
 pub struct Label {
     pub size: usize,
     pub first: u64,

@@ -1,4 +1,6 @@
 // The address plan: which unit and type of message an address (CA, IOA) has. The type comes from here alone, never from the message.
+#![tactic(auto)]
+
 ghost use Rattle.std.specs.Prelude.{max, ◌≤◌, length, ◌≡◌};
 ghost use Rattle.plan.specs.Kept.{found_in};
 ghost use Rattle.plan.specs.Plans.{plan_of, sought_refused, sought_of};
@@ -7,7 +9,7 @@ use plan_row::{Entry, RowAt};
 use value_name::MessageType;
 
 // An address looked up: refusal 13 or 1 with its detail and the rest zero, or number 0 with the type and the unit's code in its room.
-#[derive(Drop)]
+#[derive(Clone, Copy)]
 pub struct Sought {
     pub number: u8,
     pub detail: usize,

@@ -1,5 +1,7 @@
 // A row of the plan: its four lines, `ca`, `ioa`, `unit` and `type`. Each byte of a row is looked at about once: a line's value is a run of digits or
 // of a code's bytes, and what stands after the run must be the line's LF.
+#![tactic(auto)]
+
 ghost use Rattle.std.specs.Prelude.{◌≤◌, ltb, false, cond, [], ◌∷◌, ◌≡◌};
 ghost use Rattle.plan_row.specs.Kept.{key_of, sought_key, rows_of, numbered_of, type_read_of, row_at_of};
 ghost use Rattle.plan_row.specs.Rows.{types, type_from, type_at, plan_row_of};
@@ -11,21 +13,21 @@ use text::{digits, scan};
 use text_keyline::Named;
 use value_name::MessageType;
 
-#[derive(Drop)]
+#[derive(Clone, Copy)]
 pub enum TypeRead {
     Is(MessageType),
     Not,
 }
 
 // A line's number, and where the line's LF stands.
-#[derive(Drop)]
+#[derive(Clone, Copy)]
 pub enum Numbered {
     Is(u64, usize),
     Not,
 }
 
 // What a row gives: its address in one number, its type, and where the unit's code and the row end.
-#[derive(Drop)]
+#[derive(Clone, Copy)]
 pub struct Entry {
     pub key: u64,
     pub message: MessageType,
@@ -35,7 +37,7 @@ pub struct Entry {
 }
 
 // A row, or the first of its lines that is bad, from 0.
-#[derive(Drop)]
+#[derive(Clone, Copy)]
 pub enum RowAt {
     Good(Entry),
     Bad(u8),

@@ -1,4 +1,6 @@
 // The reader: address, plan and file give the typed record, or one refusal with its detail and no record.
+#![tactic(auto)]
+
 ghost use Rattle.std.specs.Prelude.{◌≤◌, length, take, ◌≡◌};
 ghost use Rattle.layout.specs.FieldNumbers.{unit_no};
 ghost use Rattle.layout.specs.Layouts.{size_of};
@@ -21,7 +23,7 @@ use value_list::Triple;
 use value_name::MessageType;
 
 // A refusal's number and detail with the all-zero record, or the number 0 with the record. (An enum may hold no array.)
-#[derive(Drop)]
+#[derive(Clone, Copy)]
 pub struct Answer {
     pub number: u8,
     pub detail: usize,
@@ -49,7 +51,7 @@ fn accept(content: Record) -> Answer
 }
 
 // Where a message's values stand: its layout, the plan's unit, and the places of its row and of its fields; or a refusal's number and detail.
-#[derive(Drop)]
+#[derive(Clone, Copy)]
 pub struct Located {
     pub number: u8,
     pub detail: usize,
@@ -62,7 +64,7 @@ pub struct Located {
 
 // What is read of a message, with its texts left in the file: a refusal's number and detail, or the number 0 with the layout, the cells and triples of
 // its record, and the places of its row and of its fields.
-#[derive(Drop)]
+#[derive(Clone, Copy)]
 pub struct Reading {
     pub number: u8,
     pub detail: usize,
@@ -74,7 +76,7 @@ pub struct Reading {
 }
 
 // A refusal's number and detail, or 0 and 0.
-#[derive(Drop)]
+#[derive(Clone, Copy)]
 struct Early {
     number: u8,
     detail: usize,

@@ -1,4 +1,6 @@
 // Labels with an accented letter, which is the one byte E0: which field they are, and where a line that opens with one ends.
+#![tactic(auto)]
+
 ghost use Rattle.std.specs.Prelude.{◌+◌, ◌≤◌, length, drop, ◌≡◌};
 ghost use Rattle.reader_accent.specs.Accents.{accents_of, accent_field};
 ghost use Rattle.text.specs.Bytes.{is, upto};

@@ -1,4 +1,6 @@
 // From the places of a file's values to the record, field by field and by kind.
+#![tactic(auto)]
+
 ghost use Rattle.std.specs.Prelude.{◌≤◌, length, ◌≡◌};
 ghost use Rattle.reader_fill.specs.Filled.{value_with, record_with};
 ghost use Rattle.layout.specs.Layouts.{kind_at, size_of};

@@ -1,4 +1,6 @@
 // What one line of a file is: a separator, the summary row, or the value of a field, found by its label.
+#![tactic(auto)]
+
 ghost use Rattle.std.specs.Prelude.{◌+◌, ◌≤◌, ◌<◌, eqb, length, drop, false, cond, [], ◌≡◌};
 ghost use Rattle.reader_line.specs.Items.{first_labels, second_labels, head_of, is_printed, is_foreign, IsExpected, item, fielded, item_in, item_of};
 ghost use Rattle.layout.specs.Layouts.{labels_of, label_at};
@@ -14,7 +16,7 @@ use value_name::MessageType;
 
 // A line: whether it is a separator, else its field in the type's layout and in the other layout of CB (0 where it is foreign to one),
 // the place of its value, or of the row, and where its printable bytes end.
-#[derive(Drop)]
+#[derive(Clone, Copy)]
 pub struct Item {
     pub end: usize,
     pub separator: bool,
@@ -29,7 +31,7 @@ const ACCENTED: u8 = 0xE0;
 const NOWHERE: Span = Span { from: 0, to: 0 };
 
 // The label that is tried first on a line, as a layout's field, and the fields that it has in the type's layouts.
-#[derive(Drop)]
+#[derive(Clone, Copy)]
 pub struct Expected {
     pub layout: Layout,
     pub field: usize,

@@ -1,4 +1,6 @@
 // The summary row, compared in place with the body's values: nothing is built, and the row is never cut at `;`, which a value may hold.
+#![tactic(auto)]
+
 ghost use Rattle.std.specs.Prelude.{◌+◌, ◌≤◌, length, [], ◌∷◌, map, ◌≡◌};
 ghost use Rattle.layout.specs.Layouts.{size_of};
 ghost use Rattle.layout.specs.Rows.{row_fields, text_at, bands_in, tail_text, row_text, row_of};
@@ -11,7 +13,7 @@ use text::scan;
 use text_lines::Span;
 
 // Where the comparison goes on, or that the texts differ.
-#[derive(Drop)]
+#[derive(Clone, Copy)]
 pub enum Step {
     To(usize),
     Differs,

@@ -1,5 +1,7 @@
 // One walk over a message's lines: its bytes, the separators, the row's place, and of each field whether its label stood and where its value is.
 // For CB both layouts are kept, since which one it is is known only at the end.
+#![tactic(auto)]
+
 ghost use Rattle.std.specs.Prelude.{◌+◌, ◌<◌, ◌≤◌, eqb, length, cond, ◌≡◌};
 ghost use Rattle.reader_walk.specs.State.{noted_of, frame_of, handed_of, found_of};
 ghost use Rattle.text.specs.Puts.{limit};
@@ -8,21 +10,21 @@ use text_lines::{Break, Span};
 use value_name::MessageType;
 
 // The labels of one layout that were seen, as bits from the first field on, and the field of the first repeat: 0 where there is none.
-#[derive(Drop)]
+#[derive(Clone, Copy)]
 pub struct Marks {
     pub seen: u32,
     pub again: usize,
 }
 
 // A field's line noted: where its place is to be kept (0 is nobody's), and the marks after it.
-#[derive(Drop)]
+#[derive(Clone, Copy)]
 pub struct Noted {
     pub into: usize,
     pub marks: Marks,
 }
 
 // How many separators, how many lines stand between the first and the next, and the place of the first of those.
-#[derive(Drop)]
+#[derive(Clone, Copy)]
 pub struct Frame {
     pub seps: usize,
     pub inside: usize,
@@ -31,7 +33,7 @@ pub struct Frame {
 
 // What the walk found: the offset of the first byte that is not allowed (the file's length where all are), the frame, the fields of the type's
 // layout, and the fields of the other layout of CB.
-#[derive(Drop)]
+#[derive(Clone, Copy)]
 pub struct Found {
     pub stop: usize,
     pub frame: Frame,

@@ -1,4 +1,6 @@
 // The typed record of a message, by value: what each field holds, and the rooms in which texts and triples stand.
+#![tactic(auto)]
+
 pub mod at;
 
 ghost use Rattle.std.specs.Prelude.{◌≤◌, ◌≡◌};
@@ -9,13 +11,13 @@ use value::Value;
 use value_list::Triple;
 
 // What one field holds. (An array of enums cannot be a field, so each stands in a struct.)
-#[derive(Drop)]
+#[derive(Clone, Copy)]
 pub struct Cell {
     pub value: Value,
 }
 
 // `cells[k - 1]` is the field k. A text's value is its length; its bytes stand in the room of its name. Unused room is zero.
-#[derive(Drop)]
+#[derive(Clone, Copy)]
 pub struct Record {
     pub layout: Layout,
     pub cells: [Cell; 26],

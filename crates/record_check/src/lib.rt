@@ -1,4 +1,6 @@
 // Whether a record is valid. A caller may have built it from anything; the writer and the book ask before they take it.
+#![tactic(auto)]
+
 mod rooms;
 
 ghost use Rattle.layout.specs.Layouts.{kinds_of, type_of};

@@ -1,4 +1,6 @@
 // The rules across fields, 1 to 9 by number, on a record's values.
+#![tactic(auto)]
+
 ghost use Rattle.layout.specs.declared.Layout.TheVariants.{Market, VoltVar};
 ghost use Rattle.record_rules.specs.Rules.{ordered, ramped, updates, only_if, is_full, fills, rises, slopes, excludes, limits, bands, quantifies, rule, lowest, rules_of};
 ghost use Rattle.record_rules.specs.Rules.{broken_in};

@@ -1,1 +1,2 @@
 // What a valid record is (specs/Valid.antt; no code): the definition that the reader's accepted records, the writer and the book share.
+#![tactic(auto)]

@@ -1,4 +1,6 @@
 // Rule 8: a VQ message is one of the eleven rows of the table of Annex A.34, 2.9.
+#![tactic(auto)]
+
 ghost use Rattle.std.specs.Prelude.{◌<◌, get_or, ◌≡◌};
 ghost use Rattle.record_voltvar.specs.Table.{line, table, form_of, line_in, takes, meets, is_row};
 ghost use Rattle.value_ask.specs.Values.{word_number};
@@ -20,7 +22,7 @@ const WORD: u8 = 2;
 const EITHER: u8 = 3;
 
 // State, mode and regulation are words, `NO_WORD` for a blank; the others are settings.
-#[derive(Drop)]
+#[derive(Clone, Copy)]
 pub struct Line {
     pub state: u8,
     pub mode: u8,

@@ -1,4 +1,6 @@
 // What is printed of a reading: six lines of a record, two of a refusal, and what the program answers to its input.
+#![tactic(auto)]
+
 ghost use Rattle.std.specs.Prelude.{◌+◌, ◌<◌, length, ◌≡◌};
 ghost use Rattle.report_brief.specs.Brief.{six_lines};
 ghost use Rattle.report.specs.Program.{heard_of, printed_of};

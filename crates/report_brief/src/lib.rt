@@ -1,4 +1,6 @@
 // What is told of a record in brief, and its six lines.
+#![tactic(auto)]
+
 ghost use Rattle.std.specs.Prelude.{◌+◌, ◌<◌, ◌++◌, ◌≡◌};
 ghost use Rattle.report_brief.specs.Brief.{instant_text, told_of, brief_of, six_of};
 ghost use Rattle.value_name.specs.Types.{code_of};
@@ -15,7 +17,7 @@ use value::Value;
 use value_name::MessageType;
 
 // The layout, the message's number, the unit's code in its room, and start and end as they stand in the record.
-#[derive(Drop)]
+#[derive(Clone, Copy)]
 pub struct Brief {
     pub layout: Layout,
     pub number: u64,

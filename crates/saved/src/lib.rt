@@ -1,4 +1,6 @@
 // A book over a restart: saved as a text of `key=value` lines, and read back.
+#![tactic(auto)]
+
 mod orders;
 mod puts;
 
@@ -15,7 +17,7 @@ use text_keyline::Named;
 
 // One order at the front of a text: the order, how many lines it has and where it ends; or that it is bad, with how many good lines stand above its first
 // bad one alone. (No enum can hold an order, since an order holds an array.)
-#[derive(Drop)]
+#[derive(Clone, Copy)]
 pub struct OrderRead {
     pub good: bool,
     pub order: Order,
@@ -25,7 +27,7 @@ pub struct OrderRead {
 
 // What stands above the orders: the unit's code in its room, the floor, how many orders there are, the number of their first line and its place; or
 // that it is bad, with the number of the first bad line alone.
-#[derive(Drop)]
+#[derive(Clone, Copy)]
 pub struct Head {
     pub good: bool,
     pub size: usize,
@@ -37,7 +39,7 @@ pub struct Head {
 }
 
 // How long the saved text is, or a refusal's number and detail.
-#[derive(Drop)]
+#[derive(Clone, Copy)]
 pub enum Saved {
     To(usize),
     Refused(u8, usize),

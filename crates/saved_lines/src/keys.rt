@@ -5,7 +5,7 @@ ghost use Rattle.std.specs.Prelude.{◌≡◌};
 use crate::Key;
 
 // A key stands in the first bytes of its room.
-#[derive(Drop)]
+#[derive(Clone, Copy)]
 pub struct KeyText {
     pub size: usize,
     pub room: [u8; 8],

@@ -1,5 +1,7 @@
 // Texts of `key=value` lines that are read and put item by item: the form of a saved book, its head, an order. A table says, for the values of the lines
 // above, which line comes next: its key, the sort of its value and its bounds. One loop reads any item, and one puts it.
+#![tactic(auto)]
+
 mod keys;
 mod line;
 mod tables;
@@ -10,7 +12,7 @@ ghost use Rattle.saved_lines.specs.Tables.{next_of};
 ghost use Rattle.saved_lines.specs.Values.{Small};
 ghost use Rattle.text.specs.Puts.{limit, Puts};
 
-#[derive(Drop)]
+#[derive(Clone, Copy)]
 pub enum Key {
     Form,
     Floor,
@@ -25,7 +27,7 @@ pub enum Key {
 }
 
 // What a line's value is: a whole number, an amount in thousandths, or the letter of a kind.
-#[derive(Drop)]
+#[derive(Clone, Copy)]
 pub enum Sort {
     Whole,
     Amount,
@@ -33,14 +35,14 @@ pub enum Sort {
 }
 
 // The line that comes next, with the least and the greatest number that its value may be; or none.
-#[derive(Drop)]
+#[derive(Clone, Copy)]
 pub enum Next {
     Line(Key, Sort, u64, u64),
     Done,
 }
 
 // A line as it is met: its value as one number and where its LF stands; that it is wrong; or that none is wanted any more.
-#[derive(Drop)]
+#[derive(Clone, Copy)]
 pub enum Met {
     Says(u64, usize),
     Wrong,
@@ -48,7 +50,7 @@ pub enum Met {
 }
 
 // Which items there are.
-#[derive(Drop)]
+#[derive(Clone, Copy)]
 pub enum Table {
     Form,
     Head,
@@ -56,14 +58,14 @@ pub enum Table {
 }
 
 // What the items above leave to an order: the least number, and the least end.
-#[derive(Drop)]
+#[derive(Clone, Copy)]
 pub struct Above {
     pub least: u64,
     pub end: u64,
 }
 
 // What an item's lines say: their values and where the item ends; or how many good lines stand above the first bad one.
-#[derive(Drop)]
+#[derive(Clone, Copy)]
 pub struct Item {
     pub good: bool,
     pub lines: usize,

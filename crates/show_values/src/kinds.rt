@@ -4,7 +4,7 @@ use value::{Kind, Shape};
 use value_name::MessageType;
 use value_word::names;
 
-#[derive(Drop)]
+#[derive(Clone, Copy)]
 pub(crate) enum Asked {
     Of(Kind),
     Unknown,

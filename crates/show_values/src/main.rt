@@ -1,5 +1,7 @@
 // Texts in, values out. Each line of standard input is a kind and a text; what the text is read as is printed in its written form,
 // a date with its instant, or `refused`. The compiled functions are tried on stdin and compared with stdout by the gate.
+#![tactic(auto)]
+
 mod kinds;
 
 use kinds::Asked;

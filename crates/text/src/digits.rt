@@ -4,7 +4,7 @@ ghost use Rattle.text.specs.Bytes.{is_digit};
 ghost use Rattle.text.specs.Digits.{digits_of, lead_of, digits_text, whole_text};
 
 // The number that digits write, or that they are none.
-#[derive(Drop)]
+#[derive(Clone, Copy)]
 pub enum Digits {
     Are(u64),
     Not,
@@ -44,7 +44,7 @@ pub fn read_digits(s: &[u8], most: usize) -> Digits
 }
 
 // The digits that a text begins with: how many, and the number that they write.
-#[derive(Drop)]
+#[derive(Clone, Copy)]
 pub struct Led {
     pub count: usize,
     pub value: u64,

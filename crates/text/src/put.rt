@@ -9,7 +9,7 @@ ghost use Rattle.std.proofs.lemmas.List.Edits.{sets};
 use crate::{digits, words};
 
 // What a write answers: the place past what was written, or how many bytes it would have taken.
-#[derive(Drop)]
+#[derive(Clone, Copy)]
 pub enum Wrote {
     To(usize),
     NoRoom(usize),

@@ -1,4 +1,6 @@
 // Lines `key=value`, each ended by LF: the plan's, the program's own, the unit sheet's, a saved book's.
+#![tactic(auto)]
+
 ghost use Rattle.text_keyline.specs.Keylines.{line_of, below, line_text, whole_in, number_at, named_to};
 ghost use Rattle.text.specs.Bytes.{is, upto};
 ghost use Rattle.text.specs.Digits.{whole_text};
@@ -10,14 +12,14 @@ use text::{put, scan};
 use value_name::{sequence, unit};
 
 // Where a text's first line ends, or that it is not such a line.
-#[derive(Drop)]
+#[derive(Clone, Copy)]
 pub enum Line {
     Ends(usize),
     Bad,
 }
 
 // Where the LF of the unit's line stands.
-#[derive(Drop)]
+#[derive(Clone, Copy)]
 pub enum Named {
     To(usize),
     Not,

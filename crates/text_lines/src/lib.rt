@@ -1,4 +1,6 @@
 // Lines of a file by their places: where a line ends, where its text stands without blanks, and whether it is a separator.
+#![tactic(auto)]
+
 ghost use Rattle.std.specs.Prelude.{◌+◌, ◌≤◌, ◌<◌, length, drop, ◌≡◌};
 ghost use Rattle.text_lines.specs.Lines.{is_sep};
 ghost use Rattle.text_lines.specs.Places.{trimmed_at, plain_run, break_of};
@@ -7,14 +9,14 @@ ghost use Rattle.text.specs.Bytes.{part, all, is_plain};
 use text::scan;
 
 // A part of a file, by its ends. A file has at most 8,192 bytes, so 16 bits hold an end, and a layout's places are small enough to go by value.
-#[derive(Drop)]
+#[derive(Clone, Copy)]
 pub struct Span {
     pub from: u16,
     pub to: u16,
 }
 
 // How many bytes end a line, or that what stands there is not allowed.
-#[derive(Drop)]
+#[derive(Clone, Copy)]
 pub enum Break {
     After(usize),
     Bad,

@@ -1,4 +1,6 @@
 // Texts kept in rooms of fixed size: the unused room is zero, and a text that is too long is not kept.
+#![tactic(auto)]
+
 ghost use Rattle.text_room.specs.Rooms.{kept_in};
 ghost use Rattle.std.specs.Prelude.{◌≡◌};
 

@@ -1,4 +1,6 @@
 // Start-up and ramp times: the part of the message file that holds the value or, where the message leaves it blank, that part of the unit sheet.
+#![tactic(auto)]
+
 ghost use Rattle.times.specs.Times.{field_no, time_of, part_in, StandsIn, time_refusal};
 ghost use Rattle.std.specs.Prelude.{◌≡◌};
 
@@ -6,7 +8,7 @@ use layout::fields;
 use times_sheet::Which;
 
 // Where the time stands: in the file or in the sheet, from and up to; or a refusal's number and detail.
-#[derive(Drop)]
+#[derive(Clone, Copy)]
 pub enum Time {
     File(usize, usize),
     Sheet(usize, usize),
@@ -14,7 +16,7 @@ pub enum Time {
 }
 
 // A refusal's number and detail; 0 and 0 where there is none.
-#[derive(Drop)]
+#[derive(Clone, Copy)]
 pub struct Refusal {
     pub number: u8,
     pub detail: usize,

@@ -1,4 +1,6 @@
 // The unit sheet: `unit=`, `avviamento=`, `rampa=`, three lines, each ended by LF, the last two holding a number.
+#![tactic(auto)]
+
 ghost use Rattle.std.specs.Prelude.{◌≤◌, length, true, ◌≡◌};
 ghost use Rattle.text_keyline.specs.Keylines.{below};
 ghost use Rattle.times_sheet.specs.Sheet.{is_number, number_line, unit_line, good_numbers, is_for, after_key, sheet_part};
@@ -9,14 +11,14 @@ use text_keyline::Line;
 use value_number::Number;
 
 // Which of the two times is asked for.
-#[derive(Drop)]
+#[derive(Clone, Copy)]
 pub enum Which {
     StartUp,
     Ramp,
 }
 
 // A part of a text, by its ends.
-#[derive(Drop)]
+#[derive(Clone, Copy)]
 pub struct Part {
     pub from: usize,
     pub to: usize,

@@ -1,6 +1,8 @@
 // A file from its segments: units of a transfer go in one by one, and the file comes out whole, or a refusal. The octets stand in a room that the caller
 // lends, of 8,192, so that none can lend too little; the collector goes by value and says how far the room is filled. Sums are not kept: a section's octets
 // stand in the room, so nothing in the collector could disagree with them. A caller may have built the collector from anything: each is answered.
+#![tactic(auto)]
+
 pub mod state;
 
 ghost use Rattle.std.specs.Prelude.{◌≤◌, ◌+◌, ◌%◌, eqb, [], ◌≡◌};
@@ -11,7 +13,7 @@ use text::{put, scan};
 use transfer_unit::Told;
 
 // No transfer, between two sections of one, within one.
-#[derive(Drop)]
+#[derive(Clone, Copy)]
 pub enum Turn {
     Fresh,
     Between,
@@ -20,7 +22,7 @@ pub enum Turn {
 
 // Of a transfer: its address and the length that was announced, how many sections have ended, where the open section starts and what length was announced for
 // it, and how many octets are collected.
-#[derive(Drop)]
+#[derive(Clone, Copy)]
 pub struct Collector {
     pub turn: Turn,
     pub ca: u32,
@@ -33,7 +35,7 @@ pub struct Collector {
 }
 
 // The file is not whole yet; it is, with its address and how many octets it has; a refusal's number.
-#[derive(Drop)]
+#[derive(Clone, Copy)]
 pub enum Heard {
     More,
     Whole(u32, u32, usize),
@@ -41,7 +43,7 @@ pub enum Heard {
 }
 
 // The answer to a unit, and the collector that is handed back.
-#[derive(Drop)]
+#[derive(Clone, Copy)]
 pub struct Taken {
     pub heard: Heard,
     pub collector: Collector,

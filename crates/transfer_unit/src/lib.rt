@@ -1,9 +1,11 @@
 // File-transfer units, ASDUs of IEC 60870-5-101, as far as a file is collected from them (docs/UNITS.md). Octets count from 1, as in the standard.
+#![tactic(auto)]
+
 ghost use Rattle.std.specs.Prelude.{◌<◌, ◌≡◌};
 ghost use Rattle.transfer_unit.specs.Units.{octet, three, ca_of, ioa_of, is_ours, file_ready, section_ready, segment, last_of, told_by};
 
 // What a unit says: a length announced; the name of a section, and of a segment how many octets it brings, from the unit's 14th on; a checksum.
-#[derive(Drop)]
+#[derive(Clone, Copy)]
 pub enum Told {
     FileReady(u32),
     SectionReady(u8, u32),

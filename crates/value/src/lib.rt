@@ -1,4 +1,6 @@
 // Every kind of value that a message can hold, and how it is read from its trimmed text. (The crate value_put puts it as text.)
+#![tactic(auto)]
+
 pub mod read;
 
 use value_date::Date;
@@ -6,20 +8,20 @@ use value_list::Numbers;
 use value_name::MessageType;
 
 // The four quantities of VQ, each in thousandths. None may be put for another.
-#[derive(Drop)]
+#[derive(Clone, Copy)]
 pub struct Kv(pub i32);
 
-#[derive(Drop)]
+#[derive(Clone, Copy)]
 pub struct RatPercent(pub i32);
 
-#[derive(Drop)]
+#[derive(Clone, Copy)]
 pub struct ChangePercent(pub i32);
 
-#[derive(Drop)]
+#[derive(Clone, Copy)]
 pub struct MVar(pub i32);
 
 // What one field holds. The bytes of a text and the triples stand in their rooms beside the values; here is how many there are.
-#[derive(Drop)]
+#[derive(Clone, Copy)]
 pub enum Value {
     Blank,
     Id(u64),
@@ -39,7 +41,7 @@ pub enum Value {
 }
 
 // What a field may hold. A word is one of those numbered from the first to the last.
-#[derive(Drop)]
+#[derive(Clone, Copy)]
 pub enum Shape {
     IsId(MessageType),
     IsUnit,
@@ -58,14 +60,14 @@ pub enum Shape {
     IsReactive,
 }
 
-#[derive(Drop)]
+#[derive(Clone, Copy)]
 pub struct Kind {
     pub shape: Shape,
     pub blank: bool,
 }
 
 // A value that was read, or that the text is none of its kind.
-#[derive(Drop)]
+#[derive(Clone, Copy)]
 pub enum Got {
     Read(Value),
     Bad,

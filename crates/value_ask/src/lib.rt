@@ -1,4 +1,6 @@
 // What a rule asks of a value: one question for each shape, with what is said where the value is of another.
+#![tactic(auto)]
+
 ghost use Rattle.value_ask.specs.Values.{is_filled, number_in, count_in, size_in, instant_in, amount_in, word_number, triples_in, list_size, none_below, not_negative};
 ghost use Rattle.std.specs.Prelude.{◌≡◌};
 

@@ -1,4 +1,6 @@
 // How far values go, by name: once in code, and once in specs/.
+#![tactic(auto)]
+
 ghost use Rattle.value_bounds.specs.Bounds.{is_instant, is_amount};
 ghost use Rattle.std.specs.Prelude.{◌≡◌};
 

@@ -1,4 +1,6 @@
 // Dates of a message: read, judged by the calendar, put, and their instants.
+#![tactic(auto)]
+
 ghost use Rattle.std.specs.Prelude.{◌+◌, ◌-◌, ◌*◌, ◌≤◌, ◌<◌, length, take, drop, true, ◌∷◌, ◌≡◌};
 ghost use Rattle.value_date.specs.Date.{fits_byte, shaped, date_shape, field_at, date_parts, days_in, is_real, date_of, days_of, hours_ahead, clock_of, instant_of};
 ghost use Rattle.value_date.specs.Date.{before, day_text, time_text, letter, letter_text, date_text};
@@ -12,7 +14,7 @@ use text::{digits, put};
 
 // A date as it is written, kept whole. The year has four bytes, so that no number of a date lies across two words of a value that holds it: else each
 // value read would take a way through memory.
-#[derive(Drop)]
+#[derive(Clone, Copy)]
 pub struct Date {
     pub year: u32,
     pub month: u8,
@@ -25,7 +27,7 @@ pub struct Date {
 }
 
 // A date that was read, or that it is none.
-#[derive(Drop)]
+#[derive(Clone, Copy)]
 pub enum Dated {
     Is(Date),
     Bad,

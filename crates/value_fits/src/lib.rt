@@ -1,4 +1,6 @@
 // Whether a value is one that its kind may hold. A caller may have built it from anything.
+#![tactic(auto)]
+
 mod numbers;
 mod shapes;
 mod texts;

@@ -1,4 +1,6 @@
 // What a message names: its own identifier, its unit, and the command that a revocation is about.
+#![tactic(auto)]
+
 pub mod identifier;
 pub mod sequence;
 pub mod unit;
@@ -7,7 +9,7 @@ ghost use Rattle.value_name.specs.Types.{code_of};
 ghost use Rattle.std.specs.Prelude.{◌≡◌};
 
 // The types that an address can have. The type comes from the address plan, never from the message.
-#[derive(Drop)]
+#[derive(Clone, Copy)]
 pub enum MessageType {
     Cb,
     Rc,

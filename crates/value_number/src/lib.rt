@@ -1,4 +1,6 @@
 // The numbers of a message: read into thousandths, and put in their shortest form.
+#![tactic(auto)]
+
 ghost use Rattle.std.specs.Prelude.{◌+◌, ◌-◌, ◌^◌, ◌≤◌, ◌<◌, eqb, pos, neg_ℤ, nat_abs, length, get_or, drop, false, cond, ◌∷◌, ◌≡◌};
 ghost use Rattle.value_number.specs.Number.{fraction_of, joined_digits, unsigned_of, number_of, fraction_text, decimals_text, sign_text, number_text, before_at};
 ghost use Rattle.value_number.specs.Number.{zero_fits, are_short};
@@ -11,7 +13,7 @@ use text::digits::Digits;
 use text::{digits, put, scan};
 
 // A number in thousandths, or that it is none.
-#[derive(Drop)]
+#[derive(Clone, Copy)]
 pub enum Number {
     Is(i32),
     Bad,
@@ -111,7 +113,7 @@ pub fn read(s: &[u8]) -> Number
 }
 
 // A number of a list, with where its part ends.
-#[derive(Drop)]
+#[derive(Clone, Copy)]
 pub enum NumberAt {
     Is(i32, usize),
     Bad,
@@ -222,7 +224,7 @@ pub fn magnitude(x: i32) -> u64
 }
 
 // Decimals without their trailing zeros.
-#[derive(Drop)]
+#[derive(Clone, Copy)]
 struct Decimals {
     size: usize,
     value: u64,

@@ -1,4 +1,6 @@
 // Values put as text into a lent buffer, with room or refused.
+#![tactic(auto)]
+
 ghost use Rattle.std.specs.Prelude.{◌+◌, ◌<◌, ◌≡◌};
 ghost use Rattle.value_put.specs.Rooms.{Narrow};
 ghost use Rattle.text.specs.Puts.{limit, wrote_of, buffer_of, Puts};

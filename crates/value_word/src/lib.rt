@@ -1,4 +1,6 @@
 // The constants of the layouts, as words numbered once for all of them. One table serves the reader and the writer.
+#![tactic(auto)]
+
 pub mod names;
 
 ghost use Rattle.std.specs.Prelude.{◌+◌, ◌-◌, ◌<◌, get_or, [], ◌≡◌};
@@ -8,14 +10,14 @@ ghost use Rattle.value_word.specs.Words.{command_words, mode_words, setting_word
 use text::{put, scan, words};
 
 // The word that a text is, by its number, or that it is none of those that may stand.
-#[derive(Drop)]
+#[derive(Clone, Copy)]
 pub enum Word {
     Is(u8),
     Not,
 }
 
 // A word as two numbers of eight bytes and one of four, the first byte of each the lowest, past its end zero; and how long it is.
-#[derive(Drop)]
+#[derive(Clone, Copy)]
 pub struct Spelling {
     pub size: usize,
     pub first: u64,

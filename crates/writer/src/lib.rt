@@ -1,4 +1,6 @@
 // The writer, record to file, and the normaliser, accepted file to the written form of its record. A refusal changes no byte of the output.
+#![tactic(auto)]
+
 ghost use Rattle.layout.specs.Layouts.{size_of};
 ghost use Rattle.text_lines.specs.Places.{Placed, column_in};
 ghost use Rattle.reader.specs.Reader.{read_of};
@@ -17,7 +19,7 @@ use value_list::Triple;
 use writer_message::put_message;
 
 // What a write answers: how many bytes were written, or a refusal's number and detail.
-#[derive(Drop)]
+#[derive(Clone, Copy)]
 pub enum Written {
     Length(usize),
     Refused(u8, usize),

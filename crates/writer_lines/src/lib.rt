@@ -1,4 +1,6 @@
 // The parameter lines of a message, put into a lent buffer: what there is room for is written, and the answer is the place past it.
+#![tactic(auto)]
+
 ghost use Rattle.std.specs.Prelude.{◌+◌, ◌≤◌, ◌<◌, length, [], ◌∷◌, map};
 ghost use Rattle.layout.specs.Layouts.{label_at, labels_of, size_of, type_of};
 ghost use Rattle.text_lines.specs.Places.{Placed, column_in};

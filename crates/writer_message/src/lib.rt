@@ -1,4 +1,6 @@
 // The written form of a message, put into a lent buffer: what there is room for is written, and the answer is the place past it.
+#![tactic(auto)]
+
 ghost use Rattle.std.specs.Prelude.{◌+◌, ◌≤◌, ◌<◌, length};
 ghost use Rattle.layout.specs.Layouts.{size_of};
 ghost use Rattle.layout.specs.Rows.{row_of};

@@ -1,4 +1,6 @@
 // The summary row of a message, put into a lent buffer: what there is room for is written, and the answer is the place past it.
+#![tactic(auto)]
+
 ghost use Rattle.std.specs.Prelude.{◌+◌, ◌<◌, map};
 ghost use Rattle.layout.specs.Layouts.{type_of};
 ghost use Rattle.layout.specs.Rows.{row_fields, text_at, halves, tail_text, row_text, row_of};

@@ -4,7 +4,7 @@ use crate::request::parts::{letter_of, past, piece, word_of};
 use crate::request::{Part, hex};
 
 // What a call asks of the book and its summary; `Unknown` is one that is not of the form.
-#[derive(Drop)]
+#[derive(Clone, Copy)]
 pub(crate) enum Act {
     Command,
     Revoke,
@@ -20,7 +20,7 @@ pub(crate) enum Act {
 
 // `C:TYPE:UNIT:FILE`, `V:..`, `X:t`, `Q:t`, `D:t`, `S:ROOM`, `L:TEXT`, `P` or `E`, and the calls that are left after it. `t` is a room's size too, and `file`
 // a saved text. What its letter does not ask for says nothing.
-#[derive(Drop)]
+#[derive(Clone, Copy)]
 pub(crate) struct Call {
     pub(crate) act: Act,
     pub(crate) t: u32,

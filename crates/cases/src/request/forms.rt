@@ -74,7 +74,7 @@ pub(crate) fn kind_of(line: &[u8], f: Fields) -> Kind {
 }
 
 // Which field of its line each part of a request is.
-#[derive(Drop)]
+#[derive(Clone, Copy)]
 pub(crate) struct Shape {
     pub(crate) plan: usize,
     pub(crate) ca: usize,

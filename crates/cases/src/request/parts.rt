@@ -4,7 +4,7 @@ use text::digits::Digits;
 use text::{digits, scan};
 
 // Up to eight fields; a count of 9 says that there are more.
-#[derive(Drop)]
+#[derive(Clone, Copy)]
 pub(crate) struct Fields {
     pub(crate) count: usize,
     pub(crate) places: [Part; 8],
@@ -53,7 +53,7 @@ pub(crate) fn letter_of(line: &[u8], p: Part) -> u8 {
 }
 
 // A number of 32 bits, or that a field is none.
-#[derive(Drop)]
+#[derive(Clone, Copy)]
 pub(crate) struct Word {
     pub(crate) good: bool,
     pub(crate) n: u32,

@@ -1,0 +1,7 @@
+use Rattle.text.proofs.Runs.{put_past}
+use borrow.Author.Rules.{rules}
+use mathlib.Core.Path.{refl}
+use Rattle.text.proofs.put.put_byte.Goals as goal
+
+pub returns : goal.returns
+returns c = (refl, put_past _ _ _ c.if-at-out.false)

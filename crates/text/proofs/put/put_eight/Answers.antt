@@ -1,0 +1,8 @@
+use Rattle.text.proofs.Loads.{eight_moved}
+use borrow.Author.Rules.{rules}
+use Rattle.text.proofs.put.put_eight.Goals as goal
+
+pub returns : goal.returns
+returns c =
+    eight_moved c.args.t.now c.args.i c.args.out.now c.args.at c.shared_slice_known-1.given c.requires.1 c.eight.ensures
+    c.put_word.ensures

@@ -1,0 +1,16 @@
+use Prim.Native.Nat.{◌-◌}
+use Rattle.text.proofs.Cuts.{alike_stop, alike_next, alike_last}
+use Rattle.text.specs.Bytes.{same}
+use borrow.Author.Rules.{rules}
+use borrow.Author.Tests.{not-true, not-false}
+use lib.ListN.{take, drop}
+use mathlib.Core.Path.{◌≡◌, sym, ◌∙◌}
+use native.Mathlib.Omega.{arith}
+use Rattle.text.proofs.scan.alike.Given as goal
+
+-- The first n of both are the same where those from i on are, and so, once i is past them, where the last eight are.
+abbrev pub invariant-loop-i : goal.invariant-loop-i
+invariant-loop-i l = same (take l.n l.a) (take l.n l.b) ≡ same (drop l.i (take l.n l.a)) (drop l.i (take l.n l.b))
+
+abbrev pub decreases-loop-i : goal.decreases-loop-i
+decreases-loop-i l = l.last - l.i
