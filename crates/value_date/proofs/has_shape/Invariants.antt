@@ -1,0 +1,17 @@
+use Prim.Native.Nat.{◌-◌, ◌≤◌}
+use Rattle.value_date.proofs.Laws.{shape_differs, shape_on, shape_off, shape_end}
+use Rattle.value_date.specs.Date.{fits_byte, shaped}
+use borrow.Author.Rules.{rules}
+use borrow.Author.Tests.{not-true, not-false}
+use lib.ListN.{length, get_or, drop}
+use mathlib.Core.Bool.{true, false}
+use mathlib.Core.Path.{◌≡◌, refl, sym, ◌∙◌}
+use native.Mathlib.Omega.{arith}
+use Rattle.value_date.proofs.has_shape.Given as goal
+
+-- The bytes passed fit, so what follows decides.
+abbrev pub invariant-loop-i : goal.invariant-loop-i
+invariant-loop-i l = (l.i ≤ length l.s) × (length l.shape ≡ length l.s) × (shaped (drop l.i l.shape) (drop l.i l.s) ≡ shaped l.shape l.s)
+
+abbrev pub decreases-loop-i : goal.decreases-loop-i
+decreases-loop-i l = length l.s - l.i

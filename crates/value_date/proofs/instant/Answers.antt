@@ -1,0 +1,7 @@
+use Rattle.value_date.specs.Date.{instant_of}
+use borrow.Author.Rules.{rules}
+use Rattle.value_date.proofs.instant.Goals as goal
+
+pub returns : goal.returns
+unfolding instant_of
+returns c = rw (c.less.ensures, c.ahead_of.ensures, c.clock.ensures)

@@ -1,0 +1,6 @@
+use Rattle.value_name.proofs.Readers.{with_dash}
+use borrow.Author.Rules.{rules}
+use Rattle.value_name.proofs.identifier.prefix.Goals as goal
+
+pub returns : goal.returns
+returns c = with_dash c.args.t _ c.code-code.ensures

@@ -1,0 +1,46 @@
+use Prim.Native.Nat.{ℕ, ◌+◌, ◌-◌, ◌≤◌}
+use Rattle.value_number.proofs.Shorts.{short_end, short_blank, short_bad, short_on}
+use Rattle.value_number.specs.Number.{before_at, zero_fits, short_from, are_short}
+use borrow.Author.Rules.{rules}
+use borrow.Author.Tests.{not-true, not-false}
+use lib.ListN.{length, get_or, drop}
+use mathlib.Core.Bool.{true}
+use mathlib.Core.List.{List}
+use mathlib.Core.Logic.{⊎_elim}
+use mathlib.Core.Path.{◌≡◌, refl, sym, ◌∙◌}
+use native.Mathlib.Omega.{arith}
+use Rattle.value_number.proofs.are_short.Goals as goal
+use Rattle.value_number.proofs.are_short.Goals.{then-b-eq48+else-not-zero_fits, else-b-eq48}
+
+pub loop-i-init : goal.loop-i-init
+unfolding are_short
+loop-i-init c = (omega arith, refl)
+
+pub returns-then-b-eq32 : goal.returns-then-b-eq32
+returns-then-b-eq32 c =
+    let l = c.loop-i in
+    short_blank c.args.s.now l.i _ _ c.loop-i-test.true c.if-b-eq32.true ∙ sym l.invariant.1
+
+pub returns-then-not-zero_fits : goal.returns-then-not-zero_fits
+returns-then-not-zero_fits c =
+    let l = c.loop-i in
+    let s = c.args.s.now in
+    let bad = sym c.zero_fits.ensures ∙ c.if-not-zero_fits.true in
+    short_bad s l.i (before_at l.i s) l.fraction c.loop-i-test.true c.if-b-eq48.true bad ∙ sym l.invariant.1
+
+pub loop-i-preserved : goal.loop-i-preserved
+loop-i-preserved c =
+    let l = c.loop-i in
+    let s = c.args.s.now in
+    let fits : get_or s l.i 0 ≡ 48 → zero_fits (before_at l.i s) l.fraction (get_or s (l.i + 1) 0) ≡ true =
+    λ e. elim c.if-b-eq48.branch [
+      then-b-eq48+else-not-zero_fits w ↦ sym w.zero_fits.ensures ∙ w.if-not-zero_fits.false
+    | else-b-eq48 w ↦ absurd (w.if-b-eq48.false e)
+    ] in
+    (omega arith, l.invariant.1 ∙ short_on s l.i _ _ c.loop-i-test.true c.if-b-eq32.false fits)
+
+pub returns : goal.returns
+returns c =
+    let l = c.loop-i in
+    let s = c.args.s.now in
+    short_end s l.i _ _ c.loop-i-test.false ∙ sym l.invariant.1

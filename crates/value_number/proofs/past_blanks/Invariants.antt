@@ -1,0 +1,17 @@
+use Prim.Native.Nat.{◌-◌, ◌≤◌}
+use Rattle.value_number.proofs.Bodies.{blank_here, blank_end}
+use Rattle.text.proofs.Cuts.{skip_on}
+use Rattle.text.specs.Bytes.{skip, is_blank}
+use borrow.Author.Rules.{rules}
+use borrow.Author.Tests.{eq-eqb}
+use lib.ListN.{length, get_or, drop}
+use mathlib.Core.Path.{◌≡◌, refl, ◌∙◌}
+use native.Mathlib.Omega.{arith}
+use Rattle.value_number.proofs.past_blanks.Given as goal
+
+-- What stands before i and after the place is blank.
+abbrev pub invariant-loop-i : goal.invariant-loop-i
+invariant-loop-i l = (l.at ≤ l.i) × (l.i ≤ length l.s) × (skip is_blank (drop l.at l.s) ≡ skip is_blank (drop l.i l.s))
+
+abbrev pub decreases-loop-i : goal.decreases-loop-i
+decreases-loop-i l = length l.s - l.i

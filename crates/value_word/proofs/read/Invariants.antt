@@ -1,0 +1,15 @@
+use Prim.Native.Nat.{suc, ◌-◌}
+use Rattle.value_word.proofs.Numbers.{spelt_is, too_long}
+use Rattle.value_word.proofs.Search.{word_here, word_on, word_end}
+use Rattle.value_word.specs.Words.{word_from, word_in}
+use borrow.Author.Rules.{rules}
+use mathlib.Core.Path.{◌≡◌, refl, sym, ◌∙◌}
+use native.Mathlib.Omega.{arith}
+use Rattle.value_word.proofs.read.Given as goal
+
+-- The words from w on answer as all of them do; a longer text is none.
+abbrev pub invariant-loop-w : goal.invariant-loop-w
+invariant-loop-w l = word_in l.first l.last l.s ≡ word_from (suc l.last - l.w) l.w l.s
+
+abbrev pub decreases-loop-w : goal.decreases-loop-w
+decreases-loop-w l = suc l.last - l.w
