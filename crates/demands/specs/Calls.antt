@@ -1,22 +1,41 @@
 -- The calls that a caller outside these crates makes: their contracts, and that their code meets them.
+use Rattle.book.specs.contracts as book_contracts
 use Rattle.book.proofs as book
+use Rattle.report_brief.specs.contracts as report_brief_contracts
 use Rattle.report_brief.proofs as report_brief
+use Rattle.value_date.specs.contracts as value_date_contracts
 use Rattle.value_date.proofs as value_date
+use Rattle.gateway.specs.contracts as gateway_contracts
 use Rattle.gateway.proofs as gateway
+use Rattle.value_list.specs.contracts as value_list_contracts
 use Rattle.value_list.proofs as value_list
+use Rattle.value_name.specs.contracts as value_name_contracts
 use Rattle.value_name.proofs as value_name
+use Rattle.value_number.specs.contracts as value_number_contracts
 use Rattle.value_number.proofs as value_number
+use Rattle.plan.specs.contracts as plan_contracts
 use Rattle.plan.proofs as plan
+use Rattle.reader.specs.contracts as reader_contracts
 use Rattle.reader.proofs as reader
+use Rattle.value_put.specs.contracts as value_put_contracts
 use Rattle.value_put.proofs as value_put
+use Rattle.report.specs.contracts as report_contracts
 use Rattle.report.proofs as report
+use Rattle.record_rules.specs.contracts as record_rules_contracts
 use Rattle.record_rules.proofs as record_rules
+use Rattle.times.specs.contracts as times_contracts
 use Rattle.times.proofs as times
+use Rattle.saved.specs.contracts as saved_contracts
 use Rattle.saved.proofs as saved
+use Rattle.transfer.specs.contracts as transfer_contracts
 use Rattle.transfer.proofs as transfer
+use Rattle.record_check.specs.contracts as record_check_contracts
 use Rattle.record_check.proofs as record_check
+use Rattle.value.specs.contracts as value_contracts
 use Rattle.value.proofs as value
+use Rattle.value_word.specs.contracts as value_word_contracts
 use Rattle.value_word.proofs as value_word
+use Rattle.writer.specs.contracts as writer_contracts
 use Rattle.writer.proofs as writer
 use Rattle.text.specs.Shapes.{Answers, Lends, Writes, WritesTwo}
 
@@ -25,65 +44,65 @@ use Rattle.text.specs.Shapes.{Answers, Lends, Writes, WritesTwo}
 pub record Calls : Type 0 where
   -- the entries that a C host calls
   pub gateway_halimpung_read :
-      Writes gateway.halimpung_read.ended (λ κs e. e.1.1.1.1.0.now) gateway.halimpung_read.Reads.Asked gateway.halimpung_read.Reads.Learnt
+      Writes gateway_contracts.halimpung_read.ended (λ κs e. e.1.1.1.1.0.now) gateway.halimpung_read.Reads.Asked gateway.halimpung_read.Reads.Learnt
   pub gateway_halimpung_normalise :
-      Writes gateway.halimpung_normalise.ended (λ κs e. e.1.1.1.1.0.now) gateway.halimpung_normalise.Reads.Asked gateway.halimpung_normalise.Reads.Learnt
+      Writes gateway_contracts.halimpung_normalise.ended (λ κs e. e.1.1.1.1.0.now) gateway.halimpung_normalise.Reads.Asked gateway.halimpung_normalise.Reads.Learnt
   pub gateway_halimpung_collect :
-      WritesTwo gateway.halimpung_collect.ended (λ κs e. e.1.0.now) (λ κs e. e.1.1.0.now) gateway.halimpung_collect.Reads.Asked
+      WritesTwo gateway_contracts.halimpung_collect.ended (λ κs e. e.1.0.now) (λ κs e. e.1.1.0.now) gateway.halimpung_collect.Reads.Asked
       gateway.halimpung_collect.Reads.Learnt
   -- files and records: the reader, the writer, the normaliser, the test of a record, the lowest rule that it breaks, what is told of it
-  pub reader_read : Answers reader.read.ended reader.read.Reads.Asked reader.read.Reads.Learnt
-  pub writer_write : Writes writer.write.ended (λ κs e. e.1.0.now) writer.write.Reads.Asked writer.write.Reads.Learnt
-  pub writer_normalise : Writes writer.normalise.ended (λ κs e. e.1.1.1.1.0.now) writer.normalise.Reads.Asked writer.normalise.Reads.Learnt
-  pub record_check_is_valid : Answers record_check.is_valid.ended record_check.is_valid.Reads.Asked record_check.is_valid.Reads.Learnt
-  pub record_rules_lowest_broken : Answers record_rules.lowest_broken.ended record_rules.lowest_broken.Reads.Asked record_rules.lowest_broken.Reads.Learnt
-  pub report_brief_of_record : Answers report_brief.of_record.ended report_brief.of_record.Reads.Asked report_brief.of_record.Reads.Learnt
+  pub reader_read : Answers reader_contracts.read.ended reader.read.Reads.Asked reader.read.Reads.Learnt
+  pub writer_write : Writes writer_contracts.write.ended (λ κs e. e.1.0.now) writer.write.Reads.Asked writer.write.Reads.Learnt
+  pub writer_normalise : Writes writer_contracts.normalise.ended (λ κs e. e.1.1.1.1.0.now) writer.normalise.Reads.Asked writer.normalise.Reads.Learnt
+  pub record_check_is_valid : Answers record_check_contracts.is_valid.ended record_check.is_valid.Reads.Asked record_check.is_valid.Reads.Learnt
+  pub record_rules_lowest_broken : Answers record_rules_contracts.lowest_broken.ended record_rules.lowest_broken.Reads.Asked record_rules.lowest_broken.Reads.Learnt
+  pub report_brief_of_record : Answers report_brief_contracts.of_record.ended report_brief.of_record.Reads.Asked report_brief.of_record.Reads.Learnt
   -- a file from its segments: a fresh collector, and one unit
-  pub transfer_fresh : Answers transfer.fresh.ended transfer.fresh.Reads.Asked transfer.fresh.Reads.Learnt
+  pub transfer_fresh : Answers transfer_contracts.fresh.ended transfer.fresh.Reads.Asked transfer.fresh.Reads.Learnt
   pub transfer_take :
-      Writes transfer.Collector.take.ended (λ κs e. e.1.1.0.now) transfer.Collector.take.Reads.Asked transfer.Collector.take.Reads.Learnt
+      Writes transfer_contracts.Collector.take.ended (λ κs e. e.1.1.0.now) transfer.Collector.take.Reads.Asked transfer.Collector.take.Reads.Learnt
   -- the book: a fresh one and one of a unit, the four calls, the two deeds without a message, and how many orders it holds
-  pub book_fresh : Answers book.fresh.ended book.fresh.Reads.Asked book.fresh.Reads.Learnt
-  pub book_command : Answers book.Book.command.ended book.Book.command.Reads.Asked book.Book.command.Reads.Learnt
-  pub book_revoke : Answers book.Book.revoke.ended book.Book.revoke.Reads.Asked book.Book.revoke.Reads.Learnt
-  pub book_close : Answers book.Book.close.ended book.Book.close.Reads.Asked book.Book.close.Reads.Learnt
-  pub book_in_force : Answers book.Book.in_force.ended book.Book.in_force.Reads.Asked book.Book.in_force.Reads.Learnt
-  pub book_panel : Answers book.Book.panel.ended book.Book.panel.Reads.Asked book.Book.panel.Reads.Learnt
-  pub book_with : Answers book.with.ended book.with.Reads.Asked book.with.Reads.Learnt
-  pub book_hold : Answers book.Book.hold.ended book.Book.hold.Reads.Asked book.Book.hold.Reads.Learnt
-  pub book_strike : Answers book.Book.strike.ended book.Book.strike.Reads.Asked book.Book.strike.Reads.Learnt
-  pub book_tally : Answers book.Book.tally.ended book.Book.tally.Reads.Asked book.Book.tally.Reads.Learnt
-  pub book_zero : Answers book.zero.ended book.zero.Reads.Asked book.zero.Reads.Learnt
+  pub book_fresh : Answers book_contracts.fresh.ended book.fresh.Reads.Asked book.fresh.Reads.Learnt
+  pub book_command : Answers book_contracts.Book.command.ended book.Book.command.Reads.Asked book.Book.command.Reads.Learnt
+  pub book_revoke : Answers book_contracts.Book.revoke.ended book.Book.revoke.Reads.Asked book.Book.revoke.Reads.Learnt
+  pub book_close : Answers book_contracts.Book.close.ended book.Book.close.Reads.Asked book.Book.close.Reads.Learnt
+  pub book_in_force : Answers book_contracts.Book.in_force.ended book.Book.in_force.Reads.Asked book.Book.in_force.Reads.Learnt
+  pub book_panel : Answers book_contracts.Book.panel.ended book.Book.panel.Reads.Asked book.Book.panel.Reads.Learnt
+  pub book_with : Answers book_contracts.with.ended book.with.Reads.Asked book.with.Reads.Learnt
+  pub book_hold : Answers book_contracts.Book.hold.ended book.Book.hold.Reads.Asked book.Book.hold.Reads.Learnt
+  pub book_strike : Answers book_contracts.Book.strike.ended book.Book.strike.Reads.Asked book.Book.strike.Reads.Learnt
+  pub book_tally : Answers book_contracts.Book.tally.ended book.Book.tally.Reads.Asked book.Book.tally.Reads.Learnt
+  pub book_zero : Answers book_contracts.zero.ended book.zero.Reads.Asked book.zero.Reads.Learnt
   -- a book as a text: saved, read back, and one order of such a text
-  pub saved_save : Writes saved.save.ended (λ κs e. e.1.0.now) saved.save.Reads.Asked saved.save.Reads.Learnt
-  pub saved_read : Answers saved.read.ended saved.read.Reads.Asked saved.read.Reads.Learnt
-  pub saved_read_order : Answers saved.read_order.ended saved.read_order.Reads.Asked saved.read_order.Reads.Learnt
+  pub saved_save : Writes saved_contracts.save.ended (λ κs e. e.1.0.now) saved.save.Reads.Asked saved.save.Reads.Learnt
+  pub saved_read : Answers saved_contracts.read.ended saved.read.Reads.Asked saved.read.Reads.Learnt
+  pub saved_read_order : Answers saved_contracts.read_order.ended saved.read_order.Reads.Asked saved.read_order.Reads.Learnt
   -- the times: each call's part of the file or of the sheet, where it stands, and why there is none
-  pub times_start_up : Lends times.start_up.ended (λ κs z. z.now) times.start_up.Reads.Asked times.start_up.Reads.Learnt
-  pub times_ramp : Lends times.ramp.ended (λ κs z. z.now) times.ramp.Reads.Asked times.ramp.Reads.Learnt
-  pub times_locate : Answers times.locate.ended times.locate.Reads.Asked times.locate.Reads.Learnt
-  pub times_refusal_of : Answers times.refusal_of.ended times.refusal_of.Reads.Asked times.refusal_of.Reads.Learnt
+  pub times_start_up : Lends times_contracts.start_up.ended (λ κs z. z.now) times.start_up.Reads.Asked times.start_up.Reads.Learnt
+  pub times_ramp : Lends times_contracts.ramp.ended (λ κs z. z.now) times.ramp.Reads.Asked times.ramp.Reads.Learnt
+  pub times_locate : Answers times_contracts.locate.ended times.locate.Reads.Asked times.locate.Reads.Learnt
+  pub times_refusal_of : Answers times_contracts.refusal_of.ended times.refusal_of.Reads.Asked times.refusal_of.Reads.Learnt
   -- the plan; what the program is answered, and what it prints
-  pub plan_seek : Answers plan.seek.ended plan.seek.Reads.Asked plan.seek.Reads.Learnt
-  pub report_hear : Answers report.hear.ended report.hear.Reads.Asked report.hear.Reads.Learnt
-  pub report_print : Writes report.print.ended (λ κs e. e.0.now) report.print.Reads.Asked report.print.Reads.Learnt
+  pub plan_seek : Answers plan_contracts.seek.ended plan.seek.Reads.Asked plan.seek.Reads.Learnt
+  pub report_hear : Answers report_contracts.hear.ended report.hear.Reads.Asked report.hear.Reads.Learnt
+  pub report_print : Writes report_contracts.print.ended (λ κs e. e.0.now) report.print.Reads.Asked report.print.Reads.Learnt
   -- values: of every kind, read and written
-  pub value_read_read : Answers value.read.read.ended value.read.read.Reads.Asked value.read.read.Reads.Learnt
-  pub value_put_write_value : Writes value_put.write_value.ended (λ κs e. e.0.now) value_put.write_value.Reads.Asked value_put.write_value.Reads.Learnt
-  pub value_number_read : Answers value_number.read.ended value_number.read.Reads.Asked value_number.read.Reads.Learnt
-  pub value_date_read : Answers value_date.read.ended value_date.read.Reads.Asked value_date.read.Reads.Learnt
-  pub value_date_is_real : Answers value_date.is_real.ended value_date.is_real.Reads.Asked value_date.is_real.Reads.Learnt
-  pub value_date_instant : Answers value_date.instant.ended value_date.instant.Reads.Asked value_date.instant.Reads.Learnt
-  pub value_date_is_before : Answers value_date.is_before.ended value_date.is_before.Reads.Asked value_date.is_before.Reads.Learnt
-  pub value_name_identifier_read : Answers value_name.identifier.read.ended value_name.identifier.read.Reads.Asked value_name.identifier.read.Reads.Learnt
-  pub value_name_sequence_read : Answers value_name.sequence.read.ended value_name.sequence.read.Reads.Asked value_name.sequence.read.Reads.Learnt
-  pub value_name_unit_is_unit : Answers value_name.unit.is_unit.ended value_name.unit.is_unit.Reads.Asked value_name.unit.is_unit.Reads.Learnt
-  pub value_name_code : Answers value_name.code.ended value_name.code.Reads.Asked value_name.code.Reads.Learnt
-  pub value_word_read : Answers value_word.read.ended value_word.read.Reads.Asked value_word.read.Reads.Learnt
-  pub value_word_read_volt : Answers value_word.read_volt.ended value_word.read_volt.Reads.Asked value_word.read_volt.Reads.Learnt
-  pub value_list_few_read_profile : Answers value_list.few.read_profile.ended value_list.few.read_profile.Reads.Asked value_list.few.read_profile.Reads.Learnt
-  pub value_list_few_read_bands : Answers value_list.few.read_bands.ended value_list.few.read_bands.Reads.Asked value_list.few.read_bands.Reads.Learnt
-  pub value_list_triples_read : Answers value_list.triples.read.ended value_list.triples.read.Reads.Asked value_list.triples.read.Reads.Learnt
+  pub value_read_read : Answers value_contracts.read.read.ended value.read.read.Reads.Asked value.read.read.Reads.Learnt
+  pub value_put_write_value : Writes value_put_contracts.write_value.ended (λ κs e. e.0.now) value_put.write_value.Reads.Asked value_put.write_value.Reads.Learnt
+  pub value_number_read : Answers value_number_contracts.read.ended value_number.read.Reads.Asked value_number.read.Reads.Learnt
+  pub value_date_read : Answers value_date_contracts.read.ended value_date.read.Reads.Asked value_date.read.Reads.Learnt
+  pub value_date_is_real : Answers value_date_contracts.is_real.ended value_date.is_real.Reads.Asked value_date.is_real.Reads.Learnt
+  pub value_date_instant : Answers value_date_contracts.instant.ended value_date.instant.Reads.Asked value_date.instant.Reads.Learnt
+  pub value_date_is_before : Answers value_date_contracts.is_before.ended value_date.is_before.Reads.Asked value_date.is_before.Reads.Learnt
+  pub value_name_identifier_read : Answers value_name_contracts.identifier.read.ended value_name.identifier.read.Reads.Asked value_name.identifier.read.Reads.Learnt
+  pub value_name_sequence_read : Answers value_name_contracts.sequence.read.ended value_name.sequence.read.Reads.Asked value_name.sequence.read.Reads.Learnt
+  pub value_name_unit_is_unit : Answers value_name_contracts.unit.is_unit.ended value_name.unit.is_unit.Reads.Asked value_name.unit.is_unit.Reads.Learnt
+  pub value_name_code : Answers value_name_contracts.code.ended value_name.code.Reads.Asked value_name.code.Reads.Learnt
+  pub value_word_read : Answers value_word_contracts.read.ended value_word.read.Reads.Asked value_word.read.Reads.Learnt
+  pub value_word_read_volt : Answers value_word_contracts.read_volt.ended value_word.read_volt.Reads.Asked value_word.read_volt.Reads.Learnt
+  pub value_list_few_read_profile : Answers value_list_contracts.few.read_profile.ended value_list.few.read_profile.Reads.Asked value_list.few.read_profile.Reads.Learnt
+  pub value_list_few_read_bands : Answers value_list_contracts.few.read_bands.ended value_list.few.read_bands.Reads.Asked value_list.few.read_bands.Reads.Learnt
+  pub value_list_triples_read : Answers value_list_contracts.triples.read.ended value_list.triples.read.Reads.Asked value_list.triples.read.Reads.Learnt
 
 -- In every model of the program logic the code of each meets its contract: it ends, and with an answer that the contract allows. (The code's own theorems)
 pub record Meets : Type 2 where

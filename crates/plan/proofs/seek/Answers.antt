@@ -1,0 +1,60 @@
+use Prim.Native.Nat.{ℕ, ◌-◌, ◌≤◌, ◌<◌}
+use Rattle.plan_row.proofs.Addresses.{none_more}
+use Rattle.plan.proofs.Walks.{Sofar, empty, begin, finish, too_many, none_there, bad_line, unit_inside, row_inside, next_row}
+use Rattle.text.specs.Bytes.{any}
+use borrow.Author.Rules.{rules}
+use lib.Dec.{ltb}
+use lib.ListN.{length, take}
+use mathlib.Core.Bool.{false}
+use mathlib.Core.List.{List}
+use mathlib.Core.Logic.{inl, inr, ⊎_elim}
+use mathlib.Core.Path.{◌≡◌, refl, ◌∙◌}
+use native.Mathlib.Omega.{arith}
+use Rattle.plan.proofs.seek.Goals as goal
+use Rattle.plan.proofs.seek.Goals.{else-e-sought, then-e-sought}
+
+pub returns-then-plan-eq0 : goal.returns-then-plan-eq0
+returns-then-plan-eq0 c = search empty
+
+pub loop-rest-init : goal.loop-rest-init
+unfolding any
+loop-rest-init c = (refl, begin _ _ _ _ _ c.if-plan-eq0.false c.refused-found.ensures, refl)
+
+pub returns-then-count-eq64 : goal.returns-then-count-eq64
+returns-then-count-eq64 c = search too_many
+
+pub row_at-requires : goal.row_at-requires
+row_at-requires c = let l = c.loop-rest in none_there l.keys l.count l.greatest l.invariant.2
+
+pub returns-in-Bad : goal.returns-in-Bad
+returns-in-Bad c = search bad_line
+
+pub found_in-found-requires : goal.found_in-found-requires
+found_in-found-requires c =
+    unit_inside _ _ _ _ _ _ _ c.loop-rest.invariant.1 c.loop-rest-test.true _ c.if-count-eq64.false c.row_at.ensures
+    _ c.in-Good.is
+
+pub slice_bounds-next-count : goal.slice_bounds-next-count
+slice_bounds-next-count c =
+    let end_inside : c.in-Good.e.end ≤ length c.loop-rest.rest.now = row_inside _ _ _ _ _ _ _ c.loop-rest.invariant.1 c.loop-rest-test.true _ c.if-count-eq64.false c.row_at.ensures
+    _ c.in-Good.is in
+    end_inside
+
+pub slice_bounds-next-start : goal.slice_bounds-next-start
+slice_bounds-next-start c =
+    let end_inside : c.in-Good.e.end ≤ length c.loop-rest.rest.now = row_inside _ _ _ _ _ _ _ c.loop-rest.invariant.1 c.loop-rest-test.true _ c.if-count-eq64.false c.row_at.ensures
+    _ c.in-Good.is in
+    end_inside
+
+pub loop-rest-preserved : goal.loop-rest-preserved
+loop-rest-preserved c =
+    let h : c.loop-rest.count < length c.loop-rest.keys = omega arith in (
+      search rules,
+      next_row _ _ _ _ _ _ _ c.loop-rest.invariant.1 c.loop-rest-test.true _ c.if-count-eq64.false c.row_at.ensures
+          _ c.in-Good.is _ _ c.sought_key-sought.ensures
+          (elim c.if-e-sought.branch [ then-e-sought w ↦ inl (w.if-e-sought.true, w.found-is ∙ w.found_in-found.ensures) | else-e-sought w ↦ inr (w.if-e-sought.false, w.found-is) ]) h,
+      none_more _ _ _ _ _ c.loop-rest.invariant.2 c.larger-greatest.ensures h,
+    )
+
+pub returns : goal.returns
+returns c = search finish

@@ -1,0 +1,7 @@
+use Rattle.plan_row.proofs.type_if.Goals as goal
+
+pub returns-then-fits : goal.returns-then-fits
+returns-then-fits c = rw c.if-fits.true
+
+pub returns : goal.returns
+returns c = rw c.if-fits.false

@@ -1,0 +1,24 @@
+use Rattle.saved_lines.proofs.Meeting.{no_line, no_value, value_out, value_in_lem}
+use borrow.Author.Rules.{rules}
+use Rattle.saved_lines.proofs.line.line_says.Goals as goal
+
+pub returns-in_default : goal.returns-in_default
+returns-in_default c =
+    no_line _ _ _ _ _ _ c.key_of-key.ensures _ c.front.ensures _ c.line_of.ensures c.in_default.is
+
+pub returns-in_default-value_of : goal.returns-in_default-value_of
+returns-in_default-value_of c =
+    no_value _ _ _ _ _ _ c.key_of-key.ensures _ c.front.ensures _ c.line_of.ensures
+    _ c.in-Ends.is _ _ c.front-2.ensures c.rest.ensures _ c.value_of.ensures c.in_default-value_of.is
+
+pub returns-then-v-least : goal.returns-then-v-least
+returns-then-v-least c =
+    value_out _ _ _ _ _ _ c.key_of-key.ensures _ c.front.ensures _ c.line_of.ensures
+    _ c.in-Ends.is _ _ c.front-2.ensures c.rest.ensures _ c.value_of.ensures
+    _ c.in-Are.is c.if-v-least.true
+
+pub returns : goal.returns
+returns c =
+    value_in_lem _ _ _ _ _ _ c.key_of-key.ensures _ c.front.ensures _ c.line_of.ensures
+    _ c.in-Ends.is _ _ c.front-2.ensures c.rest.ensures _ c.value_of.ensures
+    _ c.in-Are.is c.if-v-least.false

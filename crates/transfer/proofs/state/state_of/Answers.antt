@@ -1,0 +1,7 @@
+use Rattle.transfer.specs.States.{state_of}
+use borrow.Author.Rules.{rules}
+use Rattle.transfer.proofs.state.state_of.Goals as goal
+
+pub returns : goal.returns
+unfolding state_of
+returns c = cc
