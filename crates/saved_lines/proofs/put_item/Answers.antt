@@ -7,6 +7,9 @@ use mathlib.Core.Path.{◌≡◌}
 use native.Mathlib.Omega.{arith}
 use Rattle.saved_lines.proofs.put_item.Goals as goal
 
+pub loop-n-init : goal.loop-n-init
+loop-n-init c = none_put _ _ _ _ _
+
 pub next_of-requires : goal.next_of-requires
 next_of-requires c =
     (omega (arith, c.loop-n-test.true, c.requires.1), c.requires.2)

@@ -1,4 +1,4 @@
-use Prim.Native.Nat.{ℕ, ◌+◌, ◌-◌, ◌<◌}
+use Prim.Native.Nat.{ℕ, ◌+◌, ◌-◌, ◌≤◌, ◌<◌}
 use Rattle.saved_lines.proofs.Going.{Going, begin, wrong_here, over_here, says_here, full_here}
 use Rattle.saved_lines.specs.Tables.{next_of}
 use Rattle.saved_lines.specs.Values.{met_of}
@@ -34,14 +34,15 @@ slice_bounds-below-count c =
     let met : c.meet.result ≡ met_of ((next_of c.args.t c.args.a) (take c.loop-n.n c.loop-n.v)) c.loop-n.rest.now =
     c.meet.ensures ∙ ap (λ (x : Next). met_of x c.loop-n.rest.now) c.next_of-x.ensures in
     let said = says_here _ _ _ _ _ c.loop-n.invariant _ met c.loop-n-test.true _ _ c.in-Says.is in
-    said.0
+    omega (arith, said.0)
 
 pub slice_bounds-below-start : goal.slice_bounds-below-start
 slice_bounds-below-start c =
     let met : c.meet.result ≡ met_of ((next_of c.args.t c.args.a) (take c.loop-n.n c.loop-n.v)) c.loop-n.rest.now =
     c.meet.ensures ∙ ap (λ (x : Next). met_of x c.loop-n.rest.now) c.next_of-x.ensures in
     let said = says_here _ _ _ _ _ c.loop-n.invariant _ met c.loop-n-test.true _ _ c.in-Says.is in
-    said.0
+    let inside : c.in-Says.e + 1 ≤ length c.loop-n.rest.now = omega (arith, said.0) in
+    inside
 
 pub loop-n-preserved : goal.loop-n-preserved
 loop-n-preserved c =
