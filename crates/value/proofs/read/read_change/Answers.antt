@@ -1,0 +1,14 @@
+use Rattle.value.proofs.Settings.{is_number, is_word}
+use Rattle.value.specs.Kinds.{change}
+use borrow.Author.Rules.{rules}
+use mir.Syntax.{w32}
+use mir.ValLaws.{to_z-of_z}
+use Rattle.value.proofs.read.read_change.Goals as goal
+
+pub returns-in-Is : goal.returns-in-Is
+returns-in-Is c =
+    rw (to_z-of_z w32 c.in-Is.n (record { sfits = c.in-Is.known_told-1-own.given.0.1 }))
+    (is_number change _ _ _ c.in-Is.is c.read.ensures)
+
+pub returns-in-Bad : goal.returns-in-Bad
+returns-in-Bad c = is_word change _ _ _ c.in-Bad.is c.read.ensures

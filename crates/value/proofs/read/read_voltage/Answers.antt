@@ -1,0 +1,18 @@
+use Rattle.value.proofs.Settings.{is_number, is_word}
+use Rattle.value.specs.Kinds.{got_word, voltage}
+use borrow.Author.Rules.{rules}
+use mathlib.Core.Path.{ap, ◌∙◌}
+use mir.Syntax.{w32}
+use mir.ValLaws.{to_z-of_z}
+use Rattle.value.proofs.read.read_voltage.Goals as goal
+
+pub returns-in-Is : goal.returns-in-Is
+returns-in-Is c =
+    rw (to_z-of_z w32 c.in-Is.n (record { sfits = c.in-Is.known_told-1-own.given.0.1 }))
+    (is_number voltage _ _ _ c.in-Is.is c.read.ensures)
+
+pub returns-in-Bad : goal.returns-in-Bad
+returns-in-Bad c =
+    c.worded.ensures
+    ∙ ap got_word c.read_volt.ensures
+    ∙ is_word voltage _ _ _ c.in-Bad.is c.read.ensures
