@@ -1,86 +1,65 @@
-// `book UNIT CALLS`: a fresh book for a unit, with no day chosen beside it, and calls on both one after another.
+// `book UNIT CALLS`: a fresh book for a unit, and calls on it one after another.
 use crate::answers::untouched;
 use crate::request::call::{Act, Call};
 use crate::request::parts::text_of;
 use crate::request::{Part, call};
 use crate::said;
 use book::{Book, InForce, Outcome, Panel};
-use day::{Agenda, Entry, Summary, Turn};
 use reader::Answer;
 use record::Record;
-use said::{say, say_blank, say_code, say_hex, say_nothing, say_number, say_unknown};
+use said::{say, say_blank, say_code, say_hex, say_number, say_unknown};
 use saved::Saved;
+use std::io::{self, Write};
 use text::{put, scan};
 
-// What a call answered, and the book and summary that it handed back.
-fn handed(t: Turn) -> Agenda {
-    say_code(t.number, t.detail);
-    t.agenda
+// What a call answered, and the book that it handed back.
+fn handed<W: Write>(reply: &mut W, o: Outcome) -> io::Result<Book> {
+    say_code(reply, o.number, o.detail)?;
+    Ok(o.book)
 }
 
-// A book that was made anew has no day chosen.
-fn anew(o: Outcome) -> Agenda {
-    say_code(o.number, o.detail);
-    let b = o.book;
-    day::beside(b)
-}
-
-fn say_in_force(a: InForce) {
+fn say_in_force<W: Write>(reply: &mut W, a: InForce) -> io::Result<()> {
     match a {
-        InForce::Refused(number, detail) => say_code(number, detail),
-        InForce::Nothing => say(b"f:none"),
+        InForce::Refused(number, detail) => say_code(reply, number, detail),
+        InForce::Nothing => say(reply, b"f:none"),
         InForce::Number(n) => {
-            say(b"f:");
-            say_number(n);
+            say(reply, b"f:")?;
+            say_number(reply, n)
         }
     }
 }
 
 // `Q:t`
-fn ask(b: Book, t: u32) {
+fn ask<W: Write>(reply: &mut W, b: Book, t: u32) -> io::Result<Book> {
     let asked = b.in_force(t);
     let answer = asked.answer;
-    say_in_force(answer);
+    say_in_force(reply, answer)?;
+    Ok(asked.book)
 }
 
-fn say_panel(p: Panel) {
+fn say_panel<W: Write>(reply: &mut W, p: Panel) -> io::Result<()> {
     match p {
-        Panel::Refused(number, detail) => say_code(number, detail),
+        Panel::Refused(number, detail) => say_code(reply, number, detail),
         Panel::Shows(held, next) => {
-            say(b"p:");
-            say_number(held as u64);
-            say(b":");
-            say_number(next as u64);
+            say(reply, b"p:")?;
+            say_number(reply, held as u64)?;
+            say(reply, b":")?;
+            say_number(reply, next as u64)
         }
     }
 }
 
 // `P`
-fn show(b: Book) {
+fn show<W: Write>(reply: &mut W, b: Book) -> io::Result<Book> {
     let shown = b.panel();
     let answer = shown.answer;
-    say_panel(answer);
+    say_panel(reply, answer)?;
+    Ok(shown.book)
 }
 
-fn say_entry(e: Entry) {
-    match e {
-        Entry::Nothing => say_nothing(),
-        Entry::Number(n) => say_number(n),
-    }
-}
-
-// `E`: 96 entries joined by points.
-fn summarise(s: Summary) {
-    say(b"e:");
-    if !s.chosen {
-        say(b"none");
-        return;
-    }
-    say_entry(s.entry(0));
-    for q in 1..96 {
-        say(b".");
-        say_entry(s.entry(q));
-    }
+// `X:t`
+fn close<W: Write>(reply: &mut W, b: Book, t: u32) -> io::Result<Book> {
+    handed(reply, b.close(t))
 }
 
 // A plan of the one row ca=1, ioa=1, the unit and the type; how long it is.
@@ -92,112 +71,133 @@ fn put_plan(plan: &mut [u8; 64], kind: &[u8], unit: &[u8]) -> usize {
     put::put_byte(plan, d, b'\n')
 }
 
-fn give_record(g: Agenda, act: Act, r: Record) -> Agenda {
+fn give_record<W: Write>(reply: &mut W, b: Book, act: Act, r: Record) -> io::Result<Book> {
     if let Act::Revoke = act {
-        return handed(g.revoke(r));
+        return handed(reply, b.revoke(r));
     }
-    handed(g.command(r))
+    handed(reply, b.command(r))
 }
 
-fn unread(g: Agenda) -> Agenda {
-    say(b"unread");
-    g
+fn unread<W: Write>(reply: &mut W, b: Book) -> io::Result<Book> {
+    say(reply, b"unread")?;
+    Ok(b)
 }
 
 // The record of the file is given to the command or to the revocation.
-fn give_answer(g: Agenda, act: Act, read: Answer) -> Agenda {
+fn give_answer<W: Write>(reply: &mut W, b: Book, act: Act, read: Answer) -> io::Result<Book> {
     if read.number != 0 {
-        return unread(g);
+        return unread(reply, b);
     }
     let content = read.content;
-    give_record(g, act, content)
+    give_record(reply, b, act, content)
 }
 
-fn give_read(g: Agenda, act: Act, plan: &[u8; 64], n: usize, file: &[u8]) -> Agenda {
-    give_answer(g, act, reader::read(1, 1, scan::front(plan, n), file))
+fn give_read<W: Write>(
+    reply: &mut W,
+    b: Book,
+    act: Act,
+    plan: &[u8; 64],
+    n: usize,
+    file: &[u8],
+) -> io::Result<Book> {
+    give_answer(
+        reply,
+        b,
+        act,
+        reader::read(1, 1, scan::front(plan, n), file),
+    )
 }
 
 // `C:TYPE:UNIT:FILE` and `V:..`
-fn give(g: Agenda, act: Act, line: &[u8], c: Call) -> Agenda {
+fn give<W: Write>(reply: &mut W, b: Book, act: Act, line: &[u8], c: Call) -> io::Result<Book> {
     let mut plan = [0u8; 64];
     let n = put_plan(&mut plan, text_of(line, c.kind), text_of(line, c.unit));
-    give_read(g, act, &plan, n, text_of(line, c.file))
+    give_read(reply, b, act, &plan, n, text_of(line, c.file))
 }
 
-fn say_saved(s: Saved, out: &[u8]) {
+fn say_saved<W: Write>(reply: &mut W, s: Saved, out: &[u8]) -> io::Result<()> {
     match s {
         Saved::To(n) => {
-            say(b"t:");
-            say_hex(scan::front(out, n));
+            say(reply, b"t:")?;
+            say_hex(reply, scan::front(out, n))
         }
-        Saved::Refused(number, detail) => say_code(number, detail),
+        Saved::Refused(number, detail) => say_code(reply, number, detail),
     }
 }
 
-fn save_in(b: Book, out: &mut [u8]) {
+fn save_in<W: Write>(reply: &mut W, b: Book, out: &mut [u8]) -> io::Result<()> {
     let s = saved::save(b, out);
-    say_saved(s, out);
+    say_saved(reply, s, out)
 }
 
 // `S:ROOM`: into a buffer of so many bytes, at most 65,536.
-fn save(b: Book, room: u32) {
+fn save<W: Write>(reply: &mut W, b: Book, room: u32) -> io::Result<Book> {
     let size = room as usize;
     if 65536 < size {
-        say_unknown();
-        return;
+        return not_called(reply, b);
     }
     let mut space = untouched();
-    save_in(b, &mut space[..size]);
+    save_in(reply, b, &mut space[..size])?;
+    Ok(b)
 }
 
-// A question about the book or the summary, which leaves both as they are; or a call that is not of the form.
-fn tell(g: Agenda, act: Act, t: u32) {
-    let b = g.book;
-    let s = g.summary;
-    match act {
-        Act::Ask => ask(b, t),
-        Act::Save => save(b, t),
-        Act::Panel => show(b),
-        Act::Summary => summarise(s),
-        _ => say_unknown(),
-    }
+// `L:TEXT`: the book read, or the all-zero book, is the book from then on.
+fn load<W: Write>(reply: &mut W, text: &[u8]) -> io::Result<Book> {
+    handed(reply, saved::read(text))
 }
 
-fn told(g: Agenda, act: Act, t: u32) -> Agenda {
-    tell(g, act, t);
-    g
+fn not_called<W: Write>(reply: &mut W, b: Book) -> io::Result<Book> {
+    say_unknown(reply)?;
+    Ok(b)
 }
 
-// One call. The book that is read from a text, or the all-zero book, is the book from then on.
-fn answer(g: Agenda, line: &[u8], c: Call) -> Agenda {
+// One call.
+fn answer<W: Write>(reply: &mut W, b: Book, line: &[u8], c: Call) -> io::Result<Book> {
     let act = c.act;
     match act {
-        Act::Command | Act::Revoke => give(g, act, line, c),
-        Act::Close => handed(g.close(c.t)),
-        Act::Choose => handed(g.choose(c.t)),
-        Act::Load => anew(saved::read(text_of(line, c.file))),
-        _ => told(g, act, c.t),
+        Act::Command | Act::Revoke => give(reply, b, act, line, c),
+        Act::Close => close(reply, b, c.t),
+        Act::Ask => ask(reply, b, c.t),
+        Act::Save => save(reply, b, c.t),
+        Act::Load => load(reply, text_of(line, c.file)),
+        Act::Panel => show(reply, b),
+        Act::Unknown => not_called(reply, b),
     }
 }
 
 // Calls joined by commas; no part of a line has more of them than the line has bytes.
-fn answer_all(fresh: Agenda, line: &mut [u8], calls: Part) {
-    let mut g = fresh;
+fn answer_all<W: Write>(
+    reply: &mut W,
+    fresh: Book,
+    line: &mut [u8],
+    calls: Part,
+) -> io::Result<()> {
+    let mut b = fresh;
     let mut rest = calls;
     let mut turns = line.len();
     while 0 < turns {
         if rest.to <= rest.from {
-            return;
+            return Ok(());
         }
         let c = call::next(line, rest);
-        say_blank();
-        g = answer(g, line, c);
+        say_blank(reply)?;
+        b = answer(reply, b, line, c)?;
         rest = c.rest;
         turns -= 1;
     }
+    Ok(())
 }
 
-pub(crate) fn run(line: &mut [u8], unit: Part, calls: Part) {
-    let g = anew(book::fresh(text_of(line, unit)));
-    answer_all(g, line, calls);
+fn fresh<W: Write>(reply: &mut W, unit: &[u8]) -> io::Result<Book> {
+    handed(reply, book::fresh(unit))
+}
+
+pub(crate) fn run<W: Write>(
+    reply: &mut W,
+    line: &mut [u8],
+    unit: Part,
+    calls: Part,
+) -> io::Result<()> {
+    let b = fresh(reply, text_of(line, unit))?;
+    answer_all(reply, b, line, calls)
 }

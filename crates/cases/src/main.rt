@@ -9,8 +9,8 @@ mod request;
 mod said;
 mod transfers;
 
-use libc::STDIN_FILENO;
 use said::say;
+use std::io::{self, BufWriter, Read, Write};
 use text::scan;
 
 // What a turn leaves: how many bytes at the front of the buffer are the start of a line, whether a line was too long for the buffer and is being
@@ -22,35 +22,55 @@ struct State {
     done: bool,
 }
 
-// Reads what there is room for after the first `have` bytes; how many bytes the buffer then has.
-fn read_more(buf: &mut [u8], have: usize) -> usize {
-    if buf.len() <= have {
-        return buf.len();
+// After a turn whose bytes are all of a line that is too long: it is still being passed over.
+const PASSING: State = State {
+    have: 0,
+    long: true,
+    done: false,
+};
+
+// After the last turn.
+const ENDED: State = State {
+    have: 0,
+    long: false,
+    done: true,
+};
+
+// Reads after the first `have` bytes until the buffer is full or the input has ended; how many bytes the buffer then has.
+fn read_more<R: Read>(input: &mut R, buf: &mut [u8], have: usize) -> io::Result<usize> {
+    let mut full = have;
+    while full < buf.len() {
+        let got = input.read(&mut buf[full..])?;
+        if got == 0 {
+            return Ok(full);
+        }
+        full += got;
     }
-    have + io::read_full(STDIN_FILENO, &mut buf[have..])
+    Ok(buf.len())
 }
 
 // Answers the request in the bytes from..to.
-fn run_part(buf: &mut [u8], from: usize, to: usize) {
+fn run_part<W: Write>(reply: &mut W, buf: &mut [u8], from: usize, to: usize) -> io::Result<()> {
     if from <= to {
         if to <= buf.len() {
-            answers::run(&mut buf[from..to]);
+            answers::run(reply, &mut buf[from..to])?;
         }
     }
+    Ok(())
 }
 
 // Answers each whole line of the bytes from..to, and gives the place after the last of them.
-fn run_lines(buf: &mut [u8], from: usize, to: usize) -> usize {
+fn run_lines<W: Write>(reply: &mut W, buf: &mut [u8], from: usize, to: usize) -> io::Result<usize> {
     let mut at = from;
     while at < to {
         let k = scan::first(scan::rest(scan::front(buf, to), at), b'\n');
         if to <= at + k {
-            return at;
+            return Ok(at);
         }
-        run_part(buf, at, at + k);
+        run_part(reply, buf, at, at + k)?;
         at = at + k + 1;
     }
-    at
+    Ok(at)
 }
 
 // Moves the bytes from..to to the front, and gives how many there are.
@@ -72,41 +92,35 @@ fn move_down(buf: &mut [u8], from: usize, to: usize) -> usize {
 }
 
 // Fills the buffer, and answers the lines that end in it.
-fn turn(buf: &mut [u8], have: usize, long: bool) -> State {
-    let full = read_more(buf, have);
+fn turn<R: Read, W: Write>(
+    input: &mut R,
+    reply: &mut W,
+    buf: &mut [u8],
+    have: usize,
+    long: bool,
+) -> io::Result<State> {
+    let full = read_more(input, buf, have)?;
     let done = full < buf.len();
     let first = scan::first(scan::front(buf, full), b'\n');
     if long & (full <= first) {
-        return State {
-            have: 0,
-            long: true,
-            done,
-        };
+        return Ok(if done { ENDED } else { PASSING });
     }
-    let used = run_lines(buf, start_of(long, first), full);
+    let used = run_lines(reply, buf, start_of(long, first), full)?;
     if done {
         if used < full {
-            run_part(buf, used, full);
+            run_part(reply, buf, used, full)?;
         }
-        return State {
-            have: 0,
-            long: false,
-            done: true,
-        };
+        return Ok(ENDED);
     }
     if used == 0 {
-        say(b"?\n");
-        return State {
-            have: 0,
-            long: true,
-            done: false,
-        };
+        say(reply, b"?\n")?;
+        return Ok(PASSING);
     }
-    State {
+    Ok(State {
         have: move_down(buf, used, full),
         long: false,
         done: false,
-    }
+    })
 }
 
 // Where the first request begins: after the end of the line that was too long, if there was one.
@@ -120,27 +134,34 @@ fn start_of(long: bool, first: usize) -> usize {
 }
 
 // Turns until the input has ended. The buffer has 1 MiB, and room for the end of a line: a line that does not fit is longer than 1 MiB.
-fn serve(buf: &mut [u8]) {
+fn serve<R: Read, W: Write>(input: &mut R, reply: &mut W, buf: &mut [u8]) -> io::Result<()> {
     let mut have = 0;
     let mut long = false;
     let mut turns: u64 = 18446744073709551615;
     while 0 < turns {
-        let t = turn(buf, have, long);
+        let t = turn(input, reply, buf, have, long)?;
         if t.done {
-            return;
+            return Ok(());
         }
         have = t.have;
         long = t.long;
         turns -= 1;
     }
+    Ok(())
 }
 
 // A buffer of a known size, as a slice.
-fn serve_with(space: &mut [u8; 1048577]) {
-    serve(space);
+fn serve_with<R: Read, W: Write>(
+    input: &mut R,
+    reply: &mut W,
+    space: &mut [u8; 1048577],
+) -> io::Result<()> {
+    serve(input, reply, space)
 }
 
-fn main() {
+fn main(rt: HostRuntime) -> io::Result<()> {
+    let mut reply = BufWriter::new(rt.alloc(), rt.stdout())?;
     let mut space = [0u8; 1048577];
-    serve_with(&mut space);
+    serve_with(&mut rt.stdin(), &mut reply, &mut space)?;
+    reply.flush()
 }

@@ -1,41 +1,41 @@
-// What the runner prints.
-use libc::STDOUT_FILENO;
+// What the runner prints. `reply` is where its answers go.
+use std::io::{self, Write};
 use text::scan;
 
-pub(crate) fn say(s: &[u8]) {
-    io::write_all(STDOUT_FILENO, s);
+pub(crate) fn say<W: Write>(reply: &mut W, s: &[u8]) -> io::Result<()> {
+    reply.write_all(s)
 }
 
-pub(crate) fn say_number(n: u64) {
-    io::print_decimal(STDOUT_FILENO, n);
+pub(crate) fn say_number<W: Write>(reply: &mut W, n: u64) -> io::Result<()> {
+    write!(reply, "{n}")
 }
 
-pub(crate) fn say_blank() {
-    say(b" ");
+pub(crate) fn say_blank<W: Write>(reply: &mut W) -> io::Result<()> {
+    say(reply, b" ")
 }
 
-pub(crate) fn say_refusal(number: u8, detail: usize) {
-    say(b"R ");
-    say_number(number as u64);
-    say_blank();
-    say_number(detail as u64);
+pub(crate) fn say_refusal<W: Write>(reply: &mut W, number: u8, detail: usize) -> io::Result<()> {
+    say(reply, b"R ")?;
+    say_number(reply, number as u64)?;
+    say_blank(reply)?;
+    say_number(reply, detail as u64)
 }
 
 // A call's number and detail.
-pub(crate) fn say_code(number: u8, detail: usize) {
-    say_number(number as u64);
-    say(b"/");
-    say_number(detail as u64);
+pub(crate) fn say_code<W: Write>(reply: &mut W, number: u8, detail: usize) -> io::Result<()> {
+    say_number(reply, number as u64)?;
+    say(reply, b"/")?;
+    say_number(reply, detail as u64)
 }
 
 // A request that is not of the form.
-pub(crate) fn say_unknown() {
-    say(b"?");
+pub(crate) fn say_unknown<W: Write>(reply: &mut W) -> io::Result<()> {
+    say(reply, b"?")
 }
 
 // No bytes, and no instant.
-pub(crate) fn say_nothing() {
-    say(b"-");
+pub(crate) fn say_nothing<W: Write>(reply: &mut W) -> io::Result<()> {
+    say(reply, b"-")
 }
 
 fn hex_digit(n: u8) -> u8 {
@@ -47,32 +47,32 @@ fn hex_digit(n: u8) -> u8 {
 }
 
 // Bytes as lowercase hex, '-' for none.
-pub(crate) fn say_hex(s: &[u8]) {
+pub(crate) fn say_hex<W: Write>(reply: &mut W, s: &[u8]) -> io::Result<()> {
     if s.len() == 0 {
-        say_nothing();
-        return;
+        return say_nothing(reply);
     }
     let mut at = 0;
     while at < s.len() {
-        say_chunk(scan::front(scan::rest(s, at), 2048));
+        say_chunk(reply, scan::front(scan::rest(s, at), 2048))?;
         if s.len() - at <= 2048 {
-            return;
+            return Ok(());
         }
         at += 2048;
     }
+    Ok(())
 }
 
 // At most 2,048 bytes of them.
-fn say_chunk(s: &[u8]) {
-    let mut out = io::buffer();
+fn say_chunk<W: Write>(reply: &mut W, s: &[u8]) -> io::Result<()> {
+    let mut out = [0u8; 4096];
     let mut i = 0;
     while i < s.len() {
         if 2048 <= i {
-            return;
+            return Ok(());
         }
         out[2 * i] = hex_digit(s[i] / 16);
         out[2 * i + 1] = hex_digit(s[i] % 16);
         i += 1;
     }
-    say(scan::front(&out, 2 * i));
+    say(reply, scan::front(&out, 2 * i))
 }

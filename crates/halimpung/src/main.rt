@@ -1,37 +1,30 @@
 // The program of document 01: the plan from plan.txt, the address and the file from standard input, six lines or a refusal to standard output.
-// Both buffers hold more than any text that is not refused: a plan of 64 rows has at most 3,328 bytes, a file 8,192.
 #![tactic(auto)]
 
 ghost use Rattle.halimpung.specs.Plan.{as_read};
 ghost use Rattle.report.specs.Program.{printed_of};
 ghost use Rattle.std.specs.Prelude.{take, ◌≡◌};
 
-use libc::{STDIN_FILENO, STDOUT_FILENO};
+use std::fs::File;
+use std::io::{self, ErrorKind, Read};
+use std::rt::Files;
 use text::scan;
+
+// How many bytes of a text are read at most: more than any has that is not refused. A plan of 64 rows has at most 3,328 bytes, a file 8,192.
+const MOST: u64 = 65536;
 
 // Room for what is printed: a record's six lines with a unit of sixteen bytes and numbers of ten digits have as much, and nothing has more.
 const ROOM: usize = 89;
 
-// A file as it was read: whether it could be, and how many bytes of it are in the buffer.
-#[derive(Clone, Copy)]
-struct Found {
-    readable: bool,
-    size: usize,
-}
-
-fn read_plan(buf: &mut [u8]) -> Found {
-    let fd = os::open_read(b"plan.txt");
-    if fd < 0 {
-        return Found {
-            readable: false,
-            size: 0,
-        };
-    }
-    let size = io::read_full(fd, buf);
-    libc::close(fd);
-    Found {
-        readable: true,
-        size,
+// Reads the plan, and says whether it could be read. A want of memory is no fault of the plan: it ends the program, with no answer.
+fn read_plan<R: Files>(files: &R, plan: &mut Vec<u8>) -> io::Result<bool> {
+    let Ok(file) = File::open(files, "plan.txt") else {
+        return Ok(false);
+    };
+    match file.take(MOST).read_to_end(plan) {
+        Ok(_) => Ok(true),
+        Err(e) if e.kind() == ErrorKind::OutOfMemory => Err(e),
+        Err(_) => Ok(false),
     }
 }
 
@@ -60,16 +53,12 @@ fn printed(readable: bool, plan: &[u8], input: &[u8]) -> Output
     Output { room, size }
 }
 
-fn main() {
-    let mut plan = io::large_buffer();
-    let found = read_plan(&mut plan);
-    let mut input = io::large_buffer();
-    let m = io::read_full(STDIN_FILENO, &mut input);
-    let p = printed(
-        found.readable,
-        scan::front(&plan, found.size),
-        scan::front(&input, m),
-    );
+fn main(rt: HostRuntime) -> io::Result<()> {
+    let mut plan = Vec::new(rt.alloc());
+    let readable = read_plan(&rt, &mut plan)?;
+    let mut input = Vec::new(rt.alloc());
+    rt.stdin().take(MOST).read_to_end(&mut input)?;
+    let p = printed(readable, &plan, &input);
     let room = p.room;
-    io::write_all(STDOUT_FILENO, scan::front(&room, p.size));
+    rt.write_all(scan::front(&room, p.size))
 }

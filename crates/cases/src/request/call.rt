@@ -3,7 +3,7 @@ use crate::request::hex::is_good;
 use crate::request::parts::{letter_of, past, piece, word_of};
 use crate::request::{Part, hex};
 
-// What a call asks of the book and its summary; `Unknown` is one that is not of the form.
+// What a call asks of the book; `Unknown` is one that is not of the form.
 #[derive(Clone, Copy)]
 pub(crate) enum Act {
     Command,
@@ -13,13 +13,11 @@ pub(crate) enum Act {
     Save,
     Load,
     Panel,
-    Choose,
-    Summary,
     Unknown,
 }
 
-// `C:TYPE:UNIT:FILE`, `V:..`, `X:t`, `Q:t`, `D:t`, `S:ROOM`, `L:TEXT`, `P` or `E`, and the calls that are left after it. `t` is a room's size too, and `file`
-// a saved text. What its letter does not ask for says nothing.
+// `C:TYPE:UNIT:FILE`, `V:..`, `X:t`, `Q:t`, `S:ROOM`, `L:TEXT` or `P`, and the calls that are left after it. `t` is a room's size too, and `file` a saved text.
+// What its letter does not ask for says nothing.
 #[derive(Clone, Copy)]
 pub(crate) struct Call {
     pub(crate) act: Act,
@@ -34,7 +32,7 @@ pub(crate) struct Call {
 fn is_formed(letter: u8, numbered: bool, filed: bool) -> bool {
     match letter {
         b'C' | b'V' | b'L' => filed,
-        b'P' | b'E' => true,
+        b'P' => true,
         _ => numbered,
     }
 }
@@ -52,8 +50,6 @@ fn act_of(letter: u8, formed: bool) -> Act {
         b'S' => Act::Save,
         b'L' => Act::Load,
         b'P' => Act::Panel,
-        b'D' => Act::Choose,
-        b'E' => Act::Summary,
         _ => Act::Unknown,
     }
 }
