@@ -1,7 +1,6 @@
 -- The rows: most are in the body's order, every field of a row is a field of its layout, and a row is its fields and then its half-bands. Assumes nothing.
 use Prim.Native.Nat.{ℕ, zero, suc, ◌+◌, ◌≤◌, ◌<◌}
 use Rattle.layout.proofs.Labels.{all_in}
-use Rattle.layout.specs.contracts.Layout.{the_type}
 use Rattle.layout.specs.Fields.{command, technical, market, mfrr, rc, mg, eb, lb, sr, vq, ri, qr}
 use Rattle.layout.specs.Layouts.{fields_of, size_of}
 use Rattle.layout.specs.Rows.{row_fields, text_at, bands_in, pieces_of, tail_text, row_text, row_of}
@@ -17,7 +16,6 @@ use mathlib.Core.Bool.{Bool, true, ◌&&◌}
 use mathlib.Core.List.{List, [], ◌∷◌, ◌++◌, map, append_assoc}
 use mathlib.Core.Path.{◌≡◌, refl, sym, ap, ◌∙◌}
 use native.Mathlib.Omega.{arith}
-use types.Run.{OneOf, miss}
 
 -- ---- how many fields stand in a row
 
@@ -99,18 +97,18 @@ front : (l m : List ℕ) (i : ℕ) → runs 1 l ≡ true → i < length l → i 
 front l m i e h = let s : i + 1 ≡ 1 + i = omega arith in s ∙ runs_at 1 l m i e h
 
 -- every row but those of EB and LB
-pub in_order : (l : Layout) (i : ℕ) → i < length (row_fields l) → OneOf (0 ∷ 1 ∷ 2 ∷ 3 ∷ 6 ∷ 7 ∷ 8 ∷ 9 ∷ []) (tag_of the_type l) → i + 1 ≡ get_or (row_fields l) i 0
+pub in_order : (l : Layout) (i : ℕ) → i < length (row_fields l) → (l ≡ Exclusion → ⊥) → (l ≡ Limitation → ⊥) → i + 1 ≡ get_or (row_fields l) i 0
 unfolding runs row_fields
-in_order Market i h o = front (row_fields Market) [] i refl h
-in_order Mfrr i h o = front (row_fields Mfrr) [] i refl h
-in_order Revocation i h o = front (row_fields Revocation) [] i refl h
-in_order Generic i h o = front (row_fields Generic) [] i refl h
-in_order Exclusion i h o = absurd (miss (0 ∷ 1 ∷ 2 ∷ 3 ∷ 6 ∷ 7 ∷ 8 ∷ 9 ∷ []) 4 tt o)
-in_order Limitation i h o = absurd (miss (0 ∷ 1 ∷ 2 ∷ 3 ∷ 6 ∷ 7 ∷ 8 ∷ 9 ∷ []) 5 tt o)
-in_order Secondary i h o = front (row_fields Secondary) [] i refl h
-in_order VoltVar i h o = front (row_fields VoltVar) [] i refl h
-in_order Rejection i h o = front (row_fields Rejection) [] i refl h
-in_order Reserve i h o = front (row_fields Reserve) [] i refl h
+in_order Market i h _ _ = front (row_fields Market) [] i refl h
+in_order Mfrr i h _ _ = front (row_fields Mfrr) [] i refl h
+in_order Revocation i h _ _ = front (row_fields Revocation) [] i refl h
+in_order Generic i h _ _ = front (row_fields Generic) [] i refl h
+in_order Exclusion i h other _ = absurd (other refl)
+in_order Limitation i h _ other = absurd (other refl)
+in_order Secondary i h _ _ = front (row_fields Secondary) [] i refl h
+in_order VoltVar i h _ _ = front (row_fields VoltVar) [] i refl h
+in_order Rejection i h _ _ = front (row_fields Rejection) [] i refl h
+in_order Reserve i h _ _ = front (row_fields Reserve) [] i refl h
 
 -- the first four fields of EB and LB
 pub eb_order : (i : ℕ) → i < length (row_fields Exclusion) → (i ≡ 4 → ⊥) → i + 1 ≡ get_or (row_fields Exclusion) i 0

@@ -1,0 +1,6 @@
+use Rattle.value_ask.proofs.Others.{instant_other}
+use borrow.Author.Rules.{rules}
+use Rattle.value_ask.proofs.instant_in.Goals as goal
+
+pub returns-in-When : goal.returns-in-When
+returns-in-When c = rw c.in-When.is c.instant.ensures

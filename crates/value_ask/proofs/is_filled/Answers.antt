@@ -1,0 +1,6 @@
+use Rattle.value_ask.proofs.Others.{filled_blank, filled_other}
+use borrow.Author.Rules.{rules}
+use Rattle.value_ask.proofs.is_filled.Goals as goal
+
+pub returns-in-Blank : goal.returns-in-Blank
+returns-in-Blank c = filled_blank c.args.v c.in-Blank.is
