@@ -17,7 +17,6 @@ use denote.Enum.Declared.{tag_of}
 use mathlib.Core.Bool.{Bool, true, false, false≢true}
 use mathlib.Core.List.{List, [], ◌∷◌}
 use mathlib.Core.Path.{◌≡◌, refl, sym, ◌∙◌}
-use types.Run.{OneOf, miss}
 
 pub accents_good : (t : MessageType) → all_good (accents_of t) ≡ true
 unfolding all_good one_accent accents_of all any upto past
@@ -69,17 +68,17 @@ module _ (s : List ℕ) where
     unfolding accent_field is_accented accents_of any
     no_quantity f m = rw (sym e ∙ n, sym f ∙ m)
 
-  pub no_accent : (t : MessageType) → OneOf (0 ∷ 1 ∷ 2 ∷ 3 ∷ 4 ∷ 5 ∷ 7 ∷ []) (tag_of the_type t) → 0 ≡ accent_field t s
+  pub no_accent : (t : MessageType) → (t ≡ Vq → ⊥) → (t ≡ Qr → ⊥) → 0 ≡ accent_field t s
   unfolding accent_field is_accented accents_of any
-  no_accent Cb o = refl
-  no_accent Rc o = refl
-  no_accent Mg o = refl
-  no_accent Eb o = refl
-  no_accent Lb o = refl
-  no_accent Sr o = refl
-  no_accent Vq o = absurd (miss (0 ∷ 1 ∷ 2 ∷ 3 ∷ 4 ∷ 5 ∷ 7 ∷ []) 6 tt o)
-  no_accent Ri o = refl
-  no_accent Qr o = absurd (miss (0 ∷ 1 ∷ 2 ∷ 3 ∷ 4 ∷ 5 ∷ 7 ∷ []) 8 tt o)
+  no_accent Cb _ _ = refl
+  no_accent Rc _ _ = refl
+  no_accent Mg _ _ = refl
+  no_accent Eb _ _ = refl
+  no_accent Lb _ _ = refl
+  no_accent Sr _ _ = refl
+  no_accent Vq other _ = absurd (other refl)
+  no_accent Ri _ _ = refl
+  no_accent Qr _ other = absurd (other refl)
 
 -- ---- a label with its accent has a field, and no other text has one
 

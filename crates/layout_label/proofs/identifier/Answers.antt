@@ -1,0 +1,7 @@
+use Rattle.layout_label.specs.Labels.{label_of, padded}
+use borrow.Author.Rules.{rules}
+use Rattle.layout_label.proofs.identifier.Goals as goal
+
+pub returns : goal.returns
+unfolding label_of padded
+returns c = c.labelled.ensures

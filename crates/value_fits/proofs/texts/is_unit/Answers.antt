@@ -1,0 +1,7 @@
+use Rattle.value_fits.specs.Fits.{is_named}
+use borrow.Author.Rules.{rules}
+use Rattle.value_fits.proofs.texts.is_unit.Goals as goal
+
+pub returns : goal.returns
+unfolding is_named
+returns c = rw (c.is_unit.ensures, c.front.ensures)
