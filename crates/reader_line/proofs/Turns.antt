@@ -14,7 +14,6 @@ use denote.Enum.Declared.{tag_of}
 use mathlib.Core.List.{List, [], ◌∷◌}
 use mathlib.Core.Path.{◌≡◌, refl, sym, ap, ◌∙◌, subst}
 use native.Mathlib.Omega.{arith}
-use types.Run.{OneOf, miss}
 
 abbrev expected : Layout → ℕ → ℕ → ℕ → Expected
 expected l k f g = record { layout = l; field = k; first = f; second = g }
@@ -43,9 +42,9 @@ of_market t e h w = subst (λ (u : MessageType). IsExpected u e) (sym h) w
 
 -- ---- a type with one layout
 
-pub no_second : (t : MessageType) (x : List ℕ) → OneOf (1 ∷ 2 ∷ 3 ∷ 4 ∷ 5 ∷ 6 ∷ 7 ∷ 8 ∷ []) (tag_of the_type t) → 0 ≡ place_of (second_labels t) x
+pub no_second : (t : MessageType) (x : List ℕ) → (t ≡ Cb → ⊥) → 0 ≡ place_of (second_labels t) x
 unfolding place_of
-no_second Cb x o = absurd (miss (1 ∷ 2 ∷ 3 ∷ 4 ∷ 5 ∷ 6 ∷ 7 ∷ 8 ∷ []) 0 tt o)
+no_second Cb x o = absurd (o refl)
 no_second Rc x o = refl
 no_second Mg x o = refl
 no_second Eb x o = refl
@@ -55,7 +54,7 @@ no_second Vq x o = refl
 no_second Ri x o = refl
 no_second Qr x o = refl
 
-pub only_layout : (t : MessageType) (l : Layout) (k : ℕ) → OneOf (1 ∷ 2 ∷ 3 ∷ 4 ∷ 5 ∷ 6 ∷ 7 ∷ 8 ∷ []) (tag_of the_type t) → l ≡ layout_of t
+pub only_layout : (t : MessageType) (l : Layout) (k : ℕ) → (t ≡ Cb → ⊥) → l ≡ layout_of t
     → IsExpected t (expected l k k 0)
 only_layout t l k o e =
     subst (λ (m : Layout). IsExpected t (expected m k k 0)) (sym e)

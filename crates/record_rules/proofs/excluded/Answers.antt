@@ -1,0 +1,6 @@
+use Rattle.record_rules.proofs.Steps.{same_iff}
+use borrow.Author.Rules.{rules}
+use Rattle.record_rules.proofs.excluded.Goals as goal
+
+pub returns : goal.returns
+returns c = same_iff c.filled.ensures c.says.ensures

@@ -1,0 +1,5 @@
+use borrow.Author.Rules.{rules}
+use Rattle.record_rules.proofs.followed.Goals as goal
+
+pub returns : goal.returns
+returns c = rw (c.filled.ensures, c.full.ensures)

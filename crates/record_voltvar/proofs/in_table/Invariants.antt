@@ -1,0 +1,17 @@
+use Prim.Native.Nat.{◌-◌, ◌≤◌, ◌<◌}
+use Rattle.record_voltvar.proofs.Steps.{any_here, any_on, any_end}
+use Rattle.record_voltvar.specs.Table.{line, table, meets, in_table}
+use Rattle.text.specs.Bytes.{any}
+use borrow.Author.Rules.{rules}
+use lib.ListN.{length, get_or, drop}
+use mathlib.Core.Bool.{true, false}
+use mathlib.Core.Path.{◌≡◌, refl, sym, ap, ◌∙◌}
+use native.Mathlib.Omega.{arith}
+use Rattle.record_voltvar.proofs.in_table.Given as goal
+
+-- Whether a row fits is whether one of those that are left does.
+abbrev pub invariant-loop-k : goal.invariant-loop-k
+invariant-loop-k l = (l.k ≤ 11) × (any (meets l.l) table ≡ any (meets l.l) (drop l.k table))
+
+abbrev pub decreases-loop-k : goal.decreases-loop-k
+decreases-loop-k l = 11 - l.k
