@@ -1,0 +1,16 @@
+use Rattle.book_order.proofs.Others.{first_other}
+use borrow.Author.Rules.{rules}
+use mathlib.Core.Path.{◌∙◌}
+use mir.Syntax.{w32}
+use mir.ValLaws.{to_z-of_z}
+use Rattle.book_order.proofs.first_variation.Goals as goal
+
+pub returns-in-Market : goal.returns-in-Market
+returns-in-Market c =
+    rw c.in-Market.is
+    (to_z-of_z w32 c.amount_in.result (record { sfits = c.amount_in.type_inv }) ∙ c.amount_in.ensures ∙ rw c.field.ensures)
+
+pub returns-in-Mfrr : goal.returns-in-Mfrr
+returns-in-Mfrr c =
+    rw c.in-Mfrr.is
+    (to_z-of_z w32 c.amount_in-in-Mfrr.result (record { sfits = c.amount_in-in-Mfrr.type_inv }) ∙ c.amount_in-in-Mfrr.ensures ∙ rw c.field-in-Mfrr.ensures)

@@ -1,0 +1,19 @@
+use Prim.Native.Nat.{◌-◌, ◌≤◌, ◌<◌}
+use Rattle.book_order.specs.Orders.{empty_order}
+use Rattle.book_places.proofs.Staying.{kept_end}
+use Rattle.book_places.specs.Places.{past_order, stays}
+use Rattle.book_shelf.proofs.Keeping.{Passed, begin, room, keeps, leaves}
+use borrow.Author.Rules.{rules}
+use lib.ListN.{length, length-set}
+use mathlib.Core.Logic.{⊎_elim}
+use mathlib.Core.Path.{◌≡◌, refl, ◌∙◌}
+use native.Mathlib.Omega.{arith}
+use Rattle.book_places.proofs.keep_past.Given as goal
+
+-- The orders passed that stay stand in the first places.
+abbrev pub invariant-loop-i : goal.invariant-loop-i
+invariant-loop-i l =
+    (l.i ≤ l.count) × (length l.next ≡ 96) × Passed empty_order past_order 96 (stays l.from l.to l.t) l.i l.kept l.orders l.next
+
+abbrev pub decreases-loop-i : goal.decreases-loop-i
+decreases-loop-i l = l.count - l.i

@@ -1,0 +1,17 @@
+use Prim.Native.Nat.{◌≤◌}
+use Rattle.book_order.specs.Orders.{live}
+use Rattle.book_places.specs.Places.{past_order, place_of}
+use Rattle.book_shelf.proofs.Lasting.{last_not, last_here, last_none}
+use Rattle.book_shelf.specs.Shelf.{between, last_at}
+use borrow.Author.Rules.{rules}
+use lib.ListN.{length}
+use mathlib.Core.Path.{◌≡◌, refl, sym, ap, ◌∙◌}
+use native.Mathlib.Omega.{arith}
+use Rattle.book_places.proofs.last_live.Given as goal
+
+-- None of the orders passed, from the last one down, is in force.
+abbrev pub invariant-loop-i : goal.invariant-loop-i
+invariant-loop-i l = (l.i ≤ l.to) × (last_at (live l.t) l.from (between l.from l.to l.orders) ≡ last_at (live l.t) l.from (between l.from l.i l.orders))
+
+abbrev pub decreases-loop-i : goal.decreases-loop-i
+decreases-loop-i l = l.i

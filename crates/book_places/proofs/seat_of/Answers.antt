@@ -1,0 +1,31 @@
+use Prim.Native.Nat.{◌+◌, ◌-◌, ◌≤◌}
+use Rattle.book_order.specs.Orders.{number}
+use Rattle.book_places.proofs.Seats.{seat_here, seat_none}
+use Rattle.book_places.specs.Places.{past_order}
+use Rattle.book_shelf.proofs.Ranks.{ranked_on}
+use Rattle.book_shelf.specs.Shelf.{between, rank_of}
+use borrow.Author.Rules.{rules}
+use lib.ListN.{length}
+use mathlib.Core.Path.{◌≡◌, refl}
+use native.Mathlib.Omega.{arith}
+use Rattle.book_places.proofs.seat_of.Goals as goal
+
+pub loop-i-init : goal.loop-i-init
+loop-i-init c = refl
+
+pub returns-then-n-o : goal.returns-then-n-o
+returns-then-n-o c =
+    let long : c.args.to ≤ length c.args.orders = omega arith in
+    let a = c.args in
+    seat_here a.n a.from a.to c.loop-i.i a.orders c.loop-i.invariant long c.loop-i-test.true c.if-n-o.true
+
+pub loop-i-preserved : goal.loop-i-preserved
+loop-i-preserved c =
+    let long : c.args.to ≤ length c.args.orders = omega arith in
+    let a = c.args in
+    ranked_on number past_order a.n a.from a.to a.orders c.loop-i.i c.loop-i.invariant long c.loop-i-test.true c.if-n-o.false
+
+pub returns : goal.returns
+returns c =
+    let a = c.args in
+    seat_none a.n a.from a.to c.loop-i.i a.orders c.loop-i.invariant c.loop-i-test.false

@@ -1,0 +1,18 @@
+use Prim.Native.Nat.{◌+◌, ◌-◌, ◌≤◌}
+use Rattle.book_order.specs.Orders.{number}
+use Rattle.book_places.proofs.Seats.{seat_here, seat_none}
+use Rattle.book_places.specs.Places.{past_order}
+use Rattle.book_shelf.proofs.Ranks.{ranked_on}
+use Rattle.book_shelf.specs.Shelf.{between, rank_of}
+use borrow.Author.Rules.{rules}
+use lib.ListN.{length}
+use mathlib.Core.Path.{◌≡◌, refl}
+use native.Mathlib.Omega.{arith}
+use Rattle.book_places.proofs.seat_of.Given as goal
+
+-- The places passed, with the rank in those that follow, are the seat; and the order there tells whether it is held.
+abbrev pub invariant-loop-i : goal.invariant-loop-i
+invariant-loop-i l = l.i + rank_of number l.n (between l.i l.to l.orders) ≡ l.from + rank_of number l.n (between l.from l.to l.orders)
+
+abbrev pub decreases-loop-i : goal.decreases-loop-i
+decreases-loop-i l = l.to - l.i
