@@ -1,4 +1,4 @@
-// What the gateway's host calls from C: numbers and byte slices only. Each slice goes as a pointer and a length (host/include/halimpung.h).
+// What a gateway's host calls: numbers and byte slices only. C hosts call it by crates/gateway_c.
 #![tactic(auto)]
 
 ghost use Rattle.report_brief.specs.Brief.{six_lines};
@@ -17,8 +17,7 @@ use transfer::{Heard, state};
 use writer::Written;
 
 // Reads a file at an address of a plan, and writes the six lines of its record into out.
-#[unsafe(no_mangle)]
-pub extern "C" fn halimpung_read(ca: u32, ioa: u32, plan: &[u8], file: &[u8], out: &mut [u8]) -> u32
+pub fn halimpung_read(ca: u32, ioa: u32, plan: &[u8], file: &[u8], out: &mut [u8]) -> u32
     ensures { (result ≡ entry_code six_lines (read_of ca ioa plan.now file.now) (length out.old))
         × (out.new ≡ out_of six_lines (read_of ca ioa plan.now file.now) out.old) }
 {
@@ -43,14 +42,7 @@ pub extern "C" fn halimpung_read(ca: u32, ioa: u32, plan: &[u8], file: &[u8], ou
 }
 
 // Brings a file to the written form of its record, and writes that into out.
-#[unsafe(no_mangle)]
-pub extern "C" fn halimpung_normalise(
-    ca: u32,
-    ioa: u32,
-    plan: &[u8],
-    file: &[u8],
-    out: &mut [u8],
-) -> u32
+pub fn halimpung_normalise(ca: u32, ioa: u32, plan: &[u8], file: &[u8], out: &mut [u8]) -> u32
     ensures { (result ≡ entry_code file_of (read_of ca ioa plan.now file.now) (length out.old))
         × (out.new ≡ out_of file_of (read_of ca ioa plan.now file.now) out.old) }
 {
@@ -61,8 +53,7 @@ pub extern "C" fn halimpung_normalise(
 }
 
 // Takes one unit of a file transfer. The host keeps the 16 bytes of the state between two units, all zero at first, and lends the file's 8,192 bytes.
-#[unsafe(no_mangle)]
-pub extern "C" fn halimpung_collect(unit: &[u8], state: &mut [u8; 16], file: &mut [u8; 8192]) -> u32
+pub fn halimpung_collect(unit: &[u8], state: &mut [u8; 16], file: &mut [u8; 8192]) -> u32
     ensures { (result ≡ collect_code (taken_of (collector_in state.old) unit.now file.old).heard)
         × (state.new ≡ state_of (taken_of (collector_in state.old) unit.now file.old).collector)
         × (file.new ≡ room_after (collector_in state.old) unit.now file.old) }
