@@ -9,23 +9,21 @@
 ##                                       than x86-64 with ANYWAY=1 alone)
 ## make uninstall PREFIX=.. DESTDIR=..   takes exactly these away
 ##
-## make test                             the gate, from nothing: removes target/, proves and tests all; about half an hour
+## make test                             the gate: proves all that rt ci has not passed on this machine, and tests all
 ## make check                            proves what changed
 ## make fmt                              lays every file out
-## make clean                            removes target/, and so what was proved
+## make clean                            removes target/ and each crate's out/, and so what make check and make lib proved
 ##
 ## make test-host                        the library and the host program, tried from C and the shell
 ## make test-host-valgrind               the library's entries under valgrind
 ## make test-reference                   the reference, a second implementation in Rust, tried alone
 ## make compare COUNT=.. SEED=..         the library against the reference, over many inputs
 ## make bench                            both timed, the book's calls too, and the library's stack
-## make bench NATIVE=1                   the same of code that need not be proved yet, within a minute
 ## make fuzz SECONDS=..                  the library against the reference under libFuzzer, from the corpus of target/fuzz
 ##
-## What is not proved yet is proved first, which takes some minutes once. The library is x86-64 code. On another processor all
-## of these build and run it with what the Rattle kit has there (tools/x86); make test-host then goes without sanitizers, and
-## make bench takes its times as with NATIVE=1.
-.PHONY: help run read values examples lib host install uninstall for-x86-64 test check fmt clean test-host test-host-valgrind test-reference compare bench fuzz
+## What is not proved yet is proved first, which takes some minutes once. The library is x86-64 code, and the Rattle kit runs on
+## x86-64 Linux alone.
+.PHONY: help run read values examples lib host install uninstall for-x86-64 for-proved test check fmt clean test-host test-host-valgrind test-reference compare bench fuzz
 
 # the lines above
 help:
@@ -38,8 +36,8 @@ IOA ?= 300
 PREFIX ?= /usr/local
 # the header's
 VERSION = $(shell sed -n 's/^.define HALIMPUNG_VERSION "\(.*\)"$$/\1/p' host/include/halimpung.h)
+# copies of what rt lib makes in the crates gateway_c and, for make bench alone, bench_book
 LIB = target/staticlib/libgateway.a
-# for make bench alone
 PACE = target/staticlib/libbench_book.a
 CFLAGS ?= -O2
 STRICT = -std=c11 -pedantic -Wall -Wextra -Werror
@@ -47,24 +45,16 @@ STRICT = -std=c11 -pedantic -Wall -Wextra -Werror
 # builds and runs C programs that call the library
 X86 = CC='$(CC)' tools/x86
 MACHINE := $(shell uname -m)
-# OURS is what a Rust program needs to call the library: the library, or the program that calls it in its place. UNPROVED is what make bench
-# says of code without its proofs: the stack is always one of x86-64 code.
-# EAGER binds all symbols before the program begins. (The kit has no sanitizers and no static C library.)
+# OURS is what a Rust program needs to call the library: the library, or the program that calls it in its place.
+# EAGER binds all symbols before the program begins.
 ifeq ($(MACHINE),x86_64)
 OURS = $(LIB)
-UNPROVED = $(if $(NATIVE),times and stack)
 SANITIZED = -fsanitize=address,undefined -fno-sanitize-recover=all
 EAGER = -static
 else
 OURS = target/host/far
-UNPROVED = times
 EAGER = -Wl,-z,now
 endif
-
-# what make bench times: the library, or the crates' code compiled for this machine (tools/native)
-TIMED = $(if $(UNPROVED),target/native/libgateway.a,$(LIB))
-TIMED_PACE = $(if $(UNPROVED),target/native/libbench_book.a,$(PACE))
-STACK = $(if $(filter %stack,$(UNPROVED)),target/native/stack,target/host/stack)
 
 # The commands that a target needs are asked for first: nobody waits for a proof to learn that cargo is missing. (rt is asked for where
 # something is to be proved; cargo links with cc.)
@@ -85,7 +75,7 @@ test:
 
 check:
 	@tools/need rt
-	rt check
+	rt all check
 
 run: read
 
@@ -99,20 +89,23 @@ values:
 
 fmt:
 	@tools/need rt
-	rt fmt
+	@for crate in crates/*/; do (cd "$$crate" && rt fmt) || exit; done
 
 clean:
-	rm -rf target
+	rm -rf target crates/*/out
 
 lib: $(LIB)
 
 host: needs-host target/host/halimpung-read
 
-# rt takes most of a minute to find that nothing changed, so make asks first
-$(LIB) $(PACE): target/staticlib/lib%.a: crates.txt $(shell find crates -name '*.rt' -o -name '*.antt')
+$(LIB): CRATE = gateway_c
+$(PACE): CRATE = bench_book
+# rt takes a while to find that nothing changed, so make asks first
+$(LIB) $(PACE): crates.txt $(shell find crates -name out -prune -o \( -name '*.rt' -o -name '*.antt' \) -print)
 	@tools/need rt
-	rt staticlib $*
-	@touch $@
+	cd crates/$(CRATE) && rt lib
+	@mkdir -p $(@D)
+	@cp crates/$(CRATE)/out/lib$(CRATE).a $@
 
 # one rt at a time
 $(PACE): | $(LIB)
@@ -205,8 +198,7 @@ COUNT ?= 200000
 SEED ?= 1
 
 # nothing is built in the source folders
-CARGO = CARGO_TARGET_DIR='$(CURDIR)/target/cargo' HALIMPUNG_LIB='$(abspath $(LINKED))' cargo
-LINKED = $(LIB)
+CARGO = CARGO_TARGET_DIR='$(CURDIR)/target/cargo' HALIMPUNG_LIB='$(abspath $(LIB))' cargo
 
 test-reference: needs-test-reference
 	cd host/reference && $(CARGO) test --release --offline -q
@@ -221,28 +213,21 @@ compare: needs-compare $(OURS)
 	cd host/compare && $(CARGO) test --release --offline -q --lib
 	cd host/compare && $(CARGO) run --release --offline -q --bin compare -- $(COUNT) $(SEED)
 
-target/native/lib%.a: crates.txt tools/native tools/native-clang $(shell find crates -name '*.rt')
-	@tools/need rt
-	@tools/native $*
-
-# they share a folder
-target/native/libbench_book.a: | target/native/libgateway.a
-
 target/host/stack: $(LIB)
-target/native/stack: target/native/libgateway.a
 
 # eager: else the first call through the dynamic linker would be counted in the stack
-target/host/stack target/native/stack: tools/stack.c
+target/host/stack: tools/stack.c
 	@mkdir -p $(@D)
 	$(X86) cc $(CFLAGS) $(EAGER) -o $@ tools/stack.c $(filter %.a,$^)
 
-# the program for the stack is made last: it may need proofs where the times need none
-bench: LINKED = $(TIMED)
-bench: needs-bench $(TIMED) $(TIMED_PACE)
-	@$(if $(UNPROVED),echo "compiled natively from the crates' code without its proofs: the $(UNPROVED) below (on $(MACHINE))")
-	cd host/compare && HALIMPUNG_PACE_LIB='$(abspath $(TIMED_PACE))' $(CARGO) run --release --offline -q --features pace --bin bench
-	@$(MAKE) -s $(STACK)
-	@host/compare/stack $(STACK) examples $(STACK)-plan.txt
+# an earlier kit could
+for-proved:
+	@[ -z '$(NATIVE)' ] || { echo 'make bench NATIVE=1: this kit compiles no code that is not proved (make bench times the proved library)' >&2; exit 1; }
+	@[ $(MACHINE) = x86_64 ] || { echo 'make bench needs an x86-64 machine' >&2; exit 1; }
+
+bench: needs-bench for-proved $(LIB) $(PACE) target/host/stack
+	cd host/compare && HALIMPUNG_PACE_LIB='$(abspath $(PACE))' $(CARGO) run --release --offline -q --features pace --bin bench
+	@host/compare/stack target/host/stack examples target/host/stack-plan.txt
 
 SECONDS ?= 60
 FUZZ = target/fuzz

@@ -1,6 +1,6 @@
 //! Links the library, and for the feature `pace` the book's loops: for each the archive that its variable names, else the
-//! one that make leaves. What is proved is x86-64 code, and elsewhere it is not linked (src/far.rs). What is timed is linked
-//! everywhere, and elsewhere the variables name code for that processor (tools/native).
+//! one that make leaves. What is proved is x86-64 code, and elsewhere it is not linked (src/far.rs). What is timed is always
+//! linked.
 
 use std::path::PathBuf;
 
