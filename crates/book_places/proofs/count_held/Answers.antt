@@ -13,6 +13,7 @@ use mathlib.Core.Logic.{⊎_elim}
 use mathlib.Core.Path.{◌≡◌, refl, sym, ◌∙◌}
 use native.Mathlib.Omega.{arith}
 use Rattle.book_places.proofs.count_held.Goals as goal
+use Rattle.book_places.proofs.count_held.Goals.{else-loop-count-test, then-loop-count-test+then-not-fits_after}
 
 pub loop-count-init : goal.loop-count-init
 loop-count-init c = (counted_none c.args.floor c.args.orders, refl)
@@ -34,9 +35,13 @@ loop-count-preserved c =
 
 pub loop-i-init : goal.loop-i-init
 loop-i-init c =
-    let counted : c.loop-count.count ≡ leading c.args.floor 0 c.args.t1 = let a = c.args in
-    elim c.loop-count-test.branch [ then-loop-count-test w ↦ counted_all a.floor c.loop-count.least c.loop-count.count _ a.t1 c.loop-count.invariant.0 (omega (arith, w.false)) | else-loop-count-test w ↦ let h : c.loop-count.count < length a.t1 = omega (arith, w.0.true) in
-    counted_here a.floor c.loop-count.least c.loop-count.count _ a.t1 c.loop-count.invariant.0 h (sym w.2.ensures ∙ not-true _ w.3.true) ] in
+    let counted : c.loop-count.count ≡ leading c.args.floor 0 c.args.orders = let a = c.args in
+    elim c.loop-count-test.branch [
+      else-loop-count-test w ↦ counted_all a.floor c.loop-count.least c.loop-count.count _ a.orders c.loop-count.invariant.0 (omega (arith, w.loop-count-test.false))
+    | then-loop-count-test+then-not-fits_after w ↦
+        let h : c.loop-count.count < length a.orders = omega (arith, w.loop-count-test.true) in
+        counted_here a.floor c.loop-count.least c.loop-count.count _ a.orders c.loop-count.invariant.0 h (sym w.fits_after.ensures ∙ w.if-not-fits_after.true)
+    ] in
     (counted, c.loop-count.invariant.1, refl)
 
 pub returns-then-not-is_empty : goal.returns-then-not-is_empty

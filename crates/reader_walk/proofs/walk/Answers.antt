@@ -6,7 +6,6 @@ use Rattle.reader_accent.specs.Accents.{accents_of}
 use Rattle.text_lines.specs.Places.{line_run}
 use borrow.Author.Rules.{rules}
 use lib.ListN.{length, drop}
-use mathlib.Core.Logic.{⊎_elim}
 use mathlib.Core.Path.{◌≡◌, sym, ◌∙◌}
 use native.Mathlib.Omega.{arith}
 use Rattle.reader_walk.proofs.walk.Goals as goal
@@ -75,3 +74,21 @@ loop-at-preserved c =
     turned _ _ _ _ _ _ _ _ c.loop-at.invariant _ _ _ _ _ c.loop-at-test.true c.line_of-item.ensures
     (sym c.in-After.is ∙ c.break_at.ensures)
     c.frame_in-frame.ensures c.note-a.ensures c.note-b.ensures
+
+pub overflow_add-at : goal.overflow_add-at
+overflow_add-at c =
+    let ended_at : c.line_of-item.result.end ≡ c.loop-at.at + line_run (accents_of c.args.t) (drop c.loop-at.at c.args.s.now) = end_is _ _ _ _ _ c.line_of-item.ensures in
+    let ended = sym c.in-After.is ∙ c.break_at.ensures in
+    let near =
+    past_near _ (accents_good c.args.t) c.args.s.now c.loop-at.at c.line_of-item.result.end c.loop-at-test.true ended_at _ ended in
+    omega (arith, near, c.requires)
+
+pub returns : goal.returns
+returns c =
+    elim c.loop-at-test.branch [
+      else-loop-at-test x ↦ finish _ _ _ _ _ _ _ _ c.loop-at.invariant x.loop-at-test.false _ x.at-is c.handed.ensures
+    | then-loop-at-test+in_default x ↦
+        let end = end_is _ _ _ _ _ x.line_of-item.ensures in
+        let bad = sym x.in_default.is ∙ x.break_at.ensures in
+        stop _ _ _ _ _ _ _ _ c.loop-at.invariant _ x.loop-at-test.true end bad _ x.at-is c.handed.ensures
+    ]

@@ -1,0 +1,17 @@
+use Rattle.reader.proofs.Placing.{twice, absent, all_there}
+use borrow.Author.Rules.{rules}
+use mathlib.Core.Path.{◌∙◌}
+use Rattle.reader.proofs.place.Goals as goal
+
+pub returns-then-m-ne0 : goal.returns-then-m-ne0
+returns-then-m-ne0 c = c.unplaced.ensures ∙ twice _ _ c.args.m _ c.if-m-ne0.true
+
+pub returns-then-missing-ne0 : goal.returns-then-missing-ne0
+returns-then-missing-ne0 c =
+    c.unplaced-then-missing-ne0.ensures ∙ absent _ _ c.args.m _ c.if-m-ne0.false _
+    c.size.ensures c.if-missing-ne0.true
+
+pub returns : goal.returns
+returns c =
+    all_there _ _ c.args.m _ c.if-m-ne0.false _ c.size.ensures
+    c.if-missing-ne0.false
