@@ -13,6 +13,7 @@ use mathlib.Core.Logic.{⊎_elim}
 use mathlib.Core.Path.{◌≡◌, refl, sym, ap₂, ◌∙◌}
 use native.Mathlib.Omega.{arith}
 use Rattle.reader.proofs.judged.Goals as goal
+use Rattle.reader.proofs.judged.Goals.{then-bad-eq0, in-Market, in-Mfrr, in-Exclusion, in-Limitation, in-Secondary, in-VoltVar, in-Reserve, in_default, else-bad-eq0}
 
 pub returns-then-x-ne0 : goal.returns-then-x-ne0
 returns-then-x-ne0 c = refused_located _ _ _ _ _ c.locate-x.ensures c.if-x-ne0.true
@@ -74,34 +75,46 @@ judge-early-requires c =
     let s = c.locate-x.ensures.stands c.if-x-ne0.false in
     (s.ordered, s.inside, rw (c.loop-k.invariant.going c.if-bad-eq0.true).places_are s.placed)
 
--- FAILED returns-then-number-ne0: helper broken_is on m
--- last-refused : tie.Need-returns-2 invariant-loop decreases-loop
--- last-refused c =
---     let j = c.before.before in
---     let l = j.before.before in
---     let g = listed l in
---     ⊎_elim
---     (λ w.
---     let m : tie.At-match2-branch invariant-loop decreases-loop = record { before = record { before = j.before; if2 = w.0 }; match2 = w.1 } in
---     refused_last _ _ _ _ _ (located l).locate.ensures (one g).if1.left _ g.gradients-of.ensures _ _ _ (l.loop.invariant.going w.0.taken)
---     j.before.loop-test.false _ (broken_is m) _ refl _ w.4.ensures (λ z. c.before.if3.true (w.5 ∙ z))
---     (c.unread.ensures ∙ ap₂ unread w.5 w.6))
---     (λ w. l.loop.invariant.told w.0.left _ (c.unread.ensures ∙ ap₂ unread w.1 w.2))
---     j.if2.branch
+pub returns-then-number-ne0 : goal.returns-then-number-ne0
+returns-then-number-ne0 c =
+    elim c.if-bad-eq0.branch [
+      then-bad-eq0 w ↦
+    let broken_is : w.match-l.broken ≡ lowest (rules_of c.locate-x.result.layout c.loop-k.r.cells c.loop-k.r.gradients) =
+        elim w.match-l.branch [
+          in-Market v ↦ in_market _ _ _ _ v.in-Market.is (v.broken-is ∙ v.of_market-broken.ensures)
+        | in-Mfrr v ↦ in_ramps _ _ _ _ v.in-Mfrr.is (v.broken-is ∙ v.of_ramps-broken.ensures)
+        | in-Exclusion v ↦ in_exclusion _ _ _ _ v.in-Exclusion.is (v.broken-is ∙ v.of_exclusion-broken.ensures)
+        | in-Limitation v ↦ in_limitation _ _ _ _ v.in-Limitation.is (v.broken-is ∙ v.of_limitation-broken.ensures)
+        | in-Secondary v ↦ in_secondary _ _ _ _ v.in-Secondary.is (v.broken-is ∙ v.of_secondary-broken.ensures)
+        | in-VoltVar v ↦ in_volt_var _ _ _ _ v.in-VoltVar.is (v.broken-is ∙ v.of_volt_var-broken.ensures)
+        | in-Reserve v ↦ in_reserve _ _ _ _ v.in-Reserve.is (v.broken-is ∙ v.of_reserve-broken.ensures)
+        | in_default v ↦ in_others _ _ _ _ v.in_default.in_default-own.keys8 (v.broken-is ∙ v.of_order-broken.ensures)
+        ] in
+    refused_last _ _ _ _ _ c.locate-x.ensures c.if-x-ne0.false _ c.gradients_of-g.ensures _ _ _ (c.loop-k.invariant.going w.if-bad-eq0.true)
+        c.loop-k-test.false _ broken_is _ refl _ w.judge-early.ensures (λ z. c.if-number-ne0.true (w.number-is ∙ z))
+        (c.unread-r.ensures ∙ ap₂ unread w.number-is w.detail-is)
+    | else-bad-eq0 w ↦ c.loop-k.invariant.told w.if-bad-eq0.false _ (c.unread-r.ensures ∙ ap₂ unread w.number-is w.detail-is)
+    ]
 
--- FAILED returns-else-number-ne0: helper broken_is on m
--- judged : tie.Need-returns-3 invariant-loop decreases-loop
--- judged c =
---     let j = c.before in
---     let l = j.before.before in
---     let g = listed l in
---     ⊎_elim
---     (λ w.
---     let m : tie.At-match2-branch invariant-loop decreases-loop = record { before = record { before = j.before; if2 = w.0 }; match2 = w.1 } in
---     all_read _ _ _ _ _ (located l).locate.ensures (one g).if1.left _ g.gradients-of.ensures _ _ _ (l.loop.invariant.going w.0.taken)
---     j.before.loop-test.false _ (broken_is m) _ refl _ w.4.ensures (sym w.5 ∙ c.if3.false))
---     (λ w. absurd (omega (arith, w.1, c.if3.false)))
---     j.if2.branch
+pub returns-else-number-ne0 : goal.returns-else-number-ne0
+returns-else-number-ne0 c =
+    elim c.if-bad-eq0.branch [
+      then-bad-eq0 w ↦
+    let broken_is : w.match-l.broken ≡ lowest (rules_of c.locate-x.result.layout c.loop-k.r.cells c.loop-k.r.gradients) =
+        elim w.match-l.branch [
+          in-Market v ↦ in_market _ _ _ _ v.in-Market.is (v.broken-is ∙ v.of_market-broken.ensures)
+        | in-Mfrr v ↦ in_ramps _ _ _ _ v.in-Mfrr.is (v.broken-is ∙ v.of_ramps-broken.ensures)
+        | in-Exclusion v ↦ in_exclusion _ _ _ _ v.in-Exclusion.is (v.broken-is ∙ v.of_exclusion-broken.ensures)
+        | in-Limitation v ↦ in_limitation _ _ _ _ v.in-Limitation.is (v.broken-is ∙ v.of_limitation-broken.ensures)
+        | in-Secondary v ↦ in_secondary _ _ _ _ v.in-Secondary.is (v.broken-is ∙ v.of_secondary-broken.ensures)
+        | in-VoltVar v ↦ in_volt_var _ _ _ _ v.in-VoltVar.is (v.broken-is ∙ v.of_volt_var-broken.ensures)
+        | in-Reserve v ↦ in_reserve _ _ _ _ v.in-Reserve.is (v.broken-is ∙ v.of_reserve-broken.ensures)
+        | in_default v ↦ in_others _ _ _ _ v.in_default.in_default-own.keys8 (v.broken-is ∙ v.of_order-broken.ensures)
+        ] in
+    all_read _ _ _ _ _ c.locate-x.ensures c.if-x-ne0.false _ c.gradients_of-g.ensures _ _ _ (c.loop-k.invariant.going w.if-bad-eq0.true)
+        c.loop-k-test.false _ broken_is _ refl _ w.judge-early.ensures (sym w.number-is ∙ c.if-number-ne0.false)
+    | else-bad-eq0 w ↦ absurd (omega (arith, w.number-is, c.if-number-ne0.false))
+    ]
 
 pub overflow_add-k : goal.overflow_add-k
 overflow_add-k c =
