@@ -1,0 +1,8 @@
+use Rattle.report.proofs.Hearing.{print_put}
+use borrow.Author.Rules.{rules}
+use Rattle.report.proofs.print.Goals as goal
+
+pub returns : goal.returns
+returns c =
+    print_put c.args.plan.now c.args.input.now c.args.out.now _ _ _ c.hear.ensures
+    c.put_answer.ensures

@@ -1,0 +1,9 @@
+use Rattle.times.proofs.Told.{located_within, located_part}
+use borrow.Author.Rules.{rules}
+use Rattle.times.proofs.ramp.Goals as goal
+
+pub part_at-requires : goal.part_at-requires
+part_at-requires c = located_within _ _ _ _ _ _ _ c.locate.ensures
+
+pub returns : goal.returns
+returns c = located_part _ _ _ _ _ _ _ _ c.locate.ensures c.part_at.ensures
