@@ -23,7 +23,7 @@ use Rattle.value_put.proofs as value_put
 use Rattle.value_word.proofs as value_word
 use Rattle.writer.proofs as writer
 use Rattle.demands.specs.Calls.{Calls, Meets}
-use Rattle.demands.specs.Contracts.{Contracts}
+use Rattle.demands.specs.CallContracts.{Contracts}
 use Rattle.demands.specs.Within.{Within}
 use Rattle.text.proofs.Determined.{equation, equations, three_equations, buffer_equation, text_equation}
 use Rattle.text.proofs.Numerals.{length_text}

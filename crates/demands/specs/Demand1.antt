@@ -5,7 +5,7 @@ use Rattle.book.specs.Answers.{outcome_of, deed_outcome_of, asked_of, shown_of}
 use Rattle.book.specs.declared.Book.{Book}
 use Rattle.report_brief.specs.Brief.{six_lines}
 use Rattle.demands.specs.Calls.{Calls, Meets}
-use Rattle.demands.specs.Contracts.{Contracts}
+use Rattle.demands.specs.CallContracts.{Contracts}
 use Rattle.gateway.specs.Entry.{entry_code, out_of}
 use Rattle.book_ledger.specs.Calls.{Call, Deed}
 use Rattle.plan.specs.Plans.{plan_of, sought_of}

@@ -1,5 +1,5 @@
 pub mod Calls
-pub mod Contracts
+pub mod CallContracts
 pub mod Within
 pub mod Spaced
 pub mod Demand1

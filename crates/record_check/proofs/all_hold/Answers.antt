@@ -4,6 +4,8 @@ use Rattle.value.specs.Texts.{rooms}
 use borrow.Author.Rules.{rules}
 use mathlib.Core.Path.{refl}
 use native.Mathlib.Omega.{arith}
+use mathlib.Core.Bool.{not}
+use mathlib.Core.Path.{ap}
 use Rattle.record_check.proofs.all_hold.Goals as goal
 
 pub loop-k-init : goal.loop-k-init
@@ -21,7 +23,7 @@ overflow_add-k c = omega (arith, small _ _ _ _ _ _ c.loop-k.invariant c.loop-k-t
 pub returns-then-not-holds : goal.returns-then-not-holds
 returns-then-not-holds c =
     one_fails _ _ _ _ _ _ c.loop-k.invariant c.loop-k-test.true _ c.of_field.ensures _ c.holds.ensures
-    c.if-not-holds.true
+    (ap not c.if-not-holds.true)
 
 pub overflow_add-k-in-loop-k : goal.overflow_add-k-in-loop-k
 overflow_add-k-in-loop-k c = omega (arith, small _ _ _ _ _ _ c.loop-k.invariant c.loop-k-test.true)
@@ -29,7 +31,7 @@ overflow_add-k-in-loop-k c = omega (arith, small _ _ _ _ _ _ c.loop-k.invariant 
 pub loop-k-preserved : goal.loop-k-preserved
 loop-k-preserved c =
     one_holds _ _ _ _ _ _ c.loop-k.invariant c.loop-k-test.true _ c.of_field.ensures _ c.holds.ensures
-    c.if-not-holds.false
+    (ap not c.if-not-holds.false)
 
 pub returns : goal.returns
 returns c = all_asked _ _ _ _ _ _ c.loop-k.invariant c.loop-k-test.false
