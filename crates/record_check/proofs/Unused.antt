@@ -4,21 +4,17 @@ use Rattle.value_fits.specs.Fits.{is_no_triple}
 use Rattle.layout.proofs.Labels.{few}
 use Rattle.layout.specs.declared.Layout.{Layout}
 use Rattle.value_list.specs.declared.Triple.{Triple}
-use Rattle.record.specs.contracts.Record.{the_type}
 use Rattle.record.proofs.Rooms.{reason_in, note_in}
 use Rattle.layout.specs.FieldNumbers.{reason_field, note_field, gradients_field}
 use Rattle.record.specs.declared.Record.{Record}
 use Rattle.text.specs.Bytes.{all}
 use Rattle.record_check.specs.Validity.{no_triples, is_sized}
 use borrow.Author.Tests.{lt-ltb, le-ltb, eq-eqb}
-use denote.Laws.{Is}
-use denote.Struct.Declared.{row}
 use lib.Dec.{eqb}
-use lib.ListN.{length, length-map}
+use lib.ListN.{length}
 use mathlib.Core.Bool.{true}
-use mathlib.Core.List.{List, map}
+use mathlib.Core.List.{List}
 use mathlib.Core.Path.{◌≡◌, sym, ◌∙◌}
-use mir.Val.{Val}
 use native.Mathlib.Omega.{arith}
 
 -- ---- the fields with the reason and the note have a cell
@@ -37,19 +33,19 @@ module _ (l : Layout) (values : List Triple) (k : ℕ) (e : k ≡ gradients_fiel
   unfolding no_triples
   without_triples n = rw (le-ltb 0 (gradients_field l) (omega (arith, n, e)))
 
--- ---- the arrays of a record that a function is handed have their sizes: read off what owning it tells, `c.good.0`
+-- ---- the arrays of a record that a function is handed have their sizes
 
-of_length : {A B : Type 0} (f : A → B) (l : List A) (n : ℕ) → length (map f l) ≡ n → eqb (length l) n ≡ true
-of_length f l n e = eq-eqb (length l) n (sym (length-map l f) ∙ e)
+of_length : {A : Type 0} (l : List A) (n : ℕ) → length l ≡ n → eqb (length l) n ≡ true
+of_length l n e = eq-eqb (length l) n e
 
-pub sized : (r : Record) (vs : List Val) → Is (row the_type) r vs → is_sized r ≡ true
+pub sized : (r : Record) → length r.cells ≡ 26 → length r.unit ≡ 16 → length r.reason ≡ 128 → length r.note ≡ 256 → length r.gradients ≡ 16
+    → is_sized r ≡ true
 unfolding is_sized
-sized r vs p =
-    let q = p.1.1.1 in
+sized r cells unit reason note gradients =
     rw (
-      of_length _ r.cells 26 q.0.1.0.1,
-      of_length _ r.unit 16 q.1.0.1.0.1,
-      of_length _ r.reason 128 q.1.1.0.1.0.1,
-      of_length _ r.note 256 q.1.1.1.0.1.0.1,
-      of_length _ r.gradients 16 q.1.1.1.1.0.1.0.1,
+      of_length r.cells 26 cells,
+      of_length r.unit 16 unit,
+      of_length r.reason 128 reason,
+      of_length r.note 256 note,
+      of_length r.gradients 16 gradients,
     )

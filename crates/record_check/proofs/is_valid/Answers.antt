@@ -8,7 +8,7 @@ pub returns : goal.returns
 unfolding broken_in is_valid
 returns c =
     rw (
-      sized c.args.r _ c.well-formed.0,
+      sized c.args.r (search rules) (search rules) (search rules) (search rules) (search rules),
       c.lowest_of.ensures,
       c.has_no_triples.ensures,
       c.are_clear.ensures,

@@ -14,4 +14,4 @@ pub returns : goal.returns
 returns c =
     let byte = c.put_byte-from in
     let filled = told_filled c.args.v _ c.is_filled.ensures (ap not c.if-not-is_filled.false) in
-    put_some c.args.t _ c.args.v _ c.args.at c.requires.1 filled _ byte.new.0 _ _ byte.ensures c.put_value.ensures
+    put_some c.args.t _ c.args.v _ c.args.at c.requires.1 filled _ byte.new.out _ _ byte.ensures c.put_value.ensures

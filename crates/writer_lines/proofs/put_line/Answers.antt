@@ -38,5 +38,5 @@ returns c =
     let same = ap (λ (t : MessageType). value_text t r a.v) kind.ensures in
     line_put (label_at a.l a.k) (value_text kind.result r a.v) (value_text (type_of a.l) r a.v)
     (label_short a.l a.k c.requires.1 c.requires.2) same
-    _ _ _ c.put-padded.new.out _ c.put_byte-equals.new.0 _ c.put_after-said.new.0 _ _
+    _ _ _ c.put-padded.new.out _ c.put_byte-equals.new.out _ c.put_after-said.new.out _ _
     _ c.put-padded.ensures text c.put_byte-equals.ensures c.put_after-said.ensures c.put_byte.ensures

@@ -17,14 +17,14 @@ put_line-p-requires c =
     let a = c.args in
     let h = in_size in
     let short = all_lines_short a.l _ a.cells c.requires.1 sixteen in
-    let low = place_low a.l _ _ _ (full a.l _ a.t4 c.requires.1) _ _ _ c.loop-k.invariant 18200 short in
-    (omega (arith, c.requires.0, low), omega arith, omega (arith, h), spoken a.l _ a.t4 c.requires.1 _ h)
+    let low = place_low a.l _ _ _ (full a.l _ a.cells c.requires.1) _ _ _ c.loop-k.invariant 18200 short in
+    (omega (arith, c.requires.0, low), omega arith, omega (arith, h), spoken a.l _ a.cells c.requires.1 _ h)
 
 pub loop-k-preserved : goal.loop-k-preserved
 loop-k-preserved c =
     let in_size : c.loop-k.k < size_of c.args.l = omega (arith, c.size-size.ensures, c.loop-k-test.true) in
     let a = c.args in
-    turn a.l _ _ _ (full a.l _ a.cells c.requires.1) _ _ _ c.loop-k.invariant in_size _ (text_of a.l _ a.t4 c.requires.1 _ in_size)
+    turn a.l _ _ _ (full a.l _ a.cells c.requires.1) _ _ _ c.loop-k.invariant in_size _ (text_of a.l _ a.cells c.requires.1 _ in_size)
     _ _ c.put_line-p.ensures
 
 pub shape_of-out : goal.shape_of-out

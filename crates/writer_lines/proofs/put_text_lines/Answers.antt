@@ -61,14 +61,14 @@ overflow_add-k c =
 pub slice_bounds-put_text_line-count : goal.slice_bounds-put_text_line-count
 slice_bounds-put_text_line-count c =
     let in_size : c.loop-k.k < size_of c.args.l = omega (arith, c.size-size.ensures, c.loop-k-test.true) in
-    let ordered : (span_at c.args.places (c.loop-k.k + 1)).from ≤ (span_at c.args.t5 (c.loop-k.k + 1)).to = c.requires.1.ordered _ (omega arith) (omega (arith, in_size)) in
+    let ordered : (span_at c.args.places (c.loop-k.k + 1)).from ≤ (span_at c.args.places (c.loop-k.k + 1)).to = c.requires.1.ordered _ (omega arith) (omega (arith, in_size)) in
     ordered
 
 pub slice_bounds-put_text_line-start : goal.slice_bounds-put_text_line-start
 slice_bounds-put_text_line-start c =
     let in_size : c.loop-k.k < size_of c.args.l = omega (arith, c.size-size.ensures, c.loop-k-test.true) in
-    let ordered : (span_at c.args.places (c.loop-k.k + 1)).from ≤ (span_at c.args.t5 (c.loop-k.k + 1)).to = c.requires.1.ordered _ (omega arith) (omega (arith, in_size)) in
-    let inside : (span_at c.args.t5 (c.loop-k.k + 1)).to ≤ length c.args.file.now = c.requires.1.inside _ (omega arith) (omega (arith, in_size)) in
+    let ordered : (span_at c.args.places (c.loop-k.k + 1)).from ≤ (span_at c.args.places (c.loop-k.k + 1)).to = c.requires.1.ordered _ (omega arith) (omega (arith, in_size)) in
+    let inside : (span_at c.args.places (c.loop-k.k + 1)).to ≤ length c.args.file.now = c.requires.1.inside _ (omega arith) (omega (arith, in_size)) in
     omega (arith, ordered, inside)
 
 pub slice_bounds-put_text_line-end : goal.slice_bounds-put_text_line-end
