@@ -34,7 +34,7 @@ pub record Dated (v : Value) : Type 0 where
 -- ---- one value
 
 module _ {t : MessageType} {r : Rooms} where
-  number_held : {v : Value} → Fits t r (IsId t) v → number_in v ≤ most_number
+  number_held : {u : MessageType} {v : Value} → Fits t r (IsId u) v → number_in v ≤ most_number
   number_held (id h) = omega arith
 
   date_held : {v : Value} → Fits t r IsWhen v → Dated v

@@ -1,7 +1,7 @@
 -- THE THEOREM: the test holds exactly of the orders that a valid CB record gives. Assumes nothing.
 use Rattle.book_source.proofs.Comes.{comes}
 use Rattle.book_source.proofs.Witness.{witness}
-use Rattle.book_source.specs.Given.{asBrought, Given}
+use Rattle.book_source.specs.Given.{as_brought, Given}
 use Rattle.book_order.specs.Orders.{could_come}
 use Rattle.book_order.specs.declared.Order.{Order}
 use Rattle.text.proofs.Tests.{Tells}
@@ -9,7 +9,7 @@ use Rattle.record_check.proofs.Decides.{valid_tells}
 use mathlib.Core.Path.{◌≡◌, refl, sym, ap, ◌∙◌}
 
 -- whether it was struck is not asked
-brought : (o : Order) → could_come o ≡ could_come (asBrought o)
+brought : (o : Order) → could_come o ≡ could_come (as_brought o)
 unfolding could_come
 brought o = refl
 

@@ -44,7 +44,7 @@ pub returns : goal.returns
 returns c =
     let a = c.args in
     written_put a.l (column_in (size_of a.l) a.file.now a.places) a.out.now _ _ c.put-head.new.out _ c.put_byte-body.new.out
-    _ c.put_text_lines-listed.new.out _ c.put_text-from.new.0 _ c.put_text-past.new.0 _ _
+    _ c.put_text_lines-listed.new.out _ c.put_text-from.new.out _ c.put_text-past.new.out _ _
     c.put-head.ensures c.put_byte-body.ensures c.put_text_lines-listed.ensures c.put_text-from.ensures
     _ c.requires.3.holds c.put_text-past.ensures c.put_text.ensures
 

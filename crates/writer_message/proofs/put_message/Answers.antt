@@ -62,5 +62,5 @@ put_text-requires c =
 pub returns : goal.returns
 returns c =
     message_put c.args.l (rooms c.args.unit.now c.args.reason.now c.args.note.now c.args.gradients) c.args.cells c.args.out.now _ _ c.put-head.new.out _ c.put_byte-body.new.out
-    _ c.put_lines-above.new.out _ c.put_text-from.new.0 _ c.put_row-to.new.0 _ _ c.put-head.ensures c.put_byte-body.ensures
+    _ c.put_lines-above.new.out _ c.put_text-from.new.out _ c.put_row-to.new.out _ _ c.put-head.ensures c.put_byte-body.ensures
     c.put_lines-above.ensures c.put_text-from.ensures c.put_row-to.ensures c.put_text.ensures
