@@ -1,0 +1,7 @@
+use Rattle.book.specs.Places.{zero_book}
+use borrow.Author.Rules.{rules}
+use Rattle.book.proofs.zero.Goals as goal
+
+pub returns : goal.returns
+unfolding zero_book
+returns c = c.make.ensures
