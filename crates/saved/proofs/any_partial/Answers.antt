@@ -1,0 +1,24 @@
+use Prim.Native.Nat.{◌-◌, ◌≤◌}
+use Rattle.book_order.specs.Orders.{is_partial}
+use Rattle.book_places.specs.Places.{past_order}
+use Rattle.saved.proofs.Saving.{any_here, any_on, any_none}
+use Rattle.text.specs.Bytes.{any}
+use borrow.Author.Rules.{rules}
+use lib.ListN.{length, take, drop}
+use mathlib.Core.Path.{◌≡◌, refl}
+use native.Mathlib.Omega.{arith}
+use Rattle.saved.proofs.any_partial.Goals as goal
+
+pub loop-i-init : goal.loop-i-init
+loop-i-init c = (omega arith, refl)
+
+-- FAILED returns-then-is_partial: helper long on ,
+-- returns : tie.Need-returns invariant-loop decreases-loop
+-- returns c = search (any_here is_partial past_order, long, rules)
+
+-- FAILED loop-i-preserved: helper long on ,
+-- loop-again : tie.Need-loop-preserved invariant-loop decreases-loop
+-- loop-again c = (omega arith, search (any_on is_partial past_order, long, rules))
+
+pub returns : goal.returns
+returns c = search (any_none is_partial past_order, rules)

@@ -1,0 +1,6 @@
+use Rattle.saved.proofs.Valued.{other_kind}
+use borrow.Author.Rules.{rules}
+use Rattle.saved.proofs.orders.layout_of.Goals as goal
+
+pub returns : goal.returns
+returns c = other_kind _ c.if-kind-eq0.false

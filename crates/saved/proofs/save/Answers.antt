@@ -1,0 +1,44 @@
+use Rattle.book.proofs.Holding.{Holding, holds, holds_none}
+use Rattle.book.proofs.Sizes.{sized}
+use Rattle.book.specs.Places.{tally_of}
+use Rattle.book.specs.declared.Tally.TheVariants.{Holds}
+use Rattle.saved.proofs.Saving.{partial_held, save_malformed, save_partial, save_full, save_done}
+use Rattle.saved.specs.Saved.{has_partial}
+use borrow.Author.Rules.{rules}
+use mathlib.Core.Bool.{Bool}
+use mathlib.Core.Path.{◌≡◌, sym, ◌∙◌}
+use Rattle.saved.proofs.save.Goals as goal
+
+pub returns-in_default : goal.returns-in_default
+returns-in_default c = save_malformed _ _ (holds_none _ _ c.tally.ensures c.in_default.in_default-own.keys2)
+
+pub any_partial-requires : goal.any_partial-requires
+any_partial-requires c =
+    let holding : Holding c.args.b c.in-Holds.count = holds c.args.b _ c.tally.ensures _ (sized c.args.b _ c.good.0) c.in-Holds.is in
+    holding.few
+
+pub returns-then-any_partial : goal.returns-then-any_partial
+returns-then-any_partial c =
+    let holding : Holding c.args.b c.in-Holds.count = holds c.args.b _ c.tally.ensures _ (sized c.args.b _ c.good.0) c.in-Holds.is in
+    let partial : (u : Bool) → c.any_partial.result ≡ u → has_partial c.args.b ≡ u = λ u is. partial_held _ _ holding _ u c.any_partial.ensures is in
+    save_partial _ _ holding.formed (partial _ c.if-any_partial.true)
+
+-- FAILED put_book-size-requires: helper counted on ,
+-- put-book-requires : tie.Need-put-book-requires
+-- put-book-requires c κs = search (counted, rules)
+
+pub returns-then-out-size : goal.returns-then-out-size
+returns-then-out-size c =
+    let holding : Holding c.args.b c.in-Holds.count = holds c.args.b _ c.tally.ensures _ (sized c.args.b _ c.good.0) c.in-Holds.is in
+    let partial : (u : Bool) → c.any_partial.result ≡ u → has_partial c.args.b ≡ u = λ u is. partial_held _ _ holding _ u c.any_partial.ensures is in
+    save_full _ _ holding.formed (partial _ c.if-any_partial.false) _ _ c.put_book-size.ensures c.if-out-size.true
+
+-- FAILED put_book-requires: helper counted on ,
+-- put-book-requires-2 : tie.Need-put-book-requires-2
+-- put-book-requires-2 c κs = search (counted, rules)
+
+pub returns : goal.returns
+returns c =
+    let holding : Holding c.args.b c.in-Holds.count = holds c.args.b _ c.tally.ensures _ (sized c.args.b _ c.good.0) c.in-Holds.is in
+    let partial : (u : Bool) → c.any_partial.result ≡ u → has_partial c.args.b ≡ u = λ u is. partial_held _ _ holding _ u c.any_partial.ensures is in
+    save_done _ _ holding.formed (partial _ c.if-any_partial.false) _ _ c.put_book-size.ensures c.if-out-size.false _ _ c.put_book.ensures
