@@ -12,13 +12,17 @@ use Rattle.saved.proofs.any_partial.Goals as goal
 pub loop-i-init : goal.loop-i-init
 loop-i-init c = (omega arith, refl)
 
--- FAILED returns-then-is_partial: helper long on ,
--- returns : tie.Need-returns invariant-loop decreases-loop
--- returns c = search (any_here is_partial past_order, long, rules)
+pub returns-then-is_partial : goal.returns-then-is_partial
+returns-then-is_partial c =
+    let size : length c.args.orders ≡ 96 = search rules in
+    let long : c.args.count ≤ length c.args.orders = omega arith in
+    search (any_here is_partial past_order, long, rules)
 
--- FAILED loop-i-preserved: helper long on ,
--- loop-again : tie.Need-loop-preserved invariant-loop decreases-loop
--- loop-again c = (omega arith, search (any_on is_partial past_order, long, rules))
+pub loop-i-preserved : goal.loop-i-preserved
+loop-i-preserved c =
+    let size : length c.args.orders ≡ 96 = search rules in
+    let long : c.args.count ≤ length c.args.orders = omega arith in
+    (omega arith, search (any_on is_partial past_order, long, rules))
 
 pub returns : goal.returns
 returns c = search (any_none is_partial past_order, rules)

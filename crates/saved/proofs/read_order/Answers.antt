@@ -4,12 +4,12 @@ use borrow.Author.Tests.{not-true, not-false}
 use Rattle.saved.proofs.read_order.Goals as goal
 
 pub returns-then-not-item : goal.returns-then-not-item
-returns-then-not-item c = bad_order _ _ _ _ c.read_item-item.ensures c.if-not-item.true
+returns-then-not-item c = bad_order _ _ _ _ c.read_item-item.ensures (not-true _ c.if-not-item.true)
 
 pub order_of-requires : goal.order_of-requires
-order_of-requires c = order_instants _ _ _ _ c.read_item-item.ensures c.if-not-item.false
+order_of-requires c = order_instants _ _ _ _ c.read_item-item.ensures (not-false _ c.if-not-item.false)
 
 pub returns : goal.returns
 returns c =
     let r = c.read_item-item in
-    good_order _ _ _ _ r.ensures c.if-not-item.false _ c.order_of.ensures
+    good_order _ _ _ _ r.ensures (not-false _ c.if-not-item.false) _ c.order_of.ensures
