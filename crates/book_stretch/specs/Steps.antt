@@ -1,5 +1,5 @@
 -- How the code joins: a stretch, and others that come one after another. (That this is `joined` of them is proofs/Turns.antt)
-use Rattle.std.specs.Prelude.{ℕ, suc, ltb, replicate, set, Bool, true, false, not, ◌||◌, cond}
+use Rattle.std.specs.Prelude.{ℕ, suc, ltb, replicate, set, true, false, not, ◌||◌, cond}
 use Rattle.book_stretch.specs.Stretches.{no_stretch, is_used, hull}
 use Rattle.book_stretch.specs.declared.Stretch.{Stretch}
 use Rattle.book_stretch.specs.declared.joining.Joining.{Joining}

@@ -9,7 +9,6 @@ use Rattle.layout.specs.declared.Layout.TheVariants.{Market, Mfrr, Revocation, G
 use Rattle.text.proofs.Tests.{and_parts, within_tells}
 use Rattle.text.specs.Bytes.{all, within}
 use borrow.Author.Tests.{leb-true, eqb-true}
-use denote.Enum.Declared.{tag_of}
 use lib.Dec.{eqb}
 use lib.ListN.{length, get_or, length-map}
 use mathlib.Core.Bool.{Bool, true, ◌&&◌}

@@ -27,7 +27,6 @@ use Rattle.record.specs.Records.{record_of}
 use Rattle.record.specs.declared.Record.{Record}
 use Rattle.text.proofs.Tests.{by_eq}
 use borrow.Author.Tests.{eq-eqb, ne_eqb}
-use lib.ListN.{length}
 use mathlib.Core.List.{List}
 use mathlib.Core.Path.{◌≡◌, refl, sym, ap, ◌∙◌, subst}
 use native.Mathlib.Omega.{arith}

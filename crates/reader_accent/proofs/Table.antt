@@ -5,17 +5,15 @@ use Rattle.layout.specs.Fields.{qr, vq}
 use Rattle.layout.specs.Layouts.{fields_of, labels_of, layout_of}
 use Rattle.reader_accent.specs.Accents.{accents_of, accent_field}
 use Rattle.text.proofs.Tests.{by_test}
-use Rattle.text.specs.Bytes.{all, any, bytes, is, past, same, upto}
+use Rattle.text.specs.Bytes.{all, any, bytes, past, same, upto}
 use Rattle.text_lines.proofs.Spelt.{all_good, one_accent}
 use Rattle.text_lines.specs.Entries.{place_of}
 use Rattle.text_lines.specs.Spellings.{is_accented, respell}
-use Rattle.value_name.specs.contracts.MessageType.{the_type}
 use Rattle.value_name.specs.declared.MessageType.{MessageType}
 use Rattle.value_name.specs.declared.MessageType.TheVariants.{Cb, Rc, Mg, Eb, Lb, Sr, Vq, Ri, Qr}
 use borrow.Author.Tests.{leb-true}
-use denote.Enum.Declared.{tag_of}
 use mathlib.Core.Bool.{Bool, true, false, false≢true}
-use mathlib.Core.List.{List, [], ◌∷◌}
+use mathlib.Core.List.{List}
 use mathlib.Core.Path.{◌≡◌, refl, sym, ◌∙◌}
 
 pub accents_good : (t : MessageType) → all_good (accents_of t) ≡ true

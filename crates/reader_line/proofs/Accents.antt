@@ -8,7 +8,7 @@ use Rattle.reader_line.proofs.Tries.{run_part, line_is}
 use Rattle.reader_line.specs.Items.{first_labels, second_labels, item, line_from, fielded, item_in, item_of}
 use Rattle.reader_line.specs.declared.Item.{Item}
 use Rattle.text.proofs.Cuts.{length_part, upto_take}
-use Rattle.text.proofs.Tests.{by_test, and_parts, or_right}
+use Rattle.text.proofs.Tests.{by_test, and_parts}
 use Rattle.text.specs.Bytes.{all, any, first_of, is, is_plain, part, trim, upto}
 use Rattle.text_lines.proofs.Allowed.{line_run_lem, opens_inside, run_plain}
 use Rattle.text_lines.proofs.Params.{sep_equals, equals_trim}
@@ -17,7 +17,7 @@ use Rattle.text_lines.proofs.Tidy.{all_upto, trim_tidy}
 use Rattle.text.proofs.Trims.{tidy_parts}
 use Rattle.text_lines.specs.Entries.{place_of}
 use Rattle.text_lines.specs.Lines.{is_sep}
-use Rattle.text_lines.specs.Places.{not_plain, plain_run, line_run, trimmed_at, value_span}
+use Rattle.text_lines.specs.Places.{plain_run, line_run, trimmed_at, value_span}
 use Rattle.text_lines.specs.Spellings.{Spelling, is_accented, opens, respell}
 use Rattle.text_lines.specs.Spots.{field_in}
 use Rattle.text_lines.specs.declared.Span.{Span}
@@ -26,9 +26,9 @@ use Rattle.value_name.specs.declared.MessageType.TheVariants.{Cb, Rc, Mg, Eb, Lb
 use borrow.Author.Tests.{ne_eqb}
 use lib.Dec.{eqb}
 use lib.ListN.{length, get_or, take, drop, length-take, length-drop}
-use mathlib.Core.Bool.{Bool, true, false, ◌&&◌, ◌||◌, false≢true}
+use mathlib.Core.Bool.{Bool, true, false, ◌&&◌, false≢true}
 use mathlib.Core.List.{List, [], ◌∷◌}
-use mathlib.Core.Path.{◌≡◌, refl, sym, ap, ap₂, ◌∙◌, subst}
+use mathlib.Core.Path.{◌≡◌, refl, sym, ap, ap₂, ◌∙◌}
 use native.Mathlib.Omega.{arith}
 
 -- ---- a line of printable bytes has no accent: every list of spellings reads it alike

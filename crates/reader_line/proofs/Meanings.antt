@@ -20,8 +20,8 @@ use Rattle.text.proofs.Trims.{keep_no}
 use Rattle.text.specs.Bytes.{part, upto, past, any, all, is, is_blank, first_of, skip, skip_end, trim}
 use borrow.Author.Tests.{eqb-true, ne_eqb}
 use lib.Dec.{eqb, leb}
-use lib.ListN.{length, get_or, take, drop}
-use mathlib.Core.Bool.{Bool, true, false, ◌&&◌, cond, and-false}
+use lib.ListN.{length, get_or, take}
+use mathlib.Core.Bool.{Bool, true, false, ◌&&◌, and-false}
 use mathlib.Core.List.{List, [], ◌∷◌}
 use mathlib.Core.Path.{◌≡◌, refl, sym, ap, ap₂, ◌∙◌}
 use native.Mathlib.Omega.{arith}

@@ -5,7 +5,6 @@ use Rattle.reader_line.proofs.Labels.{good_at}
 use Rattle.reader_line.proofs.Meanings.{its_field, as_field}
 use Rattle.reader_line.specs.Items.{first_labels, second_labels, head_of, IsExpected, item, line_from, fielded, item_in, item_of}
 use Rattle.reader_line.specs.declared.Expected.{Expected}
-use Rattle.reader_line.specs.declared.Item.{Item}
 use Rattle.layout.proofs.Labels.{GoodLabel}
 use Rattle.layout.specs.Layouts.{label_at}
 use Rattle.reader_accent.proofs.Table.{accents_good}

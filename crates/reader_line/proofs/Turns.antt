@@ -7,11 +7,9 @@ use Rattle.layout.specs.Layouts.{labels_of, layout_of}
 use Rattle.layout.specs.declared.Layout.{Layout}
 use Rattle.layout.specs.declared.Layout.TheVariants.{Market, Mfrr}
 use Rattle.text_lines.specs.Entries.{place_of}
-use Rattle.value_name.specs.contracts.MessageType.{the_type}
 use Rattle.value_name.specs.declared.MessageType.{MessageType}
 use Rattle.value_name.specs.declared.MessageType.TheVariants.{Cb, Rc, Mg, Eb, Lb, Sr, Vq, Ri, Qr}
-use denote.Enum.Declared.{tag_of}
-use mathlib.Core.List.{List, [], ◌∷◌}
+use mathlib.Core.List.{List}
 use mathlib.Core.Path.{◌≡◌, refl, sym, ap, ◌∙◌, subst}
 use native.Mathlib.Omega.{arith}
 

@@ -3,7 +3,6 @@
 use Prim.Native.Nat.{ℕ}
 use Rattle.layout.specs.Layouts.{size_of}
 use Rattle.layout.specs.Rows.{row_of}
-use Rattle.layout.specs.declared.Layout.{Layout}
 use Rattle.plan.specs.Plans.{plan_of, sought_of}
 use Rattle.reader.proofs.Readings.{taken, reading_no, reading_yes, content_is, layout_is, column_is, record_is, answers_of, placed_of}
 use Rattle.reader.specs.Messages.{given, row_in, layout_in, places_of, values_of, is_bad, column_record}

@@ -12,7 +12,7 @@ use Rattle.text.proofs.Tests.{by_test, by_eq}
 use Rattle.text.specs.Lists.{onto}
 use Rattle.reader_walk.specs.State.{has, noted_of, or_zero, marks_of}
 use Rattle.reader_walk.specs.declared.Marks.{Marks}
-use borrow.Author.Tests.{eqb-true, eqb-false, eq-eqb, ne_eqb}
+use borrow.Author.Tests.{eq-eqb, ne_eqb}
 use lib.Dec.{eqb}
 use lib.ListN.{length, get_or, set, length-set}
 use lib.Seq.{get_or-set_same, get_or-set_other}

@@ -8,15 +8,14 @@ use Rattle.reader_line.specs.Items.{first_labels, second_labels, fielded, item_i
 use Rattle.reader_line.specs.declared.Item.{Item}
 use Rattle.text_lines.proofs.Spots.{forget}
 use Rattle.text_lines.proofs.Standing.{sift_snoc, inside_here, inside_not, place_le}
-use Rattle.text_lines.specs.Entries.{place_of}
-use Rattle.text_lines.specs.Lines.{Marked, if_inside, is_sep}
+use Rattle.text_lines.specs.Lines.{if_inside, is_sep}
 use Rattle.text_lines.specs.Places.{no_span, trimmed_at, value_span}
 use Rattle.text_lines.specs.Spellings.{Spelling, respell}
-use Rattle.text_lines.specs.Spots.{LineAt, line_at, line_if, row_span, field_in, Spot, spot_if, spot_in, spots}
+use Rattle.text_lines.specs.Spots.{LineAt, line_at, line_if, row_span, field_in, spot_if, spot_in, spots}
 use Rattle.text_lines.specs.declared.Span.{Span}
 use Rattle.value_name.specs.declared.MessageType.{MessageType}
 use Rattle.value_name.specs.declared.MessageType.TheVariants.{Cb, Rc, Mg, Eb, Lb, Sr, Vq, Ri, Qr}
-use Rattle.text.proofs.Tests.{by_test, by_eq, and_parts, or_right}
+use Rattle.text.proofs.Tests.{by_test, by_eq, and_parts}
 use Rattle.text.specs.Bytes.{any, is, upto, trim}
 use Rattle.text.specs.Lists.{onto, sift}
 use Rattle.reader_walk.proofs.Fields.{Kept, note_zero, note_fields}
@@ -29,7 +28,7 @@ use lib.Dec.{eqb}
 use lib.ListN.{length, set, length-append}
 use mathlib.Core.Bool.{Bool, true, false, ◌&&◌, cond}
 use mathlib.Core.List.{List, [], ◌∷◌, ◌++◌, map, map-append, append-nil}
-use mathlib.Core.Path.{◌≡◌, refl, sym, ap, ap₂, ◌∙◌, subst}
+use mathlib.Core.Path.{◌≡◌, refl, sym, ap, ◌∙◌, subst}
 use native.Mathlib.Omega.{arith}
 
 -- ---- what a line more counts

@@ -8,19 +8,19 @@ use Rattle.text_lines.proofs.Spots.{forget, entries_at, lines_turn, marked_in, f
 use Rattle.text_lines.proofs.Allowed.{line_run_lem, allowed_step, allowed_stop}
 use Rattle.text_lines.proofs.Spelt.{all_good}
 use Rattle.text_lines.proofs.Steps.{OneLine, line_step, break_length, break_some, stop_length}
-use Rattle.text_lines.specs.Entries.{Entry, stands, again, entries, standing}
+use Rattle.text_lines.specs.Entries.{stands, again, entries, standing}
 use Rattle.text_lines.specs.Lines.{Marked, if_inside, inside, outside, is_sep, params, seps, lines, texts, allowed_from, allowed_upto}
 use Rattle.text_lines.specs.Mask.{mask_of}
-use Rattle.text_lines.specs.Places.{no_span, span_at, line_run, break_of}
+use Rattle.text_lines.specs.Places.{no_span, line_run, break_of}
 use Rattle.text_lines.specs.Spellings.{Spelling}
 use Rattle.text_lines.specs.Spots.{LineAt, line_if, lines_from, lines_in, row_span, row_place, Spot, spots, place_at, places_from, places_in}
 use Rattle.text_lines.specs.declared.Break.TheVariants.{After, Bad}
 use Rattle.text_lines.specs.declared.Span.{Span}
 use Rattle.value_name.specs.declared.MessageType.{MessageType}
 use Rattle.text.proofs.Tests.{by_test, by_le, cond_le}
-use Rattle.text.specs.Bytes.{part, trim}
+use Rattle.text.specs.Bytes.{trim}
 use Rattle.text.specs.Lists.{count, onto, sift}
-use Rattle.reader_walk.proofs.Fields.{IsNumber, Kept, seen_small, marks_are}
+use Rattle.reader_walk.proofs.Fields.{Kept, seen_small, marks_are}
 use Rattle.reader_walk.proofs.Line.{frame_seps, frame_inside, first_few, second_few, Walked, walked_line}
 use Rattle.reader_walk.specs.State.{noted_of, frame, frame_of, no_marks, marks_of, frame_in, whole_of, handed_of, found_of}
 use Rattle.reader_walk.specs.declared.Found.{Found}
@@ -29,7 +29,7 @@ use Rattle.reader_walk.specs.declared.Marks.{Marks}
 use Rattle.reader_walk.specs.declared.Noted.{Noted}
 use borrow.Author.Tests.{eq-eqb, ne_eqb, lt-ltb, le-ltb}
 use lib.Dec.{eqb, ltb}
-use lib.ListN.{length, get_or, set, replicate, take, drop, length-take, length-drop, length-set, drop_of_length-le}
+use lib.ListN.{length, get_or, set, replicate, drop, length-take, length-drop, length-set, drop_of_length-le}
 use lib.Seq.{drop-drop, get_or-set_same, get_or-set_other}
 use mathlib.Core.Bool.{Bool, true, false, cond}
 use mathlib.Core.List.{List, [], ◌∷◌, ◌++◌, map, append_assoc, append-nil}

@@ -1,5 +1,5 @@
 -- THE THEOREM: rule 3 says which six h lines a profile has. Assumes nothing.
-use Prim.Native.Nat.{ℕ, zero, suc, ◌+◌, ◌≤◌, ◌<◌}
+use Prim.Native.Nat.{ℕ, zero, suc, ◌+◌, ◌<◌}
 use Rattle.record.specs.declared.Cell.{Cell}
 use Rattle.record_rules.specs.Profiles.{h_line, HLists, Profile}
 use Rattle.record_rules.specs.Rules.{only_if, is_full, profiled}

@@ -2,7 +2,6 @@
 -- Document 01, "Lines of a message". These are definitions: what they say is to be believed.
 use Prim.Native.Char.{code}
 use Rattle.std.specs.Prelude.{ℕ, ◌-◌, eqb, leb, length, take, drop, Bool, true, false, ◌&&◌, ◌||◌, cond, List, [], ◌∷◌}
-use Prim.Native.String
 use Prim.Native.String.{String}
 
 -- the bytes of a text that is written here between quotes

@@ -1,14 +1,14 @@
 -- Lines that begin with such a label. Assumes nothing.
-use Prim.Native.Nat.{ℕ, zero, suc, ◌+◌, ◌-◌, ◌≤◌, ◌<◌}
+use Prim.Native.Nat.{ℕ, suc, ◌+◌}
 use Rattle.text_lines.specs.Spellings.{Spelling, is_accented, respell, opens, label_room}
-use Rattle.text.proofs.Cuts.{all_append, any_append, same_true, same_refl, upto_take}
-use Rattle.text.proofs.Tests.{by_test, and_parts, or_parts, within_tells}
+use Rattle.text.proofs.Cuts.{all_append, any_append, same_true, upto_take}
+use Rattle.text.proofs.Tests.{by_test, and_parts, within_tells}
 use Rattle.text.specs.Bytes.{all, any, first_of, is, is_blank, is_plain, past, same, skip, skip_end, keep, trim, upto}
 use borrow.Author.Tests.{eqb-true, ne_eqb}
 use lib.ListN.{length, length-append, take}
-use mathlib.Core.Bool.{Bool, true, false, not, ◌&&◌, ◌||◌, cond, false≢true}
+use mathlib.Core.Bool.{Bool, true, false, not, ◌&&◌, ◌||◌, false≢true}
 use mathlib.Core.List.{List, [], ◌∷◌, ◌++◌, append_assoc}
-use mathlib.Core.Path.{◌≡◌, refl, sym, ap, ◌∙◌, subst}
+use mathlib.Core.Path.{◌≡◌, refl, sym, ap, ◌∙◌}
 use native.Mathlib.Omega.{arith}
 
 -- ---- a text is its trimmed text between blanks

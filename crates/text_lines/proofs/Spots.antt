@@ -1,6 +1,6 @@
 -- Where lines, rows and values stand: one turn of a walk more, and what stands at each place. Assumes nothing.
 use Prim.Native.Nat.{ℕ, zero, suc, ◌+◌, ◌-◌, ◌≤◌, ◌<◌}
-use Rattle.text.proofs.Cuts.{part_from, length_part, upto_take, upto_length, past_drop}
+use Rattle.text.proofs.Cuts.{part_from, upto_take, upto_length, past_drop}
 use Rattle.text.proofs.Tests.{by_test, by_eq}
 use Rattle.text.specs.Bytes.{part, is, any, upto, past, first_of, trim}
 use Rattle.text.specs.Lists.{onto, sift}
@@ -9,18 +9,15 @@ use Rattle.text_lines.proofs.Params.{param_split, no_param, equals_trim}
 use Rattle.text_lines.proofs.Steps.{OneLine, of_line_lem, by_turn, lines_step, cut}
 use Rattle.text_lines.specs.Entries.{Entry, entry, entry_of, entries, place_of, stands, value_at}
 use Rattle.text_lines.specs.Lines.{Marked, mark, marked, if_inside, if_outside, inside, is_sep, lines, outside, param_in, params, text_of, texts}
-use Rattle.text_lines.specs.Places.{HoldsText, no_span, part_of, trimmed_at, value_span, break_of}
+use Rattle.text_lines.specs.Places.{HoldsText, part_of, trimmed_at, value_span, break_of}
 use Rattle.text_lines.specs.Spellings.{Spelling, respell}
-use Rattle.text_lines.specs.Spots.{LineAt, line_at, line_if, lines_from, lines_in, row_span, row_place, field_in, Spot, spot, spot_if, spot_in, spots, place_at}
+use Rattle.text_lines.specs.Spots.{LineAt, line_at, line_if, lines_from, lines_in, row_span, row_place, field_in, Spot, spot_if, spot_in, spots, place_at}
 use Rattle.text_lines.specs.declared.Break.TheVariants.{After}
-use Rattle.text_lines.specs.declared.Span.{Span}
-use borrow.Author.Tests.{eq-eqb, ne_eqb, eqb-true}
 use lib.Dec.{eqb}
 use lib.ListN.{length, get_or, take, drop, length-take, length-drop}
 use lib.Seq.{drop-drop}
-use mathlib.Core.Bool.{Bool, true, false, ◌||◌, cond, false≢true}
+use mathlib.Core.Bool.{true, false, cond, false≢true}
 use mathlib.Core.List.{List, [], ◌∷◌, ◌++◌, map, map-append}
-use mathlib.Core.Option.{Option, none, some}
 use mathlib.Core.Path.{◌≡◌, refl, sym, ap, ap₂, ◌∙◌, subst}
 use native.Mathlib.Omega.{arith}
 

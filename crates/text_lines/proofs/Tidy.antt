@@ -1,6 +1,6 @@
 -- In a file whose bytes are all allowed, every value that is read of it is tidy, and so is the column of a layout.
 -- Assumes nothing.
-use Prim.Native.Nat.{ℕ, zero, suc, ◌+◌, ◌-◌, ◌≤◌, ◌<◌}
+use Prim.Native.Nat.{ℕ, zero, suc, ◌+◌, ◌-◌, ◌<◌}
 use Rattle.text_lines.proofs.Params.{equals_trim, no_param, param_split}
 use Rattle.text_lines.proofs.Steps.{lines_step}
 use Rattle.text_lines.specs.Entries.{Entry, place_of, entry_of, entries, value_at, column}

@@ -10,8 +10,7 @@ use lib.ListN.{length, get_or}
 use mathlib.Core.Bool.{Bool, true, false, ◌&&◌, ◌||◌, false≢true}
 use mathlib.Core.List.{List}
 use mathlib.Core.Logic.{◌⊎◌, inl, inr, ⊎_elim}
-use mathlib.Core.Path.{◌≡◌, refl, sym, ap, ◌∙◌}
-use native.Mathlib.Omega.{arith}
+use mathlib.Core.Path.{◌≡◌, refl, ap, ◌∙◌}
 
 infixl 4 ◌or◌
 ◌or◌ : {A B : Type 0} {a b : Bool} → Tells a A → Tells b B → Tells (a || b) (A ⊎ B)

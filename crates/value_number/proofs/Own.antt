@@ -8,7 +8,7 @@ use Rattle.value_number.specs.declared.Number.TheVariants.{Is}
 use Rattle.text.proofs.Backs.{digits_back, whole_own}
 use Rattle.text.proofs.Numerals.{digit_range, told}
 use Rattle.text.proofs.Tests.{by_eq, by_test, and_parts}
-use Rattle.text.specs.Bytes.{all, any, is, upto, is_digit, is_blank, first_of}
+use Rattle.text.specs.Bytes.{all, any, upto, is_digit, is_blank, first_of}
 use Rattle.text.specs.Digits.{number_from, number_in, digits_of, digits_text, whole_text}
 use Rattle.text.specs.declared.digits.Digits.{Digits}
 use Rattle.text.specs.declared.digits.Digits.TheVariants.{Are, Not}

@@ -1,7 +1,6 @@
 use Rattle.book_order.proofs.Tested.{number_out, start_out, end_out, first_out, rest_decides}
 use Rattle.book_order.proofs.Untimely.{ends_first}
 use borrow.Author.Rules.{rules}
-use borrow.Author.Tests.{not-true, not-false}
 use mathlib.Core.Path.{sym, ◌∙◌}
 use mir.Syntax.{w32}
 use mir.Val.{SFits}

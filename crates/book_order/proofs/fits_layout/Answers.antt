@@ -1,4 +1,3 @@
-use Rattle.book_order.proofs.Others.{fits_other}
 use Rattle.text.proofs.Zeros.{zero_bits}
 use borrow.Author.Rules.{rules}
 use mir.Syntax.{w32}

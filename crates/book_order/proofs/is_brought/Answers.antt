@@ -1,5 +1,4 @@
 use Rattle.book_order.specs.Orders.{is_brought}
-use borrow.Author.Rules.{rules}
 use Rattle.book_order.proofs.is_brought.Goals as goal
 
 pub returns : goal.returns

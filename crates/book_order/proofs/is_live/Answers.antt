@@ -1,5 +1,4 @@
 use Rattle.book_order.proofs.Tested.{live_not, live_is}
-use borrow.Author.Rules.{rules}
 use Rattle.book_order.proofs.is_live.Goals as goal
 
 -- Outside its time, or by what is struck of it; written out, so that a wrong version is refused by what differs.

@@ -1,4 +1,3 @@
-use borrow.Author.Rules.{rules}
 use Rattle.book_order.proofs.is_partial.Goals as goal
 
 pub returns : goal.returns

@@ -1,5 +1,4 @@
 use Rattle.book_order.specs.Messages.{strike_of}
-use borrow.Author.Rules.{rules}
 use mathlib.Core.Path.{◌∙◌}
 use Rattle.book_order.proofs.named_by.Goals as goal
 

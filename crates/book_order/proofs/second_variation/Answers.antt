@@ -1,5 +1,3 @@
-use Rattle.book_order.proofs.Others.{second_other}
-use borrow.Author.Rules.{rules}
 use mathlib.Core.Path.{◌∙◌}
 use mir.Syntax.{w32}
 use mir.ValLaws.{to_z-of_z}

@@ -1,15 +1,11 @@
-use Prim.Native.Nat.{◌+◌, ◌-◌, ◌<◌}
-use Rattle.book_order.specs.Orders.{next_end, is_empty}
+use Prim.Native.Nat.{◌<◌}
+use Rattle.book_order.specs.Orders.{is_empty}
 use Rattle.book_places.proofs.Ends.{next_on}
 use Rattle.book_places.proofs.Leading.{fits_small, counted_on, counted_here, counted_all, counted_none, held_malformed, held_count}
 use Rattle.book_places.specs.Places.{past_order, order_at, fits_after, leading}
 use Rattle.text.proofs.Cuts.{all_here, all_on, all_end}
-use Rattle.text.specs.Bytes.{all}
-use borrow.Author.Rules.{rules}
-use borrow.Author.Tests.{not-true, not-false}
-use lib.ListN.{length, take, drop}
+use lib.ListN.{length}
 use mathlib.Core.Bool.{true}
-use mathlib.Core.Logic.{⊎_elim}
 use mathlib.Core.Path.{◌≡◌, refl, sym, ◌∙◌}
 use native.Mathlib.Omega.{arith}
 use Rattle.book_places.proofs.count_held.Goals as goal
@@ -37,10 +33,10 @@ pub loop-i-init : goal.loop-i-init
 loop-i-init c =
     let counted : c.loop-count.count ≡ leading c.args.floor 0 c.args.orders = let a = c.args in
     elim c.loop-count-test.branch [
-      else-loop-count-test w ↦ counted_all a.floor c.loop-count.least c.loop-count.count _ a.orders c.loop-count.invariant.0 (omega (arith, w.loop-count-test.false))
-    | then-loop-count-test+then-not-fits_after w ↦
-        let h : c.loop-count.count < length a.orders = omega (arith, w.loop-count-test.true) in
-        counted_here a.floor c.loop-count.least c.loop-count.count _ a.orders c.loop-count.invariant.0 h (sym w.fits_after.ensures ∙ w.if-not-fits_after.true)
+      | else-loop-count-test w ↦ counted_all a.floor c.loop-count.least c.loop-count.count _ a.orders c.loop-count.invariant.0 (omega (arith, w.loop-count-test.false))
+      | then-loop-count-test+then-not-fits_after w ↦
+          let h : c.loop-count.count < length a.orders = omega (arith, w.loop-count-test.true) in
+          counted_here a.floor c.loop-count.least c.loop-count.count _ a.orders c.loop-count.invariant.0 h (sym w.fits_after.ensures ∙ w.if-not-fits_after.true)
     ] in
     (counted, c.loop-count.invariant.1, refl)
 

@@ -1,17 +1,9 @@
-use Prim.Native.Nat.{◌+◌, ◌-◌, ◌<◌}
+use Prim.Native.Nat.{◌+◌, ◌-◌}
 use Rattle.book_order.specs.Orders.{next_end, is_empty}
-use Rattle.book_places.proofs.Ends.{next_on}
-use Rattle.book_places.proofs.Leading.{fits_small, counted_on, counted_here, counted_all, counted_none, held_malformed, held_count}
-use Rattle.book_places.specs.Places.{past_order, order_at, fits_after, leading}
-use Rattle.text.proofs.Cuts.{all_here, all_on, all_end}
+use Rattle.book_places.specs.Places.{leading}
 use Rattle.text.specs.Bytes.{all}
-use borrow.Author.Rules.{rules}
-use borrow.Author.Tests.{not-true, not-false}
-use lib.ListN.{length, take, drop}
-use mathlib.Core.Bool.{true}
-use mathlib.Core.Logic.{⊎_elim}
-use mathlib.Core.Path.{◌≡◌, refl, sym, ◌∙◌}
-use native.Mathlib.Omega.{arith}
+use lib.ListN.{take, drop}
+use mathlib.Core.Path.{◌≡◌}
 use Rattle.book_places.proofs.count_held.Given as goal
 
 -- The counted ones, with what leads from here on, are what leads, and `next` is their next end; then all after them are empty where all that are left are.

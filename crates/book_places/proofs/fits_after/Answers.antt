@@ -1,5 +1,4 @@
 use Rattle.book_places.proofs.Leading.{fits_is}
-use borrow.Author.Rules.{rules}
 use Rattle.book_places.proofs.fits_after.Goals as goal
 
 pub returns : goal.returns

@@ -1,12 +1,10 @@
-use Prim.Native.Nat.{◌-◌, ◌≤◌, ◌<◌}
+use Prim.Native.Nat.{◌<◌}
 use Rattle.book_order.specs.Orders.{empty_order}
 use Rattle.book_places.proofs.Staying.{kept_end}
 use Rattle.book_places.specs.Places.{past_order, stays}
-use Rattle.book_shelf.proofs.Keeping.{Passed, begin, room, keeps, leaves}
-use borrow.Author.Rules.{rules}
+use Rattle.book_shelf.proofs.Keeping.{begin, room, keeps, leaves}
 use lib.ListN.{length, length-set}
-use mathlib.Core.Logic.{⊎_elim}
-use mathlib.Core.Path.{◌≡◌, refl, ◌∙◌}
+use mathlib.Core.Path.{refl, ◌∙◌}
 use native.Mathlib.Omega.{arith}
 use Rattle.book_places.proofs.keep_past.Goals as goal
 use Rattle.book_places.proofs.keep_past.Goals.{else-i-from, then-i-from}
@@ -27,15 +25,18 @@ loop-i-preserved c =
     let a = c.args in
     let q = stays a.from a.to a.t in
     let h : at.i < length a.orders = omega arith in
-    elim c.if-i-from.branch [ then-i-from w ↦ (
-      omega arith,
-      rw w.next-is (length-set at.next at.kept _ ∙ at.invariant.1),
-      rw (w.next-is, w.kept-is) (keeps empty_order past_order 96 q at.i at.kept a.orders at.next at.invariant.2 h (omega arith) w.if-i-from.true),
-    ) | else-i-from w ↦ (
-      omega arith,
-      rw w.next-is at.invariant.1,
-      rw (w.next-is, w.kept-is) (leaves empty_order past_order 96 q at.i at.kept a.orders at.next at.invariant.2 h w.if-i-from.false),
-    ) ]
+    elim c.if-i-from.branch [
+      | then-i-from w ↦ (
+        omega arith,
+        rw w.next-is (length-set at.next at.kept _ ∙ at.invariant.1),
+        rw (w.next-is, w.kept-is) (keeps empty_order past_order 96 q at.i at.kept a.orders at.next at.invariant.2 h (omega arith) w.if-i-from.true),
+      )
+      | else-i-from w ↦ (
+        omega arith,
+        rw w.next-is at.invariant.1,
+        rw (w.next-is, w.kept-is) (leaves empty_order past_order 96 q at.i at.kept a.orders at.next at.invariant.2 h w.if-i-from.false),
+      )
+    ]
 
 pub returns : goal.returns
 returns c =

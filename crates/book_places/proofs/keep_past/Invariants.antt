@@ -1,13 +1,9 @@
-use Prim.Native.Nat.{◌-◌, ◌≤◌, ◌<◌}
+use Prim.Native.Nat.{◌-◌, ◌≤◌}
 use Rattle.book_order.specs.Orders.{empty_order}
-use Rattle.book_places.proofs.Staying.{kept_end}
 use Rattle.book_places.specs.Places.{past_order, stays}
-use Rattle.book_shelf.proofs.Keeping.{Passed, begin, room, keeps, leaves}
-use borrow.Author.Rules.{rules}
-use lib.ListN.{length, length-set}
-use mathlib.Core.Logic.{⊎_elim}
-use mathlib.Core.Path.{◌≡◌, refl, ◌∙◌}
-use native.Mathlib.Omega.{arith}
+use Rattle.book_shelf.proofs.Keeping.{Passed}
+use lib.ListN.{length}
+use mathlib.Core.Path.{◌≡◌}
 use Rattle.book_places.proofs.keep_past.Given as goal
 
 -- The orders passed that stay stand in the first places.

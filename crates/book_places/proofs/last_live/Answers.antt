@@ -2,10 +2,8 @@ use Prim.Native.Nat.{◌≤◌}
 use Rattle.book_order.specs.Orders.{live}
 use Rattle.book_places.specs.Places.{past_order, place_of}
 use Rattle.book_shelf.proofs.Lasting.{last_not, last_here, last_none}
-use Rattle.book_shelf.specs.Shelf.{between, last_at}
-use borrow.Author.Rules.{rules}
 use lib.ListN.{length}
-use mathlib.Core.Path.{◌≡◌, refl, sym, ap, ◌∙◌}
+use mathlib.Core.Path.{refl, sym, ap, ◌∙◌}
 use native.Mathlib.Omega.{arith}
 use Rattle.book_places.proofs.last_live.Goals as goal
 

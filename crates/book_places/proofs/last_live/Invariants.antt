@@ -1,12 +1,7 @@
 use Prim.Native.Nat.{◌≤◌}
 use Rattle.book_order.specs.Orders.{live}
-use Rattle.book_places.specs.Places.{past_order, place_of}
-use Rattle.book_shelf.proofs.Lasting.{last_not, last_here, last_none}
 use Rattle.book_shelf.specs.Shelf.{between, last_at}
-use borrow.Author.Rules.{rules}
-use lib.ListN.{length}
-use mathlib.Core.Path.{◌≡◌, refl, sym, ap, ◌∙◌}
-use native.Mathlib.Omega.{arith}
+use mathlib.Core.Path.{◌≡◌}
 use Rattle.book_places.proofs.last_live.Given as goal
 
 -- None of the orders passed, from the last one down, is in force.

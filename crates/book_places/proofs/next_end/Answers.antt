@@ -1,9 +1,7 @@
-use Prim.Native.Nat.{◌-◌, ◌≤◌, ◌<◌}
-use Rattle.book_order.specs.Orders.{next_end}
+use Prim.Native.Nat.{◌<◌}
 use Rattle.book_places.proofs.Ends.{next_on, next_here, next_all}
-use borrow.Author.Rules.{rules}
-use lib.ListN.{length, take}
-use mathlib.Core.Path.{◌≡◌, refl}
+use lib.ListN.{length}
+use mathlib.Core.Path.{refl}
 use native.Mathlib.Omega.{arith}
 use Rattle.book_places.proofs.next_end.Goals as goal
 

@@ -1,10 +1,7 @@
-use Prim.Native.Nat.{◌-◌, ◌≤◌, ◌<◌}
+use Prim.Native.Nat.{◌-◌, ◌≤◌}
 use Rattle.book_order.specs.Orders.{next_end}
-use Rattle.book_places.proofs.Ends.{next_on, next_here, next_all}
-use borrow.Author.Rules.{rules}
-use lib.ListN.{length, take}
-use mathlib.Core.Path.{◌≡◌, refl}
-use native.Mathlib.Omega.{arith}
+use lib.ListN.{take}
+use mathlib.Core.Path.{◌≡◌}
 use Rattle.book_places.proofs.next_end.Given as goal
 
 -- What is found so far is the next end of the orders passed.

@@ -1,13 +1,7 @@
-use Prim.Native.Nat.{◌+◌, ◌-◌, ◌≤◌}
+use Prim.Native.Nat.{◌+◌, ◌-◌}
 use Rattle.book_order.specs.Orders.{number}
-use Rattle.book_places.proofs.Seats.{seat_here, seat_none}
-use Rattle.book_places.specs.Places.{past_order}
-use Rattle.book_shelf.proofs.Ranks.{ranked_on}
 use Rattle.book_shelf.specs.Shelf.{between, rank_of}
-use borrow.Author.Rules.{rules}
-use lib.ListN.{length}
-use mathlib.Core.Path.{◌≡◌, refl}
-use native.Mathlib.Omega.{arith}
+use mathlib.Core.Path.{◌≡◌}
 use Rattle.book_places.proofs.seat_of.Given as goal
 
 -- The places passed, with the rank in those that follow, are the seat; and the order there tells whether it is held.

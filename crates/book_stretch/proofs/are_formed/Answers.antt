@@ -1,10 +1,8 @@
-use Prim.Native.Nat.{◌-◌}
 use Rattle.book_stretch.proofs.Passed.{none_told, apart_first, fits_on, fits_not, none_here, none_left, unused_on, unused_not, unused_all}
-use Rattle.book_stretch.specs.Stretches.{is_none, apart_from, formed_in}
+use Rattle.book_stretch.specs.Stretches.{is_none, formed_in}
 use Rattle.text.specs.Bytes.{all}
 use borrow.Author.Rules.{rules}
 use lib.ListN.{drop}
-use mathlib.Core.Logic.{⊎_elim}
 use mathlib.Core.Path.{◌≡◌, refl}
 use mathlib.Core.Bool.{not}
 use mathlib.Core.Path.{ap}

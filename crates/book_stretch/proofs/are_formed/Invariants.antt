@@ -1,11 +1,8 @@
 use Prim.Native.Nat.{◌-◌}
-use Rattle.book_stretch.proofs.Passed.{none_told, apart_first, fits_on, fits_not, none_here, none_left, unused_on, unused_not, unused_all}
 use Rattle.book_stretch.specs.Stretches.{is_none, apart_from, formed_in}
 use Rattle.text.specs.Bytes.{all}
-use borrow.Author.Rules.{rules}
 use lib.ListN.{drop}
-use mathlib.Core.Logic.{⊎_elim}
-use mathlib.Core.Path.{◌≡◌, refl}
+use mathlib.Core.Path.{◌≡◌}
 use Rattle.book_stretch.proofs.are_formed.Given as goal
 
 -- What is left, from the least start on, answers for all, up to the first that is unused; then all are unused where those that are left are.

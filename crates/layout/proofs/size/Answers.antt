@@ -1,7 +1,6 @@
 use Rattle.layout.proofs.Arms.{of_layout}
 use Rattle.layout.specs.Fields.{command, technical, market, mfrr, rc, mg, eb, lb, sr, vq, ri, qr}
 use Rattle.layout.specs.Layouts.{fields_of, size_of}
-use borrow.Author.Rules.{rules}
 use Rattle.layout.proofs.size.Goals as goal
 
 pub returns-in-Market : goal.returns-in-Market

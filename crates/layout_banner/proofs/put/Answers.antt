@@ -1,6 +1,5 @@
 use Rattle.layout_banner.proofs.Arms.{banner_room, banner_put}
 use Rattle.layout.specs.Banners.{banner_of}
-use borrow.Author.Rules.{rules}
 use native.Mathlib.Omega.{arith}
 use Rattle.layout_banner.proofs.put.Goals as goal
 

@@ -1,5 +1,4 @@
 use Rattle.layout_banner.proofs.Arms.{front_put}
-use borrow.Author.Rules.{rules}
 use native.Mathlib.Omega.{arith}
 use Rattle.layout_banner.proofs.shown.Goals as goal
 

@@ -2,7 +2,6 @@ use Rattle.layout.proofs.Arms.{entry}
 use Rattle.layout.specs.Fields.{Field, command}
 use Rattle.layout.specs.Layouts.{no_kind}
 use Rattle.text.proofs.Tables.{no_arm}
-use borrow.Author.Rules.{rules}
 use lib.ListN.{get_or}
 use mathlib.Core.List.{map}
 use mathlib.Core.Path.{◌∙◌}

@@ -3,7 +3,6 @@ use Rattle.layout.proofs.Arms.{entry}
 use Rattle.layout.specs.Fields.{eb}
 use Rattle.layout.specs.Layouts.{fields_of, kinds_of, kind_at}
 use Rattle.layout.specs.declared.Layout.TheVariants.{Exclusion}
-use borrow.Author.Rules.{rules}
 use mathlib.Core.Path.{◌∙◌}
 use Rattle.layout_kind.proofs.eb_kind.Goals as goal
 

@@ -3,7 +3,6 @@ use Rattle.layout.proofs.Arms.{entry}
 use Rattle.layout.specs.Fields.{lb}
 use Rattle.layout.specs.Layouts.{fields_of, kinds_of, kind_at}
 use Rattle.layout.specs.declared.Layout.TheVariants.{Limitation}
-use borrow.Author.Rules.{rules}
 use mathlib.Core.Path.{◌∙◌}
 use Rattle.layout_kind.proofs.lb_kind.Goals as goal
 

@@ -2,7 +2,6 @@ use Rattle.layout.proofs.Arms.{entry, command_part, technical_part}
 use Rattle.layout.specs.Fields.{Field}
 use Rattle.layout.specs.Layouts.{fields_of, kinds_of, kind_at, no_kind}
 use Rattle.layout.specs.declared.Layout.TheVariants.{Market}
-use borrow.Author.Rules.{rules}
 use mathlib.Core.Path.{◌∙◌}
 use native.Mathlib.Omega.{arith}
 use Rattle.layout_kind.proofs.market_kind.Goals as goal

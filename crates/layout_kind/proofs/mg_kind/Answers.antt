@@ -3,7 +3,6 @@ use Rattle.layout.proofs.Arms.{entry}
 use Rattle.layout.specs.Fields.{mg}
 use Rattle.layout.specs.Layouts.{fields_of, kinds_of, kind_at}
 use Rattle.layout.specs.declared.Layout.TheVariants.{Generic}
-use borrow.Author.Rules.{rules}
 use mathlib.Core.Path.{◌∙◌}
 use Rattle.layout_kind.proofs.mg_kind.Goals as goal
 

@@ -1,6 +1,5 @@
 use Rattle.layout.proofs.Arms.{of_layout}
 use Rattle.layout.specs.Layouts.{kind_at}
-use borrow.Author.Rules.{rules}
 use mathlib.Core.Path.{◌∙◌}
 use Rattle.layout_kind.proofs.of_field.Goals as goal
 

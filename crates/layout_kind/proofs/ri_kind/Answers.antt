@@ -3,7 +3,6 @@ use Rattle.layout.proofs.Arms.{entry}
 use Rattle.layout.specs.Fields.{ri}
 use Rattle.layout.specs.Layouts.{fields_of, kinds_of, kind_at}
 use Rattle.layout.specs.declared.Layout.TheVariants.{Rejection}
-use borrow.Author.Rules.{rules}
 use mathlib.Core.Path.{◌∙◌}
 use Rattle.layout_kind.proofs.ri_kind.Goals as goal
 

@@ -1,5 +1,4 @@
 use Rattle.layout_label.specs.Labels.{label_of, padded}
-use borrow.Author.Rules.{rules}
 use Rattle.layout_label.proofs.created.Goals as goal
 
 pub returns : goal.returns

@@ -4,7 +4,6 @@ use Rattle.layout.specs.Fields.{eb, ri}
 use Rattle.layout.specs.Layouts.{fields_of, labels_of, label_at}
 use Rattle.layout.specs.declared.Layout.TheVariants.{Exclusion, Rejection}
 use Rattle.text.proofs.Tables.{above}
-use borrow.Author.Rules.{rules}
 use lib.ListN.{drop}
 use mathlib.Core.List.{[], ◌∷◌}
 use Rattle.layout_label.proofs.eb_label.Goals as goal

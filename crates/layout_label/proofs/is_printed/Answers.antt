@@ -1,5 +1,4 @@
 use Rattle.layout_label.proofs.Texts.{printed_short, printed_is}
-use borrow.Author.Rules.{rules}
 use native.Mathlib.Omega.{arith}
 use Rattle.layout_label.proofs.is_printed.Goals as goal
 

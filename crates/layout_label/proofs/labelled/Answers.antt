@@ -1,5 +1,4 @@
 use Rattle.layout_label.specs.Labels.{words_of}
-use borrow.Author.Rules.{rules}
 use Rattle.layout_label.proofs.labelled.Goals as goal
 
 pub returns : goal.returns

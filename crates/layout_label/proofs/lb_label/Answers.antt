@@ -3,7 +3,6 @@ use Rattle.layout_label.specs.Labels.{label_of, padded}
 use Rattle.layout.specs.Fields.{lb, ri}
 use Rattle.layout.specs.Layouts.{fields_of, labels_of, label_at}
 use Rattle.layout.specs.declared.Layout.TheVariants.{Limitation, Rejection}
-use borrow.Author.Rules.{rules}
 use lib.ListN.{take, drop}
 use mathlib.Core.List.{[], ◌∷◌}
 use mathlib.Core.Path.{refl}

@@ -2,7 +2,6 @@ use Rattle.layout_label.proofs.Arms.{no_arm_at}
 use Rattle.layout.specs.Fields.{mfrr}
 use Rattle.layout.specs.Layouts.{fields_of, labels_of}
 use Rattle.layout.specs.declared.Layout.TheVariants.{Mfrr}
-use borrow.Author.Rules.{rules}
 use native.Mathlib.Omega.{arith}
 use mathlib.Core.Path.{refl}
 use Rattle.layout_label.proofs.mfrr_label.Goals as goal

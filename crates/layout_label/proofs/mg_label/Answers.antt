@@ -3,7 +3,6 @@ use Rattle.layout.specs.Fields.{mg, ri}
 use Rattle.layout.specs.Layouts.{fields_of, labels_of, label_at}
 use Rattle.layout.specs.declared.Layout.TheVariants.{Generic, Rejection}
 use Rattle.text.proofs.Tables.{above}
-use borrow.Author.Rules.{rules}
 use lib.ListN.{drop}
 use mathlib.Core.List.{[], ◌∷◌}
 use Rattle.layout_label.proofs.mg_label.Goals as goal

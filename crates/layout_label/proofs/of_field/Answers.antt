@@ -1,7 +1,6 @@
 use Rattle.layout_label.proofs.Arms.{found}
 use Rattle.layout.proofs.Arms.{of_layout}
 use Rattle.layout.specs.Layouts.{label_at}
-use borrow.Author.Rules.{rules}
 use Rattle.layout_label.proofs.of_field.Goals as goal
 
 pub returns-in-Market : goal.returns-in-Market

@@ -3,7 +3,6 @@ use Rattle.layout_label.specs.Labels.{label_of, padded}
 use Rattle.layout.specs.Fields.{mfrr}
 use Rattle.layout.specs.Layouts.{fields_of, labels_of, label_at}
 use Rattle.layout.specs.declared.Layout.TheVariants.{Mfrr}
-use borrow.Author.Rules.{rules}
 use native.Mathlib.Omega.{arith}
 use Rattle.layout_label.proofs.power_label.Goals as goal
 

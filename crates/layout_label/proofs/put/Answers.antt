@@ -1,7 +1,6 @@
 use Rattle.layout_label.proofs.Texts.{length_text, text_room}
 use Rattle.layout_label.specs.Labels.{label_text}
 use Rattle.text.proofs.Runs.{puts, same_puts}
-use borrow.Author.Rules.{rules}
 use lib.ListN.{replicate}
 use mathlib.Core.Path.{refl}
 use native.Mathlib.Omega.{arith}

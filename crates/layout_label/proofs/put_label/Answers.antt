@@ -1,5 +1,4 @@
 use Rattle.layout_label.proofs.Texts.{text_put}
-use borrow.Author.Rules.{rules}
 use Rattle.layout_label.proofs.put_label.Goals as goal
 
 pub returns : goal.returns

@@ -3,7 +3,6 @@ use Rattle.layout_label.specs.Labels.{label_of, padded}
 use Rattle.layout.specs.Fields.{rc}
 use Rattle.layout.specs.Layouts.{fields_of, labels_of, label_at}
 use Rattle.layout.specs.declared.Layout.TheVariants.{Revocation}
-use borrow.Author.Rules.{rules}
 use mathlib.Core.Path.{refl}
 use Rattle.layout_label.proofs.rc_label.Goals as goal
 

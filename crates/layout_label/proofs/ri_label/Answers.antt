@@ -2,7 +2,6 @@ use Rattle.layout_label.proofs.Arms.{arm, no_arm_at}
 use Rattle.layout.specs.Fields.{ri}
 use Rattle.layout.specs.Layouts.{fields_of, labels_of, label_at}
 use Rattle.layout.specs.declared.Layout.TheVariants.{Rejection}
-use borrow.Author.Rules.{rules}
 use mathlib.Core.Path.{refl}
 use Rattle.layout_label.proofs.ri_label.Goals as goal
 

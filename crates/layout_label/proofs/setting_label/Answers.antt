@@ -3,7 +3,6 @@ use Rattle.layout_label.specs.Labels.{label_of, padded}
 use Rattle.layout.specs.Fields.{vq}
 use Rattle.layout.specs.Layouts.{fields_of, labels_of, label_at}
 use Rattle.layout.specs.declared.Layout.TheVariants.{VoltVar}
-use borrow.Author.Rules.{rules}
 use native.Mathlib.Omega.{arith}
 use Rattle.layout_label.proofs.setting_label.Goals as goal
 

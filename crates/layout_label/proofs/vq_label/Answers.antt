@@ -2,7 +2,6 @@ use Rattle.layout_label.proofs.Arms.{alike, arm, found, no_arm_at}
 use Rattle.layout.specs.Fields.{vq, ri}
 use Rattle.layout.specs.Layouts.{fields_of, labels_of, label_at}
 use Rattle.layout.specs.declared.Layout.TheVariants.{VoltVar, Rejection}
-use borrow.Author.Rules.{rules}
 use lib.ListN.{take, drop}
 use mathlib.Core.List.{[], ◌∷◌}
 use mathlib.Core.Path.{refl}

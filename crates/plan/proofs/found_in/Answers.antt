@@ -1,5 +1,4 @@
 use Rattle.plan.proofs.Walks.{found_here}
-use borrow.Author.Rules.{rules}
 use Rattle.plan.proofs.found_in.Goals as goal
 
 pub returns : goal.returns

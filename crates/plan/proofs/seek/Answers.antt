@@ -1,14 +1,11 @@
-use Prim.Native.Nat.{ℕ, ◌-◌, ◌≤◌, ◌<◌}
+use Prim.Native.Nat.{◌≤◌, ◌<◌}
 use Rattle.plan_row.proofs.Addresses.{none_more}
-use Rattle.plan.proofs.Walks.{Sofar, empty, begin, finish, too_many, none_there, bad_line, unit_inside, row_inside, next_row}
+use Rattle.plan.proofs.Walks.{empty, begin, finish, too_many, none_there, bad_line, unit_inside, row_inside, next_row}
 use Rattle.text.specs.Bytes.{any}
 use borrow.Author.Rules.{rules}
-use lib.Dec.{ltb}
-use lib.ListN.{length, take}
-use mathlib.Core.Bool.{false}
-use mathlib.Core.List.{List}
-use mathlib.Core.Logic.{inl, inr, ⊎_elim}
-use mathlib.Core.Path.{◌≡◌, refl, ◌∙◌}
+use lib.ListN.{length}
+use mathlib.Core.Logic.{inl, inr}
+use mathlib.Core.Path.{refl, ◌∙◌}
 use native.Mathlib.Omega.{arith}
 use Rattle.plan.proofs.seek.Goals as goal
 use Rattle.plan.proofs.seek.Goals.{else-e-sought, then-e-sought}

@@ -1,14 +1,8 @@
-use Rattle.plan_row.proofs.Lines.{number_key, number_place, number_open, number_inside, number_not, number_is}
+use Rattle.plan_row.proofs.Lines.{number_key, number_place, number_open, number_not, number_is}
 use Rattle.text.proofs.Cuts.{starts_length}
-use Rattle.text.specs.Bytes.{starts}
-use Rattle.text.specs.Puts.{limit}
-use Prim.Native.Nat.{ℕ, ◌+◌, ◌≤◌, ◌<◌}
-use borrow.Author.Rules.{rules}
-use borrow.Author.Tests.{not-true, not-false}
+use Prim.Native.Nat.{◌+◌, ◌≤◌}
 use lib.ListN.{length}
-use mathlib.Core.Bool.{true}
-use mathlib.Core.List.{List}
-use mathlib.Core.Path.{◌≡◌, sym, ◌∙◌}
+use mathlib.Core.Path.{sym, ◌∙◌}
 use native.Mathlib.Omega.{arith}
 use Rattle.plan_row.proofs.number_line.Goals as goal
 

@@ -1,12 +1,11 @@
-use Prim.Native.Nat.{ℕ, ◌+◌, ◌≤◌, ◌<◌}
+use Prim.Native.Nat.{◌+◌, ◌≤◌, ◌<◌}
 use Rattle.plan_row.proofs.Readers.{At, bad_ca, ca_told, at_two, bad_ioa, ioa_told, at_three, twice, bad_unit, unit_from, at_four, bad_type, at_five}
 use Rattle.plan_row.proofs.Readers.{good_row}
 use Rattle.text_keyline.specs.Keylines.{below}
 use Rattle.text.specs.Bytes.{any}
 use Rattle.text.specs.Puts.{limit}
-use borrow.Author.Rules.{rules}
 use lib.ListN.{length}
-use mathlib.Core.List.{List, []}
+use mathlib.Core.List.{[]}
 use mathlib.Core.Path.{refl}
 use native.Mathlib.Omega.{arith}
 use Rattle.plan_row.proofs.row_at.Goals as goal

@@ -1,5 +1,4 @@
 use Rattle.plan_row.proofs.Addresses.{sought_near, sought_far}
-use borrow.Author.Rules.{rules}
 use Rattle.plan_row.proofs.sought_key.Goals as goal
 
 -- No plan can have the address, or its number.

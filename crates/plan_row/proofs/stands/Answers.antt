@@ -1,5 +1,4 @@
 use Rattle.plan_row.proofs.Addresses.{none_above}
-use borrow.Author.Rules.{rules}
 use Rattle.plan_row.proofs.stands.Goals as goal
 
 -- Above all, or searched for.

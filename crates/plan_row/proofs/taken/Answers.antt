@@ -1,10 +1,6 @@
-use Prim.Native.Nat.{◌-◌, ◌≤◌}
 use Rattle.plan_row.proofs.Addresses.{four_here, four_on, one_here, one_on}
 use Rattle.text.proofs.Fronts.{any_end}
-use Rattle.text.specs.Bytes.{is, any}
-use borrow.Author.Rules.{rules}
-use lib.ListN.{length, drop}
-use mathlib.Core.Path.{◌≡◌, refl, sym, ◌∙◌}
+use mathlib.Core.Path.{refl, sym, ◌∙◌}
 use native.Mathlib.Omega.{arith}
 use Rattle.plan_row.proofs.taken.Goals as goal
 
@@ -16,11 +12,10 @@ returns-then-keys-k c =
     sym (c.loop-k.invariant.1 ∙ four_here c.args.keys.now _ c.loop-k.k c.loop-k-test.true c.if-keys-k.true)
 
 pub loop-k-preserved : goal.loop-k-preserved
-loop-k-preserved c =
-    (
-      omega arith,
-      c.loop-k.invariant.1 ∙ four_on c.args.keys.now _ c.loop-k.k c.loop-k-test.true c.if-keys-k.false,
-    )
+loop-k-preserved c = (
+  omega arith,
+  c.loop-k.invariant.1 ∙ four_on c.args.keys.now _ c.loop-k.k c.loop-k-test.true c.if-keys-k.false,
+)
 
 pub loop-k-2-init : goal.loop-k-2-init
 loop-k-2-init c = c.loop-k.invariant

@@ -1,11 +1,7 @@
 use Prim.Native.Nat.{◌-◌, ◌≤◌}
-use Rattle.plan_row.proofs.Addresses.{four_here, four_on, one_here, one_on}
-use Rattle.text.proofs.Fronts.{any_end}
 use Rattle.text.specs.Bytes.{is, any}
-use borrow.Author.Rules.{rules}
 use lib.ListN.{length, drop}
-use mathlib.Core.Path.{◌≡◌, refl, sym, ◌∙◌}
-use native.Mathlib.Omega.{arith}
+use mathlib.Core.Path.{◌≡◌}
 use Rattle.plan_row.proofs.taken.Given as goal
 
 -- It is one of all where it is one of those from the place on.

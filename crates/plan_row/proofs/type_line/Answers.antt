@@ -1,6 +1,4 @@
 use Rattle.plan_row.proofs.Codes.{type_key, type_short, type_open, type_line}
-use borrow.Author.Rules.{rules}
-use borrow.Author.Tests.{not-true, not-false}
 use Rattle.plan_row.proofs.type_line.Goals as goal
 
 -- LOST slice-aggregate-starts

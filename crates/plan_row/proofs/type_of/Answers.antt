@@ -2,7 +2,6 @@ use Rattle.plan_row.proofs.Codes.{code_is, code_one, no_code}
 use Rattle.plan_row.specs.Rows.{type_from}
 use Rattle.value_name.specs.declared.MessageType.TheVariants.{Cb, Rc, Mg, Eb, Lb, Sr, Vq, Ri, Qr}
 use Rattle.text.specs.Bytes.{same}
-use borrow.Author.Rules.{rules}
 use borrow.Author.Tests.{ne_eqb}
 use mathlib.Core.Path.{refl, sym}
 use Rattle.plan_row.proofs.type_of.Goals as goal

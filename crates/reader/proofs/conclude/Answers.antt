@@ -1,6 +1,5 @@
 use Rattle.reader.proofs.Concluding.{concluded_no, concluded_yes}
 use Rattle.reader.specs.Refusals.{accepted}
-use borrow.Author.Rules.{rules}
 use mathlib.Core.Path.{ap, ◌∙◌}
 use Rattle.reader.proofs.conclude.Goals as goal
 

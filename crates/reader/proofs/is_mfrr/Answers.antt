@@ -1,6 +1,5 @@
 use Rattle.value_name.specs.declared.MessageType.{MessageType}
 use Rattle.reader.specs.State.{is_mfrr}
-use borrow.Author.Rules.{rules}
 use mathlib.Core.Path.{sym, ap}
 use Rattle.reader.proofs.is_mfrr.Goals as goal
 

@@ -1,6 +1,4 @@
 use Rattle.reader.proofs.Judging.{unit_ordered, unit_inside, unit_same, rule_verdict, unit_verdict, row_verdict, well_verdict}
-use borrow.Author.Rules.{rules}
-use borrow.Author.Tests.{not-true, not-false}
 use mathlib.Core.Path.{sym, ◌∙◌}
 use Rattle.reader.proofs.judge.Goals as goal
 

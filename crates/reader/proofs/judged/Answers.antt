@@ -1,15 +1,13 @@
-use Prim.Native.Nat.{◌-◌, ◌<◌}
+use Prim.Native.Nat.{◌<◌}
 use Rattle.reader_fill.proofs.Steps.{start}
 use Rattle.layout.proofs.Labels.{few}
 use Rattle.layout.specs.Layouts.{size_of}
 use Rattle.reader.proofs.Concluding.{refused_located}
-use Rattle.reader.proofs.Going.{Turned, still, running, stopped, goes_on, refused_last, all_read}
+use Rattle.reader.proofs.Going.{still, running, stopped, goes_on, refused_last, all_read}
 use Rattle.reader.specs.Readings.{unread}
 use Rattle.record_rules.proofs.Steps.{in_market, in_ramps, in_exclusion, in_limitation, in_secondary, in_volt_var, in_reserve, in_others}
 use Rattle.record_rules.specs.Rules.{rules_of, lowest}
-use borrow.Author.Rules.{rules}
 use lib.ListN.{length}
-use mathlib.Core.Logic.{⊎_elim}
 use mathlib.Core.Path.{◌≡◌, refl, sym, ap₂, ◌∙◌}
 use native.Mathlib.Omega.{arith}
 use Rattle.reader.proofs.judged.Goals as goal
@@ -78,42 +76,42 @@ judge-early-requires c =
 pub returns-then-number-ne0 : goal.returns-then-number-ne0
 returns-then-number-ne0 c =
     elim c.if-bad-eq0.branch [
-      then-bad-eq0 w ↦
-    let broken_is : w.match-l.broken ≡ lowest (rules_of c.locate-x.result.layout c.loop-k.r.cells c.loop-k.r.gradients) =
-        elim w.match-l.branch [
-          in-Market v ↦ in_market _ _ _ _ v.in-Market.is (v.broken-is ∙ v.of_market-broken.ensures)
-        | in-Mfrr v ↦ in_ramps _ _ _ _ v.in-Mfrr.is (v.broken-is ∙ v.of_ramps-broken.ensures)
-        | in-Exclusion v ↦ in_exclusion _ _ _ _ v.in-Exclusion.is (v.broken-is ∙ v.of_exclusion-broken.ensures)
-        | in-Limitation v ↦ in_limitation _ _ _ _ v.in-Limitation.is (v.broken-is ∙ v.of_limitation-broken.ensures)
-        | in-Secondary v ↦ in_secondary _ _ _ _ v.in-Secondary.is (v.broken-is ∙ v.of_secondary-broken.ensures)
-        | in-VoltVar v ↦ in_volt_var _ _ _ _ v.in-VoltVar.is (v.broken-is ∙ v.of_volt_var-broken.ensures)
-        | in-Reserve v ↦ in_reserve _ _ _ _ v.in-Reserve.is (v.broken-is ∙ v.of_reserve-broken.ensures)
-        | in_default v ↦ in_others _ _ _ _ v.in_default.in_default-own.keys8 (v.broken-is ∙ v.of_order-broken.ensures)
-        ] in
-    refused_last _ _ _ _ _ c.locate-x.ensures c.if-x-ne0.false _ c.gradients_of-g.ensures _ _ _ (c.loop-k.invariant.going w.if-bad-eq0.true)
-        c.loop-k-test.false _ broken_is _ refl _ w.judge-early.ensures (λ z. c.if-number-ne0.true (w.number-is ∙ z))
-        (c.unread-r.ensures ∙ ap₂ unread w.number-is w.detail-is)
-    | else-bad-eq0 w ↦ c.loop-k.invariant.told w.if-bad-eq0.false _ (c.unread-r.ensures ∙ ap₂ unread w.number-is w.detail-is)
+      | then-bad-eq0 w ↦
+          let broken_is : w.match-l.broken ≡ lowest (rules_of c.locate-x.result.layout c.loop-k.r.cells c.loop-k.r.gradients) =
+          elim w.match-l.branch [
+            | in-Market v ↦ in_market _ _ _ _ v.in-Market.is (v.broken-is ∙ v.of_market-broken.ensures)
+            | in-Mfrr v ↦ in_ramps _ _ _ _ v.in-Mfrr.is (v.broken-is ∙ v.of_ramps-broken.ensures)
+            | in-Exclusion v ↦ in_exclusion _ _ _ _ v.in-Exclusion.is (v.broken-is ∙ v.of_exclusion-broken.ensures)
+            | in-Limitation v ↦ in_limitation _ _ _ _ v.in-Limitation.is (v.broken-is ∙ v.of_limitation-broken.ensures)
+            | in-Secondary v ↦ in_secondary _ _ _ _ v.in-Secondary.is (v.broken-is ∙ v.of_secondary-broken.ensures)
+            | in-VoltVar v ↦ in_volt_var _ _ _ _ v.in-VoltVar.is (v.broken-is ∙ v.of_volt_var-broken.ensures)
+            | in-Reserve v ↦ in_reserve _ _ _ _ v.in-Reserve.is (v.broken-is ∙ v.of_reserve-broken.ensures)
+            | in_default v ↦ in_others _ _ _ _ v.in_default.in_default-own.keys8 (v.broken-is ∙ v.of_order-broken.ensures)
+          ] in
+          refused_last _ _ _ _ _ c.locate-x.ensures c.if-x-ne0.false _ c.gradients_of-g.ensures _ _ _ (c.loop-k.invariant.going w.if-bad-eq0.true)
+          c.loop-k-test.false _ broken_is _ refl _ w.judge-early.ensures (λ z. c.if-number-ne0.true (w.number-is ∙ z))
+          (c.unread-r.ensures ∙ ap₂ unread w.number-is w.detail-is)
+      | else-bad-eq0 w ↦ c.loop-k.invariant.told w.if-bad-eq0.false _ (c.unread-r.ensures ∙ ap₂ unread w.number-is w.detail-is)
     ]
 
 pub returns-else-number-ne0 : goal.returns-else-number-ne0
 returns-else-number-ne0 c =
     elim c.if-bad-eq0.branch [
-      then-bad-eq0 w ↦
-    let broken_is : w.match-l.broken ≡ lowest (rules_of c.locate-x.result.layout c.loop-k.r.cells c.loop-k.r.gradients) =
-        elim w.match-l.branch [
-          in-Market v ↦ in_market _ _ _ _ v.in-Market.is (v.broken-is ∙ v.of_market-broken.ensures)
-        | in-Mfrr v ↦ in_ramps _ _ _ _ v.in-Mfrr.is (v.broken-is ∙ v.of_ramps-broken.ensures)
-        | in-Exclusion v ↦ in_exclusion _ _ _ _ v.in-Exclusion.is (v.broken-is ∙ v.of_exclusion-broken.ensures)
-        | in-Limitation v ↦ in_limitation _ _ _ _ v.in-Limitation.is (v.broken-is ∙ v.of_limitation-broken.ensures)
-        | in-Secondary v ↦ in_secondary _ _ _ _ v.in-Secondary.is (v.broken-is ∙ v.of_secondary-broken.ensures)
-        | in-VoltVar v ↦ in_volt_var _ _ _ _ v.in-VoltVar.is (v.broken-is ∙ v.of_volt_var-broken.ensures)
-        | in-Reserve v ↦ in_reserve _ _ _ _ v.in-Reserve.is (v.broken-is ∙ v.of_reserve-broken.ensures)
-        | in_default v ↦ in_others _ _ _ _ v.in_default.in_default-own.keys8 (v.broken-is ∙ v.of_order-broken.ensures)
-        ] in
-    all_read _ _ _ _ _ c.locate-x.ensures c.if-x-ne0.false _ c.gradients_of-g.ensures _ _ _ (c.loop-k.invariant.going w.if-bad-eq0.true)
-        c.loop-k-test.false _ broken_is _ refl _ w.judge-early.ensures (sym w.number-is ∙ c.if-number-ne0.false)
-    | else-bad-eq0 w ↦ absurd (omega (arith, w.number-is, c.if-number-ne0.false))
+      | then-bad-eq0 w ↦
+          let broken_is : w.match-l.broken ≡ lowest (rules_of c.locate-x.result.layout c.loop-k.r.cells c.loop-k.r.gradients) =
+          elim w.match-l.branch [
+            | in-Market v ↦ in_market _ _ _ _ v.in-Market.is (v.broken-is ∙ v.of_market-broken.ensures)
+            | in-Mfrr v ↦ in_ramps _ _ _ _ v.in-Mfrr.is (v.broken-is ∙ v.of_ramps-broken.ensures)
+            | in-Exclusion v ↦ in_exclusion _ _ _ _ v.in-Exclusion.is (v.broken-is ∙ v.of_exclusion-broken.ensures)
+            | in-Limitation v ↦ in_limitation _ _ _ _ v.in-Limitation.is (v.broken-is ∙ v.of_limitation-broken.ensures)
+            | in-Secondary v ↦ in_secondary _ _ _ _ v.in-Secondary.is (v.broken-is ∙ v.of_secondary-broken.ensures)
+            | in-VoltVar v ↦ in_volt_var _ _ _ _ v.in-VoltVar.is (v.broken-is ∙ v.of_volt_var-broken.ensures)
+            | in-Reserve v ↦ in_reserve _ _ _ _ v.in-Reserve.is (v.broken-is ∙ v.of_reserve-broken.ensures)
+            | in_default v ↦ in_others _ _ _ _ v.in_default.in_default-own.keys8 (v.broken-is ∙ v.of_order-broken.ensures)
+          ] in
+          all_read _ _ _ _ _ c.locate-x.ensures c.if-x-ne0.false _ c.gradients_of-g.ensures _ _ _ (c.loop-k.invariant.going w.if-bad-eq0.true)
+          c.loop-k-test.false _ broken_is _ refl _ w.judge-early.ensures (sym w.number-is ∙ c.if-number-ne0.false)
+      | else-bad-eq0 w ↦ absurd (omega (arith, w.number-is, c.if-number-ne0.false))
     ]
 
 pub overflow_add-k : goal.overflow_add-k

@@ -1,6 +1,5 @@
 use Rattle.reader.proofs.Locating.{not_found, walked_on}
 use Rattle.reader.specs.State.{Locates}
-use borrow.Author.Rules.{rules}
 use mathlib.Core.Path.{sym, subst}
 use Rattle.reader.proofs.locate.Goals as goal
 

@@ -1,5 +1,4 @@
 use Rattle.reader.proofs.Placing.{twice, absent, all_there}
-use borrow.Author.Rules.{rules}
 use mathlib.Core.Path.{◌∙◌}
 use Rattle.reader.proofs.place.Goals as goal
 

@@ -1,5 +1,4 @@
 use Rattle.reader.proofs.Readings.{placed_of, answers_of}
-use borrow.Author.Rules.{rules}
 use mathlib.Core.Path.{◌∙◌}
 use Rattle.reader.proofs.read.Goals as goal
 

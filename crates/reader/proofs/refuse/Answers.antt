@@ -1,5 +1,4 @@
 use Rattle.record.specs.declared.Record.{Record}
-use borrow.Author.Rules.{rules}
 use mathlib.Core.Path.{ap}
 use Rattle.reader.proofs.refuse.Goals as goal
 

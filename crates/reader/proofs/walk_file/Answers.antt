@@ -1,5 +1,4 @@
 use Rattle.reader.proofs.Walking.{too_small, too_large, bad_byte, seps_not_two, not_one_inside, mfrr_few, mfrr_walks, first_few, first_walks}
-use borrow.Author.Rules.{rules}
 use Rattle.reader.proofs.walk_file.Goals as goal
 
 pub returns-then-file-eq0 : goal.returns-then-file-eq0

@@ -1,7 +1,6 @@
 use Rattle.reader_accent.proofs.Table.{no_accent}
 use Rattle.reader_accent.specs.Accents.{accent_field}
 use Rattle.value_name.specs.declared.MessageType.{MessageType}
-use borrow.Author.Rules.{rules}
 use mathlib.Core.Path.{sym, ap, ◌∙◌}
 use Rattle.reader_accent.proofs.field_of.Goals as goal
 

@@ -1,7 +1,5 @@
 use Prim.Native.Nat.{◌+◌, ◌≤◌, ◌<◌}
 use Rattle.reader_accent.proofs.Ends.{end_near, ends_whole, ends_other, ends_not, ends_far, far_near}
-use borrow.Author.Rules.{rules}
-use borrow.Author.Tests.{not-true, not-false}
 use lib.ListN.{length}
 use native.Mathlib.Omega.{arith}
 use Rattle.reader_accent.proofs.line_end.Goals as goal

@@ -1,5 +1,4 @@
 use Rattle.reader_accent.proofs.Table.{is_mode, no_mode}
-use borrow.Author.Rules.{rules}
 use Rattle.reader_accent.proofs.mode_of.Goals as goal
 
 -- VQ's one label.

@@ -1,7 +1,6 @@
 use Rattle.reader_accent.proofs.Ends.{not_open, open_by}
 use Rattle.text.proofs.Cuts.{front_count, upto_length}
 use Rattle.text.specs.Bytes.{is}
-use borrow.Author.Rules.{rules}
 use native.Mathlib.Omega.{arith}
 use Rattle.reader_accent.proofs.opens.Goals as goal
 

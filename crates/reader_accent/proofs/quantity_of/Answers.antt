@@ -1,5 +1,4 @@
 use Rattle.reader_accent.proofs.Table.{is_power, is_extent, no_quantity}
-use borrow.Author.Rules.{rules}
 use Rattle.reader_accent.proofs.quantity_of.Goals as goal
 
 pub returns-then-same : goal.returns-then-same

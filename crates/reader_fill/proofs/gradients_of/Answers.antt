@@ -6,7 +6,6 @@ use Rattle.record.proofs.Rooms.{gradients_in}
 use mathlib.Core.List.{List}
 use mathlib.Core.Path.{◌∙◌}
 use native.Mathlib.Omega.{arith}
-use borrow.Author.Rules.{rules}
 use Rattle.reader_fill.proofs.gradients_of.Goals as goal
 
 pub returns-then-at-eq0 : goal.returns-then-at-eq0

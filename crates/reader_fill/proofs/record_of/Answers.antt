@@ -3,7 +3,6 @@ use Rattle.reader_fill.proofs.Records.{room_is, record_is}
 use Rattle.layout.specs.Layouts.{size_of}
 use Rattle.text_lines.specs.Places.{column_in}
 use Rattle.record.proofs.Rooms.{unit_in, reason_in, note_in}
-use borrow.Author.Rules.{rules}
 use mathlib.Core.List.{List}
 use mathlib.Core.Path.{refl}
 use native.Mathlib.Omega.{arith}

@@ -1,6 +1,5 @@
 use Rattle.layout.proofs.Labels.{few}
 use Rattle.text_lines.proofs.Columns.{column_at_lem}
-use borrow.Author.Rules.{rules}
 use mathlib.Core.Path.{sym}
 use native.Mathlib.Omega.{arith}
 use Rattle.reader_fill.proofs.text_at.Goals as goal

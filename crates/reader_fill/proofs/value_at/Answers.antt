@@ -1,6 +1,5 @@
 use Rattle.text_lines.specs.Places.{part_of}
 use Rattle.value.specs.Kinds.{value_of}
-use borrow.Author.Rules.{rules}
 use mathlib.Core.Path.{ap, ◌∙◌}
 use Rattle.reader_fill.proofs.value_at.Goals as goal
 

@@ -1,5 +1,4 @@
 use Rattle.reader_fill.proofs.Gradients.{good_there, bad_there, elsewhere}
-use borrow.Author.Rules.{rules}
 use Rattle.reader_fill.proofs.value_in.Goals as goal
 
 pub returns-then-good : goal.returns-then-good

@@ -1,6 +1,5 @@
 use Prim.Native.Nat.{◌+◌, ◌≤◌}
 use Rattle.reader_line.proofs.Accents.{same_end, far_inside, far_ordered, row_far, value_inside, field_far}
-use borrow.Author.Rules.{rules}
 use lib.ListN.{length}
 use native.Mathlib.Omega.{arith}
 use Rattle.reader_line.proofs.accented_item.Goals as goal

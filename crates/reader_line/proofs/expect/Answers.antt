@@ -1,5 +1,4 @@
 use Rattle.reader_line.proofs.Turns.{mfrr_own, of_market, only_layout}
-use borrow.Author.Rules.{rules}
 use Rattle.reader_line.proofs.expect.Goals as goal
 
 pub returns-then-turn-gt26 : goal.returns-then-turn-gt26

@@ -1,5 +1,4 @@
 use Rattle.reader_line.proofs.Heads.{row_head, line_head}
-use borrow.Author.Rules.{rules}
 use Rattle.reader_line.proofs.expected_head.Goals as goal
 
 -- None is expected below one separator.

@@ -1,11 +1,8 @@
-use Prim.Native.Nat.{◌-◌, ◌≤◌, ◌<◌}
+use Prim.Native.Nat.{◌≤◌, ◌<◌}
 use Rattle.reader_line.proofs.Labels.{label_here, label_on, label_none}
-use Rattle.layout.specs.Layouts.{labels_of, size_of}
-use Rattle.text_lines.proofs.Standing.{later, later_zero}
-use Rattle.text_lines.specs.Entries.{place_of}
-use borrow.Author.Rules.{rules}
-use lib.ListN.{drop}
-use mathlib.Core.Path.{◌≡◌, sym, ◌∙◌}
+use Rattle.layout.specs.Layouts.{size_of}
+use Rattle.text_lines.proofs.Standing.{later_zero}
+use mathlib.Core.Path.{sym, ◌∙◌}
 use native.Mathlib.Omega.{arith}
 use Rattle.reader_line.proofs.field_of.Goals as goal
 

@@ -1,12 +1,9 @@
-use Prim.Native.Nat.{◌-◌, ◌≤◌, ◌<◌}
-use Rattle.reader_line.proofs.Labels.{label_here, label_on, label_none}
+use Prim.Native.Nat.{◌-◌, ◌≤◌}
 use Rattle.layout.specs.Layouts.{labels_of, size_of}
-use Rattle.text_lines.proofs.Standing.{later, later_zero}
+use Rattle.text_lines.proofs.Standing.{later}
 use Rattle.text_lines.specs.Entries.{place_of}
-use borrow.Author.Rules.{rules}
 use lib.ListN.{drop}
-use mathlib.Core.Path.{◌≡◌, sym, ◌∙◌}
-use native.Mathlib.Omega.{arith}
+use mathlib.Core.Path.{◌≡◌}
 use Rattle.reader_line.proofs.field_of.Given as goal
 
 -- The place among all labels is the place among those that are left, and those passed.

@@ -2,7 +2,6 @@ use Rattle.reader_line.proofs.Meanings.{no_first}
 use Rattle.layout.specs.Layouts.{labels_of}
 use Rattle.layout.specs.declared.Layout.{Layout}
 use Rattle.text_lines.specs.Entries.{place_of}
-use borrow.Author.Rules.{rules}
 use mathlib.Core.Path.{ap, ◌∙◌}
 use Rattle.reader_line.proofs.first_of.Goals as goal
 

@@ -5,7 +5,6 @@ use Rattle.layout.specs.Layouts.{label_at}
 use Rattle.text.proofs.Cuts.{starts_length}
 use Rattle.text.specs.Bytes.{starts}
 use borrow.Author.Rules.{rules}
-use borrow.Author.Tests.{not-true, not-false}
 use lib.ListN.{length}
 use mathlib.Core.Bool.{true}
 use mathlib.Core.List.{List}

@@ -1,7 +1,6 @@
 use Rattle.reader_line.proofs.Heads.{empty_head, printed_head, below_head, above_head}
 use Rattle.reader_line.proofs.Labels.{capital_first}
 use Rattle.layout_label.proofs.Texts.{label_short}
-use borrow.Author.Rules.{rules}
 use mathlib.Core.Path.{sym, ◌∙◌}
 use native.Mathlib.Omega.{arith}
 use Rattle.reader_line.proofs.head_at.Goals as goal

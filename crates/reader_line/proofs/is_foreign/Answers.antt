@@ -1,5 +1,4 @@
 use Rattle.reader_line.proofs.Meanings.{empty_foreign, star_told}
-use borrow.Author.Rules.{rules}
 use Rattle.reader_line.proofs.is_foreign.Goals as goal
 
 -- One test a return.

@@ -3,7 +3,6 @@ use Rattle.layout_label.proofs.Texts.{label_size, label_front}
 use Rattle.layout.specs.Layouts.{label_at}
 use Rattle.text.proofs.Cuts.{same_lengths}
 use Rattle.text.specs.Bytes.{same}
-use borrow.Author.Rules.{rules}
 use mathlib.Core.List.{List}
 use mathlib.Core.Path.{ap, ◌∙◌}
 use Rattle.reader_line.proofs.is_label.Goals as goal

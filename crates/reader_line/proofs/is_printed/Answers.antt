@@ -1,6 +1,5 @@
 use Rattle.reader_line.proofs.Heads.{short_printed, other_printed, no_printed, is_printed_lem}
 use Rattle.layout_label.proofs.Texts.{label_short, label_size, label_text_lem, length_padded}
-use borrow.Author.Rules.{rules}
 use native.Mathlib.Omega.{arith}
 use Rattle.reader_line.proofs.is_printed.Goals as goal
 

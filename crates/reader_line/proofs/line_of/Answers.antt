@@ -2,7 +2,6 @@ use Prim.Native.Nat.{◌+◌, ◌≤◌, ◌<◌}
 use Rattle.reader_line.proofs.Accents.{whole_line, other_byte}
 use Rattle.reader_line.proofs.Tries.{head_inside, run_inside, met, run_there}
 use Rattle.text_lines.specs.Places.{plain_run}
-use borrow.Author.Rules.{rules}
 use lib.ListN.{length, drop}
 use mathlib.Core.Path.{◌≡◌}
 use native.Mathlib.Omega.{arith}

@@ -1,7 +1,6 @@
 use Rattle.reader_line.proofs.Meanings.{held, separator_is, field_is, below_one, passed_over}
 use Rattle.text.specs.Bytes.{part, trim}
 use Rattle.text_lines.specs.Places.{HoldsText}
-use borrow.Author.Rules.{rules}
 use mathlib.Core.Path.{sym, ◌∙◌}
 use Rattle.reader_line.proofs.other_item.Goals as goal
 

@@ -1,8 +1,6 @@
 use Rattle.reader_line.proofs.Meanings.{held, row_is}
 use Rattle.text.specs.Bytes.{part, trim}
 use Rattle.text_lines.specs.Places.{HoldsText}
-use borrow.Author.Rules.{rules}
-use native.Mathlib.Omega.{arith}
 use Rattle.reader_line.proofs.row_item.Goals as goal
 
 pub slice_bounds-is_separator-count : goal.slice_bounds-is_separator-count

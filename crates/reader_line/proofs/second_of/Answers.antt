@@ -1,5 +1,4 @@
 use Rattle.reader_line.proofs.Turns.{second_is, no_second}
-use borrow.Author.Rules.{rules}
 use Rattle.reader_line.proofs.second_of.Goals as goal
 
 pub returns-in-Cb : goal.returns-in-Cb

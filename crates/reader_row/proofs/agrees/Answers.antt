@@ -1,7 +1,6 @@
 use Rattle.layout.specs.Layouts.{size_of}
 use Rattle.text_lines.specs.Places.{column_in}
 use Rattle.reader_row.proofs.Fields.{fields_fit, fields_other, bands_other, bands_last}
-use borrow.Author.Rules.{rules}
 use Rattle.reader_row.proofs.agrees.Goals as goal
 
 pub returns-in_default : goal.returns-in_default

@@ -1,5 +1,4 @@
 use Rattle.reader_row.proofs.Fields.{no_bands, six_fields, some_bands}
-use borrow.Author.Rules.{rules}
 use lib.Dec.{lit≤}
 use mathlib.Core.Path.{refl}
 use Rattle.reader_row.proofs.skip_bands.Goals as goal

@@ -1,8 +1,7 @@
-use Prim.Native.Nat.{◌-◌, ◌≤◌}
+use Prim.Native.Nat.{◌≤◌}
 use Rattle.layout.proofs.Labels.{some_fields}
 use Rattle.layout.specs.Layouts.{size_of}
-use Rattle.reader_row.proofs.Fields.{Rest, first_on, first_no, field_some, field_in, field_few, later_on, later_no, all_on}
-use borrow.Author.Rules.{rules}
+use Rattle.reader_row.proofs.Fields.{first_on, first_no, field_some, field_in, field_few, later_on, later_no, all_on}
 use lib.Dec.{lit≤}
 use native.Mathlib.Omega.{arith}
 use Rattle.reader_row.proofs.skip_fields.Goals as goal

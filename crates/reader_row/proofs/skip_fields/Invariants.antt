@@ -1,10 +1,5 @@
-use Prim.Native.Nat.{◌-◌, ◌≤◌}
-use Rattle.layout.proofs.Labels.{some_fields}
-use Rattle.layout.specs.Layouts.{size_of}
-use Rattle.reader_row.proofs.Fields.{Rest, first_on, first_no, field_some, field_in, field_few, later_on, later_no, all_on}
-use borrow.Author.Rules.{rules}
-use lib.Dec.{lit≤}
-use native.Mathlib.Omega.{arith}
+use Prim.Native.Nat.{◌-◌}
+use Rattle.reader_row.proofs.Fields.{Rest}
 use Rattle.reader_row.proofs.skip_fields.Given as goal
 
 -- The first field, and then each with a `;` before it: what is left to compare grows shorter.

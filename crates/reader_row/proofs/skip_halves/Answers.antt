@@ -3,7 +3,6 @@ use Rattle.reader_row.proofs.Halves.{cut_fits, half_fits, half_no, both_on, one_
 use Rattle.text.specs.Bytes.{part, trim}
 use Rattle.text_lines.proofs.Leaves.{span_holds}
 use Rattle.text_lines.specs.Places.{HoldsText}
-use borrow.Author.Rules.{rules}
 use native.Mathlib.Omega.{arith}
 use Rattle.reader_row.proofs.skip_halves.Goals as goal
 

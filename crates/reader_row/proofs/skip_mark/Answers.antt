@@ -1,6 +1,5 @@
 use Prim.Native.Nat.{◌<◌}
 use Rattle.reader_row.proofs.Pieces.{mark_end, mark_other, mark_on}
-use borrow.Author.Rules.{rules}
 use native.Mathlib.Omega.{arith}
 use Rattle.reader_row.proofs.skip_mark.Goals as goal
 

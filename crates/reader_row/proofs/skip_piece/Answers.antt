@@ -1,6 +1,4 @@
 use Rattle.reader_row.proofs.Pieces.{piece_differs, piece_passed}
-use borrow.Author.Rules.{rules}
-use borrow.Author.Tests.{not-true, not-false}
 use mathlib.Core.Path.{sym, ◌∙◌}
 use Rattle.reader_row.proofs.skip_piece.Goals as goal
 

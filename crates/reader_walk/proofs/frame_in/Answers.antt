@@ -1,6 +1,5 @@
 use Rattle.reader_walk.proofs.Marking.{frame_row, frame_out}
 use Rattle.reader_walk.specs.State.{frame_of}
-use borrow.Author.Rules.{rules}
 use Rattle.reader_walk.proofs.frame_in.Goals as goal
 
 pub returns-then-separator : goal.returns-then-separator

@@ -1,4 +1,3 @@
-use borrow.Author.Rules.{rules}
 use Rattle.reader_walk.proofs.handed.Goals as goal
 
 pub returns-then-stopped : goal.returns-then-stopped

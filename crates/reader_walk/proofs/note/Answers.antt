@@ -1,5 +1,4 @@
 use Rattle.reader_walk.proofs.Marking.{note_none, note_again, note_new, note_fits}
-use borrow.Author.Rules.{rules}
 use Rattle.reader_walk.proofs.note.Goals as goal
 
 -- The cases of `noted_of`, one a return.

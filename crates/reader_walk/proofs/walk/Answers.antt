@@ -1,11 +1,10 @@
-use Prim.Native.Nat.{◌+◌, ◌-◌, ◌≤◌}
+use Prim.Native.Nat.{◌+◌, ◌≤◌}
 use Rattle.reader_walk.proofs.Line.{first_le, second_le, kept_le}
-use Rattle.reader_walk.proofs.Walking.{Sofar, begin, item_is, end_is, first_small, second_small, end_near, finish, past_near, turned, stop, shorter}
+use Rattle.reader_walk.proofs.Walking.{begin, item_is, end_is, first_small, second_small, end_near, finish, past_near, turned, stop, shorter}
 use Rattle.reader_accent.proofs.Table.{accents_good}
 use Rattle.reader_accent.specs.Accents.{accents_of}
 use Rattle.text_lines.specs.Places.{line_run}
-use borrow.Author.Rules.{rules}
-use lib.ListN.{length, drop}
+use lib.ListN.{drop}
 use mathlib.Core.Path.{◌≡◌, sym, ◌∙◌}
 use native.Mathlib.Omega.{arith}
 use Rattle.reader_walk.proofs.walk.Goals as goal
@@ -86,9 +85,9 @@ overflow_add-at c =
 pub returns : goal.returns
 returns c =
     elim c.loop-at-test.branch [
-      else-loop-at-test x ↦ finish _ _ _ _ _ _ _ _ c.loop-at.invariant x.loop-at-test.false _ x.at-is c.handed.ensures
-    | then-loop-at-test+in_default x ↦
-        let end = end_is _ _ _ _ _ x.line_of-item.ensures in
-        let bad = sym x.in_default.is ∙ x.break_at.ensures in
-        stop _ _ _ _ _ _ _ _ c.loop-at.invariant _ x.loop-at-test.true end bad _ x.at-is c.handed.ensures
+      | else-loop-at-test x ↦ finish _ _ _ _ _ _ _ _ c.loop-at.invariant x.loop-at-test.false _ x.at-is c.handed.ensures
+      | then-loop-at-test+in_default x ↦
+          let end = end_is _ _ _ _ _ x.line_of-item.ensures in
+          let bad = sym x.in_default.is ∙ x.break_at.ensures in
+          stop _ _ _ _ _ _ _ _ c.loop-at.invariant _ x.loop-at-test.true end bad _ x.at-is c.handed.ensures
     ]

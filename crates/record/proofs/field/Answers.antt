@@ -1,5 +1,4 @@
 use Rattle.record.proofs.Fields.{field_at}
-use borrow.Author.Rules.{rules}
 use mathlib.Core.Path.{sym}
 use Rattle.record.proofs.field.Goals as goal
 

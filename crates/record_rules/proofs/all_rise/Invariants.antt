@@ -1,12 +1,8 @@
-use Prim.Native.Nat.{◌-◌, ◌≤◌, ◌<◌}
-use Rattle.text.proofs.Cuts.{front_here, front_on, front_done, front_end}
+use Prim.Native.Nat.{◌-◌, ◌≤◌}
 use Rattle.record_rules.specs.Rules.{rises}
 use Rattle.text.specs.Bytes.{all}
-use borrow.Author.Rules.{rules}
-use borrow.Author.Tests.{not-true, not-false}
 use lib.ListN.{length, take, drop}
-use mathlib.Core.Path.{◌≡◌, refl, sym, ◌∙◌}
-use native.Mathlib.Omega.{arith}
+use mathlib.Core.Path.{◌≡◌}
 use Rattle.record_rules.proofs.all_rise.Given as goal
 
 -- Whether the first n rise is whether those that are left of them do.

@@ -1,5 +1,4 @@
 use mathlib.Core.Path.{sym, ◌∙◌}
-use borrow.Author.Rules.{rules}
 use Rattle.record_rules.proofs.banded.Goals as goal
 
 pub returns : goal.returns

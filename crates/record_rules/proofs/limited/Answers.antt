@@ -1,5 +1,4 @@
 use mathlib.Core.Path.{sym, ◌∙◌}
-use borrow.Author.Rules.{rules}
 use Rattle.record_rules.proofs.limited.Goals as goal
 
 pub returns-then-says : goal.returns-then-says

@@ -1,5 +1,4 @@
 use Rattle.record_rules.proofs.Steps.{by_market, in_ramps, in_exclusion, in_limitation, in_secondary, by_volt_var, in_reserve, in_others}
-use borrow.Author.Rules.{rules}
 use Rattle.record_rules.proofs.lowest_of.Goals as goal
 
 pub returns-in-Market : goal.returns-in-Market

@@ -1,6 +1,5 @@
 use Rattle.layout.specs.declared.Layout.TheVariants.{Market}
 use Rattle.record_rules.proofs.Steps.{in_market}
-use borrow.Author.Rules.{rules}
 use mathlib.Core.Path.{refl}
 use Rattle.record_rules.proofs.lowest_of_market.Goals as goal
 

@@ -1,6 +1,5 @@
 use Rattle.layout.specs.declared.Layout.TheVariants.{VoltVar}
 use Rattle.record_rules.proofs.Steps.{in_volt_var}
-use borrow.Author.Rules.{rules}
 use mathlib.Core.Path.{refl}
 use Rattle.record_rules.proofs.lowest_of_volt_var.Goals as goal
 

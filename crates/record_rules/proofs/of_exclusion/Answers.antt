@@ -1,5 +1,4 @@
 use Rattle.record_rules.proofs.Steps.{then_rule}
-use borrow.Author.Rules.{rules}
 use Rattle.record_rules.proofs.of_exclusion.Goals as goal
 
 pub returns : goal.returns

@@ -1,6 +1,5 @@
 use Rattle.record_rules.proofs.Steps.{broken_here, holds_on, lowest_none}
 use mathlib.Core.Path.{◌∙◌}
-use borrow.Author.Rules.{rules}
 use mathlib.Core.Bool.{not}
 use mathlib.Core.Path.{ap}
 use Rattle.record_rules.proofs.of_market.Goals as goal

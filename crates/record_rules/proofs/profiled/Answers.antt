@@ -1,4 +1,3 @@
-use borrow.Author.Rules.{rules}
 use Rattle.record_rules.proofs.profiled.Goals as goal
 
 pub returns : goal.returns

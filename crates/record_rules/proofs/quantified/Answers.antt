@@ -1,7 +1,6 @@
 use Rattle.record_rules.proofs.Steps.{same_iff}
 use mathlib.Core.Bool.{not}
 use mathlib.Core.Path.{ap}
-use borrow.Author.Rules.{rules}
 use Rattle.record_rules.proofs.quantified.Goals as goal
 
 pub returns : goal.returns

@@ -1,5 +1,4 @@
 use Rattle.record_rules.proofs.Steps.{same_iff}
-use borrow.Author.Rules.{rules}
 use Rattle.record_rules.proofs.updated.Goals as goal
 
 pub returns : goal.returns

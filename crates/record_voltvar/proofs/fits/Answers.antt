@@ -1,5 +1,4 @@
 use Rattle.record_voltvar.specs.Table.{meets}
-use borrow.Author.Rules.{rules}
 use Rattle.record_voltvar.proofs.fits.Goals as goal
 
 pub returns : goal.returns

@@ -1,5 +1,4 @@
 use Rattle.record_voltvar.proofs.Steps.{form_blank, form_number, form_word}
-use borrow.Author.Rules.{rules}
 use mathlib.Core.Bool.{not}
 use mathlib.Core.Path.{ap}
 use Rattle.record_voltvar.proofs.form_of.Goals as goal

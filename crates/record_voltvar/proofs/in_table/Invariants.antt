@@ -1,12 +1,8 @@
-use Prim.Native.Nat.{◌-◌, ◌≤◌, ◌<◌}
-use Rattle.record_voltvar.proofs.Steps.{any_here, any_on, any_end}
-use Rattle.record_voltvar.specs.Table.{line, table, meets, in_table}
+use Prim.Native.Nat.{◌-◌, ◌≤◌}
+use Rattle.record_voltvar.specs.Table.{table, meets}
 use Rattle.text.specs.Bytes.{any}
-use borrow.Author.Rules.{rules}
-use lib.ListN.{length, get_or, drop}
-use mathlib.Core.Bool.{true, false}
-use mathlib.Core.Path.{◌≡◌, refl, sym, ap, ◌∙◌}
-use native.Mathlib.Omega.{arith}
+use lib.ListN.{drop}
+use mathlib.Core.Path.{◌≡◌}
 use Rattle.record_voltvar.proofs.in_table.Given as goal
 
 -- Whether a row fits is whether one of those that are left does.

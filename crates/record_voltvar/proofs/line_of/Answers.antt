@@ -1,4 +1,3 @@
-use borrow.Author.Rules.{rules}
 use Rattle.record_voltvar.proofs.line_of.Goals as goal
 
 pub returns : goal.returns

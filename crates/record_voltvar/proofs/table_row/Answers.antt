@@ -1,6 +1,5 @@
 use Rattle.record_voltvar.proofs.Steps.{row_at, row_last}
 use Rattle.record_voltvar.specs.Table.{table}
-use borrow.Author.Rules.{rules}
 use mathlib.Core.Path.{◌∙◌}
 use Rattle.record_voltvar.proofs.table_row.Goals as goal
 

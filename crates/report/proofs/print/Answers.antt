@@ -1,5 +1,4 @@
 use Rattle.report.proofs.Hearing.{print_put}
-use borrow.Author.Rules.{rules}
 use Rattle.report.proofs.print.Goals as goal
 
 pub returns : goal.returns

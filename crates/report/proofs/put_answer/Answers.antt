@@ -2,7 +2,6 @@ use Rattle.report.proofs.Fields.{record_is, refusal_is}
 use Rattle.report_brief.proofs.Puts.{same_text}
 use Rattle.report_brief.specs.Brief.{six_lines}
 use Rattle.report.specs.Report.{two_lines, report_of}
-use borrow.Author.Rules.{rules}
 use Rattle.report.proofs.put_answer.Goals as goal
 
 pub returns-then-a-eq0 : goal.returns-then-a-eq0

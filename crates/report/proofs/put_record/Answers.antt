@@ -1,6 +1,5 @@
 use Rattle.report_brief.proofs.Puts.{same_text}
 use Rattle.report_brief.specs.Brief.{brief_of, six_of}
-use borrow.Author.Rules.{rules}
 use mathlib.Core.Path.{ap}
 use Rattle.report.proofs.put_record.Goals as goal
 

@@ -1,5 +1,4 @@
 use Rattle.report_brief.proofs.Fields.{told_is}
-use borrow.Author.Rules.{rules}
 use Rattle.report_brief.proofs.of_reading.Goals as goal
 
 pub returns : goal.returns

@@ -1,6 +1,5 @@
 use Rattle.report_brief.proofs.Puts.{instant_put, blank_put}
 use mathlib.Core.Path.{sym, ◌∙◌}
-use borrow.Author.Rules.{rules}
 use Rattle.report_brief.proofs.put_instant.Goals as goal
 
 pub returns-then-is_filled : goal.returns-then-is_filled

@@ -4,7 +4,7 @@ use Rattle.text_keyline.proofs.Putting.{line_length}
 use Rattle.report_brief.proofs.Sizes.{head_length, unit_length, instant_length}
 use Rattle.text.specs.Bytes.{bytes}
 use lib.ListN.{length}
-use mathlib.Core.Path.{◌≡◌, ap, ◌∙◌}
+use mathlib.Core.Path.{◌≡◌, ap}
 use native.Mathlib.Omega.{arith}
 use borrow.Author.Rules.{rules}
 use Rattle.report_brief.proofs.put_lines.Goals as goal

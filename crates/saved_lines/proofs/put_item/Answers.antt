@@ -1,6 +1,4 @@
-use Prim.Native.Nat.{◌-◌}
-use Rattle.saved_lines.proofs.Putting.{Put, none_put, put_place, put_one, all_put, same_room}
-use Rattle.saved_lines.specs.Tables.{next_of}
+use Rattle.saved_lines.proofs.Putting.{none_put, put_place, put_one, all_put, same_room}
 use borrow.Author.Rules.{rules}
 use lib.ListN.{length}
 use mathlib.Core.Path.{◌≡◌}

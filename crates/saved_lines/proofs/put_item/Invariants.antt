@@ -1,10 +1,6 @@
 use Prim.Native.Nat.{◌-◌}
-use Rattle.saved_lines.proofs.Putting.{Put, none_put, put_place, put_one, all_put, same_room}
+use Rattle.saved_lines.proofs.Putting.{Put}
 use Rattle.saved_lines.specs.Tables.{next_of}
-use borrow.Author.Rules.{rules}
-use lib.ListN.{length}
-use mathlib.Core.Path.{◌≡◌}
-use native.Mathlib.Omega.{arith}
 use Rattle.saved_lines.proofs.put_item.Given as goal
 
 -- One loop over the lines: what is put so far is the text of the values so far.

@@ -1,7 +1,6 @@
 use Rattle.text_keyline.proofs.Values.{below_at}
 use Rattle.text.proofs.Cuts.{upto_length}
 use Rattle.text.specs.Bytes.{is}
-use borrow.Author.Rules.{rules}
 use native.Mathlib.Omega.{arith}
 use Rattle.text_keyline.proofs.below.Goals as goal
 

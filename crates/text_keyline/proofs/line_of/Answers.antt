@@ -1,6 +1,4 @@
 use Rattle.text_keyline.proofs.Values.{other_key, no_end, ends_at}
-use borrow.Author.Rules.{rules}
-use borrow.Author.Tests.{not-true, not-false}
 use Rattle.text_keyline.proofs.line_of.Goals as goal
 
 pub returns-then-not-starts : goal.returns-then-not-starts

@@ -1,5 +1,4 @@
 use Rattle.text_keyline.proofs.Values.{no_line, line_number}
-use borrow.Author.Rules.{rules}
 use Rattle.text_keyline.proofs.number.Goals as goal
 
 pub returns-in_default : goal.returns-in_default

@@ -1,5 +1,4 @@
 use Rattle.text_keyline.proofs.Putting.{line_put}
-use borrow.Author.Rules.{rules}
 use Rattle.text_keyline.proofs.put_line.Goals as goal
 
 pub returns : goal.returns

@@ -1,8 +1,6 @@
 use Rattle.text_keyline.proofs.Lines.{unit_key, unit_open, unit_inside, unit_not, unit_is}
 use Rattle.text.proofs.Cuts.{starts_length}
 use Rattle.text.specs.Bytes.{bytes}
-use borrow.Author.Rules.{rules}
-use borrow.Author.Tests.{not-true, not-false}
 use mathlib.Core.Path.{sym, ◌∙◌}
 use Rattle.text_keyline.proofs.unit_line.Goals as goal
 

@@ -1,5 +1,4 @@
 use Rattle.text_keyline.proofs.Values.{value_at}
-use borrow.Author.Rules.{rules}
 use Rattle.text_keyline.proofs.value.Goals as goal
 
 pub returns : goal.returns

@@ -1,5 +1,4 @@
 use Rattle.text_keyline.proofs.Values.{no_whole, whole_in_lem, whole_out}
-use borrow.Author.Rules.{rules}
 use Rattle.text_keyline.proofs.whole.Goals as goal
 
 pub returns-in_default : goal.returns-in_default

@@ -1,5 +1,4 @@
 use Rattle.text_lines.proofs.Leaves.{break_end, break_line, break_alone, break_pair, break_bad}
-use borrow.Author.Rules.{rules}
 use Rattle.text_lines.proofs.break_at.Goals as goal
 
 -- The answers of `break_of`, one a return.

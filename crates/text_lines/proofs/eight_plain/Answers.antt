@@ -1,6 +1,5 @@
 use Rattle.text.proofs.Cuts.{all_eight}
 use Rattle.text.specs.Bytes.{is_plain}
-use borrow.Author.Rules.{rules}
 use Rattle.text_lines.proofs.eight_plain.Goals as goal
 
 pub returns : goal.returns

@@ -1,11 +1,8 @@
-use Prim.Native.Nat.{◌-◌, ◌≤◌}
 use Rattle.text_lines.proofs.Leaves.{sep_short, sep_other, sep_long}
 use Rattle.text.proofs.Cuts.{all_here, all_on, all_end}
-use Rattle.text.specs.Bytes.{all, is}
-use borrow.Author.Rules.{rules}
+use Rattle.text.specs.Bytes.{is}
 use borrow.Author.Tests.{eq-eqb, ne_eqb}
-use lib.ListN.{length, drop}
-use mathlib.Core.Path.{◌≡◌, ◌∙◌}
+use mathlib.Core.Path.{◌∙◌}
 use native.Mathlib.Omega.{arith}
 use Rattle.text_lines.proofs.is_separator.Goals as goal
 

@@ -1,12 +1,7 @@
 use Prim.Native.Nat.{◌-◌, ◌≤◌}
-use Rattle.text_lines.proofs.Leaves.{sep_short, sep_other, sep_long}
-use Rattle.text.proofs.Cuts.{all_here, all_on, all_end}
 use Rattle.text.specs.Bytes.{all, is}
-use borrow.Author.Rules.{rules}
-use borrow.Author.Tests.{eq-eqb, ne_eqb}
 use lib.ListN.{length, drop}
-use mathlib.Core.Path.{◌≡◌, ◌∙◌}
-use native.Mathlib.Omega.{arith}
+use mathlib.Core.Path.{◌≡◌}
 use Rattle.text_lines.proofs.is_separator.Given as goal
 
 -- The whole is '+' where the rest is.

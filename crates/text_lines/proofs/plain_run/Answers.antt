@@ -1,10 +1,5 @@
-use Prim.Native.Nat.{◌+◌, ◌-◌, ◌≤◌}
 use Rattle.text_lines.proofs.Leaves.{plain_here, plain_on, plain_over, plain_end}
-use Rattle.text_lines.specs.Places.{plain_run}
-use borrow.Author.Rules.{rules}
-use borrow.Author.Tests.{not-true, not-false}
-use lib.ListN.{length, drop}
-use mathlib.Core.Path.{◌≡◌, sym, ◌∙◌}
+use mathlib.Core.Path.{sym, ◌∙◌}
 use native.Mathlib.Omega.{arith}
 use Rattle.text_lines.proofs.plain_run.Goals as goal
 

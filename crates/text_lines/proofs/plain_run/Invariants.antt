@@ -1,11 +1,7 @@
 use Prim.Native.Nat.{◌+◌, ◌-◌, ◌≤◌}
-use Rattle.text_lines.proofs.Leaves.{plain_here, plain_on, plain_over, plain_end}
 use Rattle.text_lines.specs.Places.{plain_run}
-use borrow.Author.Rules.{rules}
-use borrow.Author.Tests.{not-true, not-false}
 use lib.ListN.{length, drop}
-use mathlib.Core.Path.{◌≡◌, sym, ◌∙◌}
-use native.Mathlib.Omega.{arith}
+use mathlib.Core.Path.{◌≡◌}
 use Rattle.text_lines.proofs.plain_run.Given as goal
 
 -- The run in the whole is i and the run in the rest.

@@ -1,6 +1,5 @@
 use Prim.Native.Nat.{◌+◌, ◌≤◌}
 use Rattle.text_lines.proofs.Leaves.{trim_fits, trimmed_is}
-use borrow.Author.Rules.{rules}
 use native.Mathlib.Omega.{arith}
 use Rattle.text_lines.proofs.trim_span.Goals as goal
 

@@ -1,5 +1,4 @@
 use Rattle.text_room.proofs.Kept.{not_kept, is_kept}
-use borrow.Author.Rules.{rules}
 use Rattle.text_room.proofs.keep_note.Goals as goal
 
 -- Zeros, or the text put into zeros.

@@ -1,6 +1,5 @@
 use Rattle.text.proofs.Cuts.{upto_length}
 use Rattle.text.specs.Bytes.{is}
-use borrow.Author.Rules.{rules}
 use native.Mathlib.Omega.{arith}
 use Rattle.times_sheet.proofs.after_key.Goals as goal
 

@@ -1,5 +1,4 @@
 use Rattle.times_sheet.proofs.Sheets.{other_unit, no_start_up, no_ramp, good_sheet}
-use borrow.Author.Rules.{rules}
 use borrow.Author.Tests.{not-true, not-false}
 use Rattle.times_sheet.proofs.is_for.Goals as goal
 

@@ -1,5 +1,4 @@
 use Rattle.times_sheet.proofs.Sheets.{number_yes, number_no}
-use borrow.Author.Rules.{rules}
 use Rattle.times_sheet.proofs.is_number.Goals as goal
 
 pub returns-in-Is : goal.returns-in-Is

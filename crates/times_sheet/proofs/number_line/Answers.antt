@@ -1,5 +1,4 @@
 use Rattle.times_sheet.proofs.Sheets.{no_number_line, number_line_lem}
-use borrow.Author.Rules.{rules}
 use Rattle.times_sheet.proofs.number_line.Goals as goal
 
 pub returns-in_default : goal.returns-in_default

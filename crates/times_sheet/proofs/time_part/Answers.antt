@@ -1,5 +1,4 @@
 use Rattle.times_sheet.proofs.Sheets.{start_up_room, ramp_room, start_up_at, ramp_at}
-use borrow.Author.Rules.{rules}
 use Rattle.times_sheet.proofs.time_part.Goals as goal
 
 pub after_key-requires : goal.after_key-requires

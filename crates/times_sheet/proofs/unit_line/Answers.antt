@@ -1,5 +1,4 @@
 use Rattle.times_sheet.proofs.Sheets.{no_unit_line, unit_line_lem}
-use borrow.Author.Rules.{rules}
 use Rattle.times_sheet.proofs.unit_line.Goals as goal
 
 -- LOST slice-aggregate-line-of

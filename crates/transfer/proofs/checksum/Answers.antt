@@ -1,7 +1,5 @@
-use Prim.Native.Nat.{◌-◌, ◌≤◌}
-use Rattle.transfer.proofs.Sums.{Summing, sum_begins, sum_goes, sum_ends}
+use Rattle.transfer.proofs.Sums.{sum_begins, sum_goes, sum_ends}
 use borrow.Author.Rules.{rules}
-use lib.ListN.{length}
 use mathlib.Core.Path.{refl}
 use native.Mathlib.Omega.{arith}
 use Rattle.transfer.proofs.checksum.Goals as goal

@@ -1,9 +1,6 @@
 use Prim.Native.Nat.{◌-◌, ◌≤◌}
-use Rattle.transfer.proofs.Sums.{Summing, sum_begins, sum_goes, sum_ends}
-use borrow.Author.Rules.{rules}
+use Rattle.transfer.proofs.Sums.{Summing}
 use lib.ListN.{length}
-use mathlib.Core.Path.{refl}
-use native.Mathlib.Omega.{arith}
 use Rattle.transfer.proofs.checksum.Given as goal
 
 -- What is summed so far, with what is left, gives the whole sum.

@@ -1,4 +1,3 @@
-use borrow.Author.Rules.{rules}
 use Rattle.transfer.proofs.dropped.Goals as goal
 
 pub returns : goal.returns

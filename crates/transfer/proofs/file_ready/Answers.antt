@@ -1,5 +1,4 @@
 use Rattle.transfer.proofs.Turns.{out_of_turn, too_long_lem, not_refused, file_begins}
-use borrow.Author.Rules.{rules}
 use borrow.Author.Tests.{lt-ltb, le-ltb}
 use mathlib.Core.Path.{refl}
 use mathlib.Core.Bool.{not}

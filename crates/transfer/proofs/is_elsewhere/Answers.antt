@@ -1,4 +1,3 @@
-use borrow.Author.Rules.{rules}
 use Rattle.transfer.proofs.is_elsewhere.Goals as goal
 
 pub returns : goal.returns

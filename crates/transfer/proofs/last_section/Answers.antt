@@ -1,8 +1,6 @@
 use Rattle.transfer_unit.specs.declared.Told.TheVariants.{LastSection}
-use Rattle.transfer_unit.specs.declared.Told.{Told}
 use Rattle.transfer.proofs.Turns.{out_of_turn, not_summed, not_met, too_long_lem, not_refused, agrees, differs, file_ends, file_sum}
 use Rattle.transfer.specs.Collect.{in_turn, checksum, summed}
-use borrow.Author.Rules.{rules}
 use borrow.Author.Tests.{lt-ltb, le-ltb, eq-eqb, ne_eqb}
 use lib.Dec.{eqb, ltb}
 use lib.ListN.{take}

@@ -1,16 +1,12 @@
-use Prim.Native.Nat.{ℕ, ◌+◌, ◌<◌}
+use Prim.Native.Nat.{◌+◌, ◌<◌}
 use Rattle.text.specs.Bytes.{part}
 use Rattle.transfer_unit.specs.declared.Told.TheVariants.{LastSegment}
-use Rattle.transfer_unit.specs.declared.Told.{Told}
 use Rattle.transfer.proofs.Turns.{out_of_turn, not_summed, not_met, too_long_lem, not_refused, agrees, differs, last_told, section_ends, section_sum}
 use Rattle.transfer.specs.Collect.{in_turn, checksum, summed}
-use borrow.Author.Rules.{rules}
 use borrow.Author.Tests.{lt-ltb, le-ltb, eq-eqb, ne_eqb}
 use lib.Dec.{ltb}
 use mathlib.Core.Bool.{Bool, ◌&&◌, true}
-use mathlib.Core.List.{List}
 use mathlib.Core.Path.{◌≡◌, ap₂}
-use native.Mathlib.Omega.{arith}
 use mathlib.Core.Bool.{not}
 use mathlib.Core.Path.{ap}
 use Rattle.transfer.proofs.last_segment.Goals as goal

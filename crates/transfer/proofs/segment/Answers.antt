@@ -1,7 +1,6 @@
 use Rattle.transfer_unit.specs.declared.Told.TheVariants.{Segment}
 use Rattle.transfer.proofs.Turns.{out_of_turn, too_long_lem, not_refused, octets_put}
 use Rattle.transfer.specs.Collect.{in_turn}
-use borrow.Author.Rules.{rules}
 use borrow.Author.Tests.{lt-ltb, le-ltb}
 use mathlib.Core.Bool.{◌&&◌}
 use mathlib.Core.Path.{◌≡◌, refl, ap₂}

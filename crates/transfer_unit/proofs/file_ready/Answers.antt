@@ -1,5 +1,4 @@
 use Rattle.transfer_unit.proofs.Ways.{file_is, file_not}
-use borrow.Author.Rules.{rules}
 use Rattle.transfer_unit.proofs.file_ready.Goals as goal
 
 pub returns-then-s-octet : goal.returns-then-s-octet

@@ -1,5 +1,4 @@
 use Rattle.transfer_unit.specs.Units.{is_ours}
-use borrow.Author.Rules.{rules}
 use Rattle.transfer_unit.proofs.is_ours.Goals as goal
 
 pub returns : goal.returns

@@ -1,5 +1,4 @@
 use Rattle.transfer_unit.proofs.Ways.{last_length, last_segment, last_section, last_other}
-use borrow.Author.Rules.{rules}
 use Rattle.transfer_unit.proofs.last.Goals as goal
 
 -- Another length, the two qualifiers, or another. (q is the place where the qualifier was read.)

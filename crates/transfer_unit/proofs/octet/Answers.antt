@@ -1,5 +1,4 @@
 use Rattle.transfer_unit.proofs.Ways.{octet_none, octet_some}
-use borrow.Author.Rules.{rules}
 use Rattle.transfer_unit.proofs.octet.Goals as goal
 
 pub returns-then-s-k : goal.returns-then-s-k

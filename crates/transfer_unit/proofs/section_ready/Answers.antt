@@ -1,5 +1,4 @@
 use Rattle.transfer_unit.proofs.Ways.{section_is, section_not}
-use borrow.Author.Rules.{rules}
 use Rattle.transfer_unit.proofs.section_ready.Goals as goal
 
 pub returns-then-s-octet : goal.returns-then-s-octet

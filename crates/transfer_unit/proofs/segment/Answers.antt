@@ -1,5 +1,4 @@
 use Rattle.transfer_unit.proofs.Ways.{segment_is, segment_not}
-use borrow.Author.Rules.{rules}
 use Rattle.transfer_unit.proofs.segment.Goals as goal
 
 pub returns-then-n-s : goal.returns-then-n-s

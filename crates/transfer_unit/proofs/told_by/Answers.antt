@@ -1,6 +1,4 @@
 use Rattle.transfer_unit.proofs.Ways.{not_ours, is_file, is_section, is_last, is_segment, is_none}
-use borrow.Author.Rules.{rules}
-use borrow.Author.Tests.{not-true, not-false}
 use Rattle.transfer_unit.proofs.told_by.Goals as goal
 
 pub returns-then-not-is_ours : goal.returns-then-not-is_ours

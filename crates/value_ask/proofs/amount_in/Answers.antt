@@ -1,5 +1,3 @@
-use Rattle.value_ask.proofs.Others.{amount_other}
-use borrow.Author.Rules.{rules}
 use mir.Syntax.{w32}
 use mir.ValLaws.{to_z-of_z}
 use Rattle.value_ask.proofs.amount_in.Goals as goal

@@ -1,5 +1,3 @@
-use Rattle.value_ask.proofs.Others.{instant_other}
-use borrow.Author.Rules.{rules}
 use Rattle.value_ask.proofs.instant_in.Goals as goal
 
 pub returns-in-When : goal.returns-in-When

@@ -1,5 +1,4 @@
-use Rattle.value_ask.proofs.Others.{filled_blank, filled_other}
-use borrow.Author.Rules.{rules}
+use Rattle.value_ask.proofs.Others.{filled_blank}
 use Rattle.value_ask.proofs.is_filled.Goals as goal
 
 pub returns-in-Blank : goal.returns-in-Blank

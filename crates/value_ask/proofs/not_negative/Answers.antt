@@ -1,5 +1,3 @@
-use Rattle.value_ask.proofs.Others.{negative_other}
-use borrow.Author.Rules.{rules}
 use Rattle.value_ask.proofs.not_negative.Goals as goal
 
 pub returns-in-List : goal.returns-in-List

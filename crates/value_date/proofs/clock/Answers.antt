@@ -1,5 +1,4 @@
 use Rattle.value_date.specs.Date.{passed, clock_of}
-use borrow.Author.Rules.{rules}
 use Rattle.value_date.proofs.clock.Goals as goal
 
 pub returns : goal.returns

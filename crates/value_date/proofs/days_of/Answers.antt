@@ -1,5 +1,4 @@
 use Rattle.value_date.proofs.Laws.{days_sum}
-use borrow.Author.Rules.{rules}
 use native.Mathlib.Omega.{arith}
 use Rattle.value_date.proofs.days_of.Goals as goal
 

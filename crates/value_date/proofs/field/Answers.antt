@@ -1,5 +1,4 @@
 use Rattle.value_date.proofs.Laws.{field_read, field_refused}
-use borrow.Author.Rules.{rules}
 use lib.Dec.{lit<}
 use native.Mathlib.Nat.{pow-le-pow_right}
 use native.Mathlib.Omega.{arith}

@@ -1,6 +1,5 @@
 use Rattle.value_date.proofs.Laws.{shape_length, shape_asks}
 use Rattle.value_date.specs.Date.{date_shape, date_parts}
-use borrow.Author.Rules.{rules}
 use lib.Dec.{lit≤}
 use mathlib.Core.Path.{refl}
 use native.Mathlib.Omega.{arith}

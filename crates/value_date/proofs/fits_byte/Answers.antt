@@ -1,5 +1,4 @@
 use Rattle.value_date.proofs.Laws.{fits_digit, fits_letter, fits_self}
-use borrow.Author.Rules.{rules}
 use mathlib.Core.Path.{◌∙◌}
 use Rattle.value_date.proofs.fits_byte.Goals as goal
 

@@ -1,9 +1,6 @@
-use Prim.Native.Nat.{◌-◌, ◌≤◌}
 use Rattle.value_date.proofs.Laws.{shape_differs, shape_on, shape_off, shape_end}
-use Rattle.value_date.specs.Date.{fits_byte, shaped}
-use borrow.Author.Rules.{rules}
-use borrow.Author.Tests.{not-true, not-false}
-use lib.ListN.{length, get_or, drop}
+use Rattle.value_date.specs.Date.{fits_byte}
+use lib.ListN.{get_or}
 use mathlib.Core.Bool.{true, false}
 use mathlib.Core.Path.{◌≡◌, refl, sym, ◌∙◌}
 use native.Mathlib.Omega.{arith}

@@ -1,12 +1,7 @@
 use Prim.Native.Nat.{◌-◌, ◌≤◌}
-use Rattle.value_date.proofs.Laws.{shape_differs, shape_on, shape_off, shape_end}
-use Rattle.value_date.specs.Date.{fits_byte, shaped}
-use borrow.Author.Rules.{rules}
-use borrow.Author.Tests.{not-true, not-false}
-use lib.ListN.{length, get_or, drop}
-use mathlib.Core.Bool.{true, false}
-use mathlib.Core.Path.{◌≡◌, refl, sym, ◌∙◌}
-use native.Mathlib.Omega.{arith}
+use Rattle.value_date.specs.Date.{shaped}
+use lib.ListN.{length, drop}
+use mathlib.Core.Path.{◌≡◌}
 use Rattle.value_date.proofs.has_shape.Given as goal
 
 -- The bytes passed fit, so what follows decides.

@@ -1,5 +1,4 @@
 use Rattle.value_date.specs.Date.{instant_of}
-use borrow.Author.Rules.{rules}
 use Rattle.value_date.proofs.instant.Goals as goal
 
 pub returns : goal.returns

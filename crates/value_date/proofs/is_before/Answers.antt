@@ -1,4 +1,3 @@
-use borrow.Author.Rules.{rules}
 use Rattle.value_date.proofs.is_before.Goals as goal
 
 pub returns : goal.returns

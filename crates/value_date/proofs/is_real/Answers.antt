@@ -1,5 +1,4 @@
 use Rattle.value_date.specs.Date.{is_real}
-use borrow.Author.Rules.{rules}
 use Rattle.value_date.proofs.is_real.Goals as goal
 
 pub returns : goal.returns

@@ -1,7 +1,6 @@
 use Prim.Native.Nat.{◌^◌, ◌<◌}
 use Rattle.value_date.proofs.Laws.{field_read, field_refused}
 use Rattle.value_date.specs.Date.{field_at}
-use borrow.Author.Rules.{rules}
 use lib.Dec.{lit≤}
 use mathlib.Core.Path.{◌≡◌}
 use native.Mathlib.Omega.{arith}

@@ -1,5 +1,4 @@
 use Rattle.value_date.proofs.Laws.{letter_put}
-use borrow.Author.Rules.{rules}
 use Rattle.value_date.proofs.put_letter.Goals as goal
 
 pub returns : goal.returns

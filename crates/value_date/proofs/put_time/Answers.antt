@@ -1,5 +1,4 @@
 use Rattle.value_date.proofs.Laws.{time_put}
-use borrow.Author.Rules.{rules}
 use Rattle.value_date.proofs.put_time.Goals as goal
 
 pub returns : goal.returns

@@ -1,8 +1,6 @@
 use Rattle.value_date.proofs.Laws.{date_misshapen, date_unreal, date_is}
 use Rattle.value_date.specs.Date.{shaped, date_shape, is_real}
 use Rattle.value_date.specs.declared.Dated.TheVariants.{Is}
-use borrow.Author.Rules.{rules}
-use borrow.Author.Tests.{not-true, not-false}
 use mathlib.Core.Bool.{true}
 use mathlib.Core.Path.{◌≡◌, sym, ap, ◌∙◌}
 use Rattle.value_date.proofs.read.Goals as goal

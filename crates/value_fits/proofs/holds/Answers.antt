@@ -1,10 +1,6 @@
 use Rattle.value_fits.proofs.Blanks.{holds_blank, holds_filled}
 use Rattle.value.specs.Texts.{rooms}
-use borrow.Author.Rules.{rules}
-use borrow.Author.Tests.{not-true, not-false}
 use mathlib.Core.Path.{sym, ◌∙◌}
-use mathlib.Core.Bool.{not}
-use mathlib.Core.Path.{ap}
 use Rattle.value_fits.proofs.holds.Goals as goal
 
 pub returns-then-not-is_filled : goal.returns-then-not-is_filled

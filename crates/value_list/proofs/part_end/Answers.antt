@@ -1,7 +1,6 @@
 use Prim.Native.Nat.{ℕ, ◌+◌}
 use Rattle.text.proofs.Cuts.{tail, upto_length}
 use Rattle.text.specs.Bytes.{is, first_of}
-use borrow.Author.Rules.{rules}
 use lib.ListN.{length-drop, drop}
 use mathlib.Core.Path.{◌≡◌, ap}
 use native.Mathlib.Omega.{arith}

@@ -1,5 +1,4 @@
 use Rattle.value_name.specs.Types.{code_of}
-use borrow.Author.Rules.{rules}
 use mathlib.Core.Path.{sym, ap}
 use Rattle.value_name.proofs.code.Goals as goal
 

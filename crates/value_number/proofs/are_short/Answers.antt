@@ -1,12 +1,8 @@
-use Prim.Native.Nat.{ℕ, ◌+◌, ◌-◌, ◌≤◌}
+use Prim.Native.Nat.{◌+◌}
 use Rattle.value_number.proofs.Shorts.{short_end, short_blank, short_bad, short_on}
-use Rattle.value_number.specs.Number.{before_at, zero_fits, short_from, are_short}
-use borrow.Author.Rules.{rules}
-use borrow.Author.Tests.{not-true, not-false}
-use lib.ListN.{length, get_or, drop}
+use Rattle.value_number.specs.Number.{before_at, zero_fits, are_short}
+use lib.ListN.{get_or}
 use mathlib.Core.Bool.{true}
-use mathlib.Core.List.{List}
-use mathlib.Core.Logic.{⊎_elim}
 use mathlib.Core.Path.{◌≡◌, refl, sym, ◌∙◌}
 use native.Mathlib.Omega.{arith}
 use Rattle.value_number.proofs.are_short.Goals as goal
@@ -34,8 +30,8 @@ loop-i-preserved c =
     let s = c.args.s.now in
     let fits : get_or s l.i 0 ≡ 48 → zero_fits (before_at l.i s) l.fraction (get_or s (l.i + 1) 0) ≡ true =
     λ e. elim c.if-b-eq48.branch [
-      then-b-eq48+else-not-zero_fits w ↦ sym w.zero_fits.ensures ∙ w.if-not-zero_fits.false
-    | else-b-eq48 w ↦ absurd (w.if-b-eq48.false e)
+      | then-b-eq48+else-not-zero_fits w ↦ sym w.zero_fits.ensures ∙ w.if-not-zero_fits.false
+      | else-b-eq48 w ↦ absurd (w.if-b-eq48.false e)
     ] in
     (omega arith, l.invariant.1 ∙ short_on s l.i _ _ c.loop-i-test.true c.if-b-eq32.false fits)
 

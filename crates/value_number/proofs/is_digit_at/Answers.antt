@@ -1,5 +1,4 @@
 use Rattle.value_number.proofs.Shorts.{no_digit}
-use borrow.Author.Rules.{rules}
 use Rattle.value_number.proofs.is_digit_at.Goals as goal
 
 pub returns : goal.returns

@@ -1,4 +1,3 @@
-use borrow.Author.Rules.{rules}
 use Rattle.value_number.proofs.is_of_number.Goals as goal
 
 pub returns : goal.returns

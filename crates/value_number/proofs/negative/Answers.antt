@@ -1,5 +1,4 @@
 use Rattle.value_number.proofs.Signs.{negative_fits}
-use borrow.Author.Rules.{rules}
 use lib.IntN.{pos, neg_ℤ, ◌-ℤ◌, +ℤ_idl}
 use mathlib.Core.Path.{◌≡◌}
 use mir.Syntax.{w32}

@@ -1,10 +1,9 @@
-use Prim.Native.Nat.{◌-◌, ◌≤◌}
 use Rattle.value_number.proofs.Bodies.{blank_here, blank_end}
 use Rattle.text.proofs.Cuts.{skip_on}
-use Rattle.text.specs.Bytes.{skip, is_blank}
+use Rattle.text.specs.Bytes.{is_blank}
 use borrow.Author.Rules.{rules}
 use borrow.Author.Tests.{eq-eqb}
-use lib.ListN.{length, get_or, drop}
+use lib.ListN.{get_or}
 use mathlib.Core.Path.{◌≡◌, refl, ◌∙◌}
 use native.Mathlib.Omega.{arith}
 use Rattle.value_number.proofs.past_blanks.Goals as goal

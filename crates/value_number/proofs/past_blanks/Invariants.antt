@@ -1,12 +1,7 @@
 use Prim.Native.Nat.{◌-◌, ◌≤◌}
-use Rattle.value_number.proofs.Bodies.{blank_here, blank_end}
-use Rattle.text.proofs.Cuts.{skip_on}
 use Rattle.text.specs.Bytes.{skip, is_blank}
-use borrow.Author.Rules.{rules}
-use borrow.Author.Tests.{eq-eqb}
-use lib.ListN.{length, get_or, drop}
-use mathlib.Core.Path.{◌≡◌, refl, ◌∙◌}
-use native.Mathlib.Omega.{arith}
+use lib.ListN.{length, drop}
+use mathlib.Core.Path.{◌≡◌}
 use Rattle.value_number.proofs.past_blanks.Given as goal
 
 -- What stands before i and after the place is blank.

@@ -3,7 +3,6 @@ use Rattle.value_number.specs.Number.{decimals_text}
 use Rattle.text.proofs.Numerals.{length_text}
 use Rattle.text.proofs.Runs.{puts, puts_of, puts_none, then, same_puts}
 use Rattle.text.specs.Digits.{digits_text}
-use borrow.Author.Rules.{rules}
 use mathlib.Core.List.{[], ◌∷◌}
 use Rattle.value_number.proofs.put_decimals.Goals as goal
 

@@ -1,7 +1,6 @@
 use Rattle.value_number.proofs.Signs.{sign_minus, sign_none}
 use Rattle.value_number.specs.Number.{sign_text}
 use Rattle.text.proofs.Runs.{puts, puts_none, same_puts}
-use borrow.Author.Rules.{rules}
 use mathlib.Core.Path.{sym}
 use mir.Syntax.{w32}
 use mir.ValLaws.{to_z-of_z}

@@ -3,7 +3,6 @@ use Rattle.value_number.specs.Number.{unsigned_of, plus, minus}
 use Rattle.value_number.specs.declared.Number.TheVariants.{Is}
 use Rattle.text.proofs.Cuts.{tail}
 use Rattle.text.specs.declared.digits.Digits.TheVariants.{Are, Not}
-use borrow.Author.Rules.{rules}
 use lib.ListN.{drop}
 use mathlib.Core.Path.{◌≡◌, sym, ap, ◌∙◌}
 use mir.Syntax.{w32}

@@ -1,13 +1,11 @@
-use Prim.Native.Nat.{ℕ, ◌+◌, ◌-◌, ◌^◌}
+use Prim.Native.Nat.{◌+◌, ◌-◌, ◌^◌}
 use Rattle.value_number.proofs.Laws.{fraction_none, fraction_at, thousandths}
 use Rattle.value_number.specs.Number.{scaled}
 use Rattle.text.proofs.Cuts.{tail}
 use Rattle.text.proofs.Numerals.{told}
 use Rattle.text.specs.Digits.{digits_of}
 use Rattle.text.specs.declared.digits.Digits.TheVariants.{Are, Not}
-use borrow.Author.Rules.{rules}
 use lib.ListN.{length, drop}
-use mathlib.Core.List.{List}
 use mathlib.Core.Path.{◌≡◌, sym, ap, ◌∙◌}
 use native.Mathlib.Omega.{arith}
 use Rattle.value_number.proofs.read_fraction.Goals as goal

@@ -30,8 +30,7 @@ returns-then-is_at c =
 
 pub unsigned_part-requires-2 : goal.unsigned_part-requires-2
 unsigned_part-requires-2 c =
-    let other : is_of_number c.args.sep ≡ false = sym c.is_of_number.ensures ∙ c.if-is_of_number.false in
-    (
+    let other : is_of_number c.args.sep ≡ false = sym c.is_of_number.ensures ∙ c.if-is_of_number.false in (
       blanks_inside c.args.sep other c.args.s.now c.args.at _ c.requires
           c.past_blanks-from.ensures,
       other,

@@ -1,15 +1,11 @@
-use Prim.Native.Nat.{ℕ, ◌<◌}
+use Prim.Native.Nat.{◌<◌}
 use Rattle.value_number.proofs.Laws.{fraction_below}
 use Rattle.value_number.proofs.Leads.{lead_refused, lead_other, lead_taken, count_short, whole_below}
 use Rattle.value_number.specs.Number.{fraction_of, joined_digits}
 use Rattle.text.specs.declared.digits.Digits.TheVariants.{Are, Not}
-use Rattle.text.specs.declared.digits.Led.{Led}
 use lib.ListN.{length, get_or, drop}
-use mathlib.Core.List.{List}
-use mathlib.Core.Logic.{⊎_elim}
 use mathlib.Core.Path.{◌≡◌, sym, ◌∙◌}
 use native.Mathlib.Omega.{arith}
-use borrow.Author.Rules.{rules}
 use Rattle.value_number.proofs.read_unsigned.Goals as goal
 use Rattle.value_number.proofs.read_unsigned.Goals.{then-p-s+else-s-p-ne46, else-p-s}
 

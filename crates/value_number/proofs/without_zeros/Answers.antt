@@ -1,7 +1,5 @@
-use Prim.Native.Nat.{◌≤◌}
 use Rattle.value_number.proofs.Texts.{fraction_less, fraction_here, fraction_last}
-use Rattle.value_number.specs.Number.{fraction_text}
-use mathlib.Core.Path.{◌≡◌, refl, ◌∙◌}
+use mathlib.Core.Path.{refl, ◌∙◌}
 use native.Mathlib.Omega.{arith}
 use Rattle.value_number.proofs.without_zeros.Goals as goal
 

@@ -1,8 +1,6 @@
 use Prim.Native.Nat.{◌≤◌}
-use Rattle.value_number.proofs.Texts.{fraction_less, fraction_here, fraction_last}
 use Rattle.value_number.specs.Number.{fraction_text}
-use mathlib.Core.Path.{◌≡◌, refl, ◌∙◌}
-use native.Mathlib.Omega.{arith}
+use mathlib.Core.Path.{◌≡◌}
 use Rattle.value_number.proofs.without_zeros.Given as goal
 
 -- Each turn takes one trailing zero off the decimals.

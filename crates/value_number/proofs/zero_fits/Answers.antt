@@ -1,6 +1,5 @@
 use Rattle.value_number.proofs.Shorts.{decimal_on, leads, follows, decimal_end, before_point, alone, unsigned}
 use mathlib.Core.Path.{sym, ◌∙◌}
-use borrow.Author.Rules.{rules}
 use Rattle.value_number.proofs.zero_fits.Goals as goal
 
 pub returns-then-fraction : goal.returns-then-fraction

@@ -1,7 +1,6 @@
 use Rattle.value_put.proofs.Looks.{looked_at, word_looked_at, as_it_stands}
 use Rattle.value.specs.Texts.{is_written}
 use mathlib.Core.Path.{refl}
-use borrow.Author.Rules.{rules}
 use Rattle.value_put.proofs.is_written.Goals as goal
 
 pub returns-in-Amount : goal.returns-in-Amount

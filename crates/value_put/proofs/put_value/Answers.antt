@@ -2,10 +2,8 @@ use Rattle.value_date.proofs.Back.{date_length}
 use Rattle.value_date.specs.Date.{date_text}
 use Rattle.value_name.proofs.RoundTrip.{identifier_length}
 use Rattle.value_name.specs.Names.{identifier_text}
-use Rattle.value_number.proofs.put.Reads as put_reads'
 use Rattle.value_put.proofs.Puts.{shown, sized, front_fits}
 use Rattle.value.specs.Texts.{value_text}
-use Rattle.value_word.proofs.put.Reads as put_reads''
 use borrow.Author.Rules.{rules}
 use mathlib.Core.Path.{refl}
 use mir.Syntax.{w32}

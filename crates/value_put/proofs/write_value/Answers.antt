@@ -1,5 +1,4 @@
 use Rattle.text.proofs.Runs.{refused_write, done_write}
-use borrow.Author.Rules.{rules}
 use native.Mathlib.Omega.{arith}
 use Rattle.value_put.proofs.write_value.Goals as goal
 

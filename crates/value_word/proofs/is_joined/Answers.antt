@@ -1,5 +1,4 @@
 use Rattle.value_word.proofs.Volts.{joined_max, joined_min}
-use borrow.Author.Rules.{rules}
 use Rattle.value_word.proofs.is_joined.Goals as goal
 
 -- One after the other.

@@ -1,7 +1,6 @@
 use Rattle.text.specs.Words.{word_of}
 use Rattle.value_word.proofs.Arms.{arm, no_arm_in}
 use Rattle.value_word.specs.Words.{mode_words, room_spelling, spelling_of}
-use borrow.Author.Rules.{rules}
 use Rattle.value_word.proofs.mode_word.Goals as goal
 
 pub returns-in-0 : goal.returns-in-0

@@ -1,6 +1,5 @@
 use Rattle.text.specs.Words.{word_of}
 use Rattle.value_word.specs.Words.{room_spelling, spelling_of}
-use borrow.Author.Rules.{rules}
 use Rattle.value_word.proofs.no_word.Goals as goal
 
 pub returns : goal.returns

@@ -2,7 +2,6 @@ use Rattle.text.proofs.Runs.{puts, same_puts}
 use Rattle.value_word.proofs.Numbers.{spelt_put}
 use Rattle.value_word.proofs.RoundTrip.{word_short}
 use Rattle.value_word.specs.Words.{word}
-use borrow.Author.Rules.{rules}
 use lib.ListN.{length}
 use mathlib.Core.Path.{◌≡◌, ap}
 use native.Mathlib.Omega.{arith}

@@ -1,9 +1,7 @@
 use Prim.Native.Nat.{suc, ◌-◌}
 use Rattle.value_word.proofs.Numbers.{spelt_is, too_long}
 use Rattle.value_word.proofs.Search.{word_here, word_on, word_end}
-use Rattle.value_word.specs.Words.{word_from, word_in}
-use borrow.Author.Rules.{rules}
-use mathlib.Core.Path.{◌≡◌, refl, sym, ◌∙◌}
+use mathlib.Core.Path.{refl, sym, ◌∙◌}
 use native.Mathlib.Omega.{arith}
 use Rattle.value_word.proofs.read.Goals as goal
 

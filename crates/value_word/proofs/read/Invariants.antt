@@ -1,10 +1,6 @@
 use Prim.Native.Nat.{suc, ◌-◌}
-use Rattle.value_word.proofs.Numbers.{spelt_is, too_long}
-use Rattle.value_word.proofs.Search.{word_here, word_on, word_end}
 use Rattle.value_word.specs.Words.{word_from, word_in}
-use borrow.Author.Rules.{rules}
-use mathlib.Core.Path.{◌≡◌, refl, sym, ◌∙◌}
-use native.Mathlib.Omega.{arith}
+use mathlib.Core.Path.{◌≡◌}
 use Rattle.value_word.proofs.read.Given as goal
 
 -- The words from w on answer as all of them do; a longer text is none.

@@ -1,5 +1,4 @@
 use Rattle.value_word.proofs.Volts.{is_vmax, is_vmin, is_spaced}
-use borrow.Author.Rules.{rules}
 use Rattle.value_word.proofs.read_volt.Goals as goal
 
 pub returns-then-same : goal.returns-then-same

@@ -1,6 +1,5 @@
 use Rattle.value_word.proofs.Arms.{found}
 use Rattle.value_word.proofs.Table.{command_is, mode_is, setting_is, none_below, none_above}
-use borrow.Author.Rules.{rules}
 use native.Mathlib.Omega.{arith}
 use Rattle.value_word.proofs.spell.Goals as goal
 use Rattle.value_word.proofs.spell.Goals.{in_default-via-then-w-lt1, in_default-via-else-w-lt1+else-w-lt13+else-w-lt23+else-w-lt32}
@@ -18,6 +17,6 @@ pub returns-in_default : goal.returns-in_default
 returns-in_default c =
     let w = c.args.w in
     elim c.in_default.branch [
-      in_default-via-then-w-lt1 h ↦ found (none_below w (omega arith)) c.no_word.ensures
-    | in_default-via-else-w-lt1+else-w-lt13+else-w-lt23+else-w-lt32 h ↦ found (none_above w (omega arith)) c.no_word.ensures
+      | in_default-via-then-w-lt1 h ↦ found (none_below w (omega arith)) c.no_word.ensures
+      | in_default-via-else-w-lt1+else-w-lt13+else-w-lt23+else-w-lt32 h ↦ found (none_above w (omega arith)) c.no_word.ensures
     ]

@@ -1,5 +1,4 @@
 use Rattle.value_word.specs.Words.{room_spelling}
-use borrow.Author.Rules.{rules}
 use Rattle.value_word.proofs.spelt.Goals as goal
 
 pub returns : goal.returns

@@ -1,6 +1,5 @@
 use Rattle.writer_row.proofs.Rows.{put_no_halves, put_two_halves}
 use Rattle.writer_form.proofs.Columns.{told_blank, told_filled}
-use borrow.Author.Rules.{rules}
 use mathlib.Core.Bool.{not}
 use mathlib.Core.Path.{ap}
 use Rattle.writer_row.proofs.put_halves.Goals as goal

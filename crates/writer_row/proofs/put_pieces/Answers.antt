@@ -1,10 +1,10 @@
-use Prim.Native.Nat.{◌+◌, ◌-◌, ◌≤◌, ◌<◌}
+use Prim.Native.Nat.{◌+◌, ◌≤◌, ◌<◌}
 use Rattle.layout.proofs.Labels.{few}
 use Rattle.layout.proofs.Rows.{row_fields_lem}
 use Rattle.layout.specs.Rows.{row_fields}
 use Rattle.record.proofs.Fields.{field_at}
-use Rattle.writer_row.proofs.Rows.{Sofar, start, place_low, turn, finish, same_room}
-use Rattle.value.specs.Texts.{Rooms, rooms}
+use Rattle.writer_row.proofs.Rows.{start, place_low, turn, finish, same_room}
+use Rattle.value.specs.Texts.{rooms}
 use borrow.Author.Rules.{rules}
 use lib.Dec.{lit≤}
 use lib.ListN.{length}

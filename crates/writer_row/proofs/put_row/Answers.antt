@@ -1,6 +1,6 @@
 use Rattle.record.proofs.Fields.{field_at}
 use Rattle.writer_row.proofs.Rows.{fields_short, six_halved, banded_row, plain_row}
-use Rattle.value.specs.Texts.{Rooms, rooms}
+use Rattle.value.specs.Texts.{rooms}
 use borrow.Author.Rules.{rules}
 use lib.Dec.{lit≤}
 use lib.ListN.{length}

@@ -1,4 +1,3 @@
-use borrow.Author.Rules.{rules}
 use Rattle.book_stretch.proofs.joining.finish.Goals as goal
 
 pub place-requires : goal.place-requires

@@ -2,7 +2,6 @@ use Prim.Native.Nat.{min}
 use Rattle.book_stretch.proofs.Arms.{start_first, start_own, end_last, end_own}
 use Rattle.book_stretch.specs.Stretches.{stretch}
 use borrow.Author.Rules.{rules}
-use mathlib.Core.Logic.{⊎_elim}
 use mathlib.Core.Path.{◌≡◌}
 use Rattle.book_stretch.proofs.joining.hull.Goals as goal
 use Rattle.book_stretch.proofs.joining.hull.Goals.{else-c-h, then-c-h}

@@ -1,4 +1,3 @@
-use borrow.Author.Rules.{rules}
 use Rattle.book_stretch.proofs.joining.place.Goals as goal
 
 pub returns : goal.returns

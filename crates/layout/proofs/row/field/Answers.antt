@@ -1,7 +1,6 @@
 use Rattle.layout.proofs.Arms.{of_layout}
 use Rattle.layout.proofs.Rows.{row_few, in_order}
 use Rattle.layout.specs.Rows.{row_fields}
-use borrow.Author.Rules.{rules}
 use lib.ListN.{get_or}
 use mathlib.Core.Path.{sym, ◌∙◌}
 use native.Mathlib.Omega.{arith}

@@ -1,6 +1,5 @@
 use Rattle.layout.proofs.Arms.{of_layout}
 use Rattle.layout.specs.Rows.{row_fields}
-use borrow.Author.Rules.{rules}
 use lib.ListN.{length}
 use Rattle.layout.proofs.row.size.Goals as goal
 

@@ -1,5 +1,4 @@
 use Rattle.text.specs.Puts.{room_of}
-use borrow.Author.Rules.{rules}
 use Rattle.saved_lines.proofs.keys.key_of.Goals as goal
 
 pub returns-in-Form : goal.returns-in-Form

@@ -1,5 +1,4 @@
 use Rattle.saved_lines.proofs.Meeting.{whole_most, under_not, under_is, over_not, over_is}
-use borrow.Author.Rules.{rules}
 use native.Mathlib.Omega.{arith}
 use Rattle.saved_lines.proofs.line.amount_of.Goals as goal
 

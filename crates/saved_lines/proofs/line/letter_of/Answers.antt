@@ -1,5 +1,4 @@
 use Rattle.saved_lines.proofs.Meeting.{letter_market, letter_mfrr, letter_none}
-use borrow.Author.Rules.{rules}
 use Rattle.saved_lines.proofs.line.letter_of.Goals as goal
 
 -- LOST slice-aggregate-same

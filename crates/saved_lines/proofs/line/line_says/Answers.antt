@@ -1,5 +1,4 @@
 use Rattle.saved_lines.proofs.Meeting.{no_line, no_value, value_out, value_in_lem}
-use borrow.Author.Rules.{rules}
 use Rattle.saved_lines.proofs.line.line_says.Goals as goal
 
 pub returns-in_default : goal.returns-in_default

@@ -1,4 +1,3 @@
-use borrow.Author.Rules.{rules}
 use Rattle.saved_lines.proofs.line.meet.Goals as goal
 
 pub returns-in-Line : goal.returns-in-Line

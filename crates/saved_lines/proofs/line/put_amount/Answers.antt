@@ -1,5 +1,4 @@
 use Rattle.saved_lines.proofs.OnePut.{under_put, over_put}
-use borrow.Author.Rules.{rules}
 use Rattle.saved_lines.proofs.line.put_amount.Goals as goal
 
 pub returns-then-v-lt-ZERO_AMOUNT : goal.returns-then-v-lt-ZERO_AMOUNT

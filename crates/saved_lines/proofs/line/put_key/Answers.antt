@@ -1,6 +1,5 @@
 use Rattle.saved_lines.proofs.Meeting.{key_front}
 use Rattle.saved_lines.proofs.OnePut.{key_fits}
-use borrow.Author.Rules.{rules}
 use mathlib.Core.Path.{sym}
 use Rattle.saved_lines.proofs.line.put_key.Goals as goal
 

@@ -1,5 +1,4 @@
 use Rattle.saved_lines.proofs.OnePut.{market_put, mfrr_put}
-use borrow.Author.Rules.{rules}
 use Rattle.saved_lines.proofs.line.put_letter.Goals as goal
 
 pub returns-then-v-eq0 : goal.returns-then-v-eq0

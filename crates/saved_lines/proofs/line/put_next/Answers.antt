@@ -1,5 +1,4 @@
 use Rattle.saved_lines.proofs.OnePut.{value_fits, end_fits, next_put, over_none}
-use borrow.Author.Rules.{rules}
 use Rattle.saved_lines.proofs.line.put_next.Goals as goal
 
 pub put_value-b-requires : goal.put_value-b-requires

@@ -1,4 +1,3 @@
-use borrow.Author.Rules.{rules}
 use Rattle.saved_lines.proofs.line.put_value.Goals as goal
 
 pub returns-in-Whole : goal.returns-in-Whole

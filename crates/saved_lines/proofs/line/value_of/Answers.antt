@@ -1,4 +1,3 @@
-use borrow.Author.Rules.{rules}
 use Rattle.saved_lines.proofs.line.value_of.Goals as goal
 
 pub returns-in-Whole : goal.returns-in-Whole

@@ -1,10 +1,5 @@
-use Rattle.saved_lines.proofs.Nexts.{apart_most, arm, start_arm, end_arm, second_arm}
-use Rattle.saved_lines.specs.Tables.{order_lines}
-use Rattle.text.proofs.Tables.{no_arm}
-use borrow.Author.Rules.{rules}
-use lib.ListN.{get_or, take}
+use Rattle.saved_lines.proofs.Nexts.{arm, start_arm, end_arm, second_arm}
 use mathlib.Core.Path.{refl}
-use native.Mathlib.Omega.{arith}
 use Rattle.saved_lines.proofs.tables.order_line.Goals as goal
 
 pub returns-in-0 : goal.returns-in-0

@@ -1,5 +1,4 @@
 use Rattle.saved_lines.proofs.Nexts.{no_second}
-use borrow.Author.Rules.{rules}
 use Rattle.saved_lines.proofs.tables.second_line.Goals as goal
 
 -- An amount for the kind 0; for any other 0 stands for the second.

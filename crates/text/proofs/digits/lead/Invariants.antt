@@ -1,17 +1,8 @@
-use Prim.Native.Nat.{ℕ, ◌-◌, ◌^◌, ◌≤◌, ◌<◌}
-use Rattle.text.proofs.Cuts.{skip_on}
-use Rattle.text.proofs.Numerals.{digit_range, small, grows, lead_on, lead_here, lead_end}
-use Rattle.text.proofs.Tests.{and_parts}
+use Prim.Native.Nat.{◌-◌, ◌^◌, ◌≤◌, ◌<◌}
 use Rattle.text.specs.Bytes.{skip, is_digit}
-use Rattle.text.specs.Digits.{number_from, number_in}
-use borrow.Author.Rules.{rules}
-use borrow.Author.Tests.{ltb-true, not-true, not-false}
-use lib.Dec.{ltb}
-use lib.ListN.{length, get_or, take, drop}
-use mathlib.Core.Bool.{true}
-use mathlib.Core.List.{List}
-use mathlib.Core.Path.{◌≡◌, refl, sym, ◌∙◌}
-use native.Mathlib.Omega.{arith}
+use Rattle.text.specs.Digits.{number_in}
+use lib.ListN.{length, take, drop}
+use mathlib.Core.Path.{◌≡◌}
 use Rattle.text.proofs.digits.lead.Given as goal
 
 -- The digits up to i wrote the value; the run ends there, or as many are read as may be.

@@ -1,14 +1,10 @@
-use Prim.Native.Nat.{ℕ, ◌-◌, ◌^◌, ◌≤◌, ◌<◌}
+use Prim.Native.Nat.{◌≤◌, ◌<◌}
 use Rattle.text.proofs.Cuts.{all_here, all_on, all_end}
 use Rattle.text.proofs.Numerals.{digit_range, small, refused_empty, refused_long, refused_other, taken, number_step, number_end, grows}
-use Rattle.text.specs.Bytes.{all, is_digit}
-use Rattle.text.specs.Digits.{number_from, number_in}
+use Rattle.text.specs.Bytes.{is_digit}
 use Rattle.text.specs.declared.digits.Digits.TheVariants.{Are}
-use borrow.Author.Rules.{rules}
-use borrow.Author.Tests.{not-true, not-false}
-use lib.ListN.{length, get_or, drop}
+use lib.ListN.{get_or}
 use mathlib.Core.Bool.{true, false}
-use mathlib.Core.List.{List}
 use mathlib.Core.Path.{◌≡◌, refl, sym, ap, ◌∙◌}
 use native.Mathlib.Omega.{arith}
 use Rattle.text.proofs.digits.read_digits.Goals as goal

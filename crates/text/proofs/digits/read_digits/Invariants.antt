@@ -1,16 +1,8 @@
-use Prim.Native.Nat.{ℕ, ◌-◌, ◌^◌, ◌≤◌, ◌<◌}
-use Rattle.text.proofs.Cuts.{all_here, all_on, all_end}
-use Rattle.text.proofs.Numerals.{digit_range, small, refused_empty, refused_long, refused_other, taken, number_step, number_end, grows}
+use Prim.Native.Nat.{◌-◌, ◌^◌, ◌≤◌, ◌<◌}
 use Rattle.text.specs.Bytes.{all, is_digit}
 use Rattle.text.specs.Digits.{number_from, number_in}
-use Rattle.text.specs.declared.digits.Digits.TheVariants.{Are}
-use borrow.Author.Rules.{rules}
-use borrow.Author.Tests.{not-true, not-false}
-use lib.ListN.{length, get_or, drop}
-use mathlib.Core.Bool.{true, false}
-use mathlib.Core.List.{List}
-use mathlib.Core.Path.{◌≡◌, refl, sym, ap, ◌∙◌}
-use native.Mathlib.Omega.{arith}
+use lib.ListN.{length, drop}
+use mathlib.Core.Path.{◌≡◌}
 use Rattle.text.proofs.digits.read_digits.Given as goal
 
 -- The digits up to i wrote acc, and what follows decides the rest.

@@ -1,6 +1,6 @@
-use Prim.Native.Nat.{ℕ, ◌+◌, ◌-◌, ◌≤◌}
+use Prim.Native.Nat.{ℕ, ◌+◌, ◌-◌}
 use Rattle.text.proofs.Numerals.{whole_low, whole_found, whole_last}
-use Rattle.text.specs.Digits.{digits_text, whole_text}
+use Rattle.text.specs.Digits.{whole_text}
 use mathlib.Core.Path.{◌≡◌, ap, ◌∙◌}
 use native.Mathlib.Omega.{arith}
 use Rattle.text.proofs.digits.whole_size.Goals as goal

@@ -1,8 +1,6 @@
-use Prim.Native.Nat.{ℕ, ◌+◌, ◌-◌, ◌≤◌}
-use Rattle.text.proofs.Numerals.{whole_low, whole_found, whole_last}
+use Prim.Native.Nat.{◌+◌, ◌-◌, ◌≤◌}
 use Rattle.text.specs.Digits.{digits_text, whole_text}
-use mathlib.Core.Path.{◌≡◌, ap, ◌∙◌}
-use native.Mathlib.Omega.{arith}
+use mathlib.Core.Path.{◌≡◌}
 use Rattle.text.proofs.digits.whole_size.Given as goal
 
 -- Up to the first power of ten that n is below: at each one before it, n fills one digit more.

@@ -1,5 +1,4 @@
 use Rattle.text.proofs.Runs.{put_past}
-use borrow.Author.Rules.{rules}
 use mathlib.Core.Path.{refl}
 use Rattle.text.proofs.put.put_byte.Goals as goal
 

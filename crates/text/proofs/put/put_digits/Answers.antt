@@ -1,11 +1,7 @@
-use Prim.Native.Nat.{◌+◌, ◌-◌, ◌/◌, ◌%◌, ◌≤◌}
+use Prim.Native.Nat.{◌+◌, ◌-◌, ◌/◌, ◌%◌}
 use Rattle.text.proofs.Runs.{two_digits, one_digit, digit_end}
-use Rattle.text.specs.Digits.{digits_text}
-use borrow.Author.Rules.{rules}
 use lib.ListN.{length, set, length-set}
-use lib.Seq.{sets}
-use mathlib.Core.Path.{◌≡◌, refl, sym, ap, ◌∙◌}
-use mathlib.Core.Logic.{⊎_elim}
+use mathlib.Core.Path.{refl, sym, ap, ◌∙◌}
 use native.Mathlib.Omega.{arith}
 use Rattle.text.proofs.put.put_digits.Goals as goal
 use Rattle.text.proofs.put.put_digits.Goals.{then-j-eq1, else-j-eq1}
@@ -32,8 +28,8 @@ shape_of-out c =
     let l = c.loop-j in
     let at = c.args.at in
     elim c.if-j-eq1.branch [
-      then-j-eq1 w ↦ ap length w.out-is ∙ length-set l.out at (48 + l.m % 10) ∙ l.invariant.0
-    | else-j-eq1 w ↦ ap length w.out-is ∙ l.invariant.0
+      | then-j-eq1 w ↦ ap length w.out-is ∙ length-set l.out at (48 + l.m % 10) ∙ l.invariant.0
+      | else-j-eq1 w ↦ ap length w.out-is ∙ l.invariant.0
     ]
 
 pub returns : goal.returns
@@ -42,7 +38,7 @@ returns c =
     let at = c.args.at in (
       refl,
       elim c.if-j-eq1.branch [
-        then-j-eq1 w ↦ w.out-is ∙ one_digit l.out at l.j l.m w.if-j-eq1.true ∙ l.invariant.2
-      | else-j-eq1 w ↦ w.out-is ∙ sym (digit_end l.out at l.j l.m (omega arith)) ∙ l.invariant.2
+        | then-j-eq1 w ↦ w.out-is ∙ one_digit l.out at l.j l.m w.if-j-eq1.true ∙ l.invariant.2
+        | else-j-eq1 w ↦ w.out-is ∙ sym (digit_end l.out at l.j l.m (omega arith)) ∙ l.invariant.2
       ],
     )

@@ -1,12 +1,8 @@
-use Prim.Native.Nat.{◌+◌, ◌-◌, ◌/◌, ◌%◌, ◌≤◌}
-use Rattle.text.proofs.Runs.{two_digits, one_digit, digit_end}
+use Prim.Native.Nat.{◌≤◌}
 use Rattle.text.specs.Digits.{digits_text}
-use borrow.Author.Rules.{rules}
-use lib.ListN.{length, set, length-set}
+use lib.ListN.{length}
 use lib.Seq.{sets}
-use mathlib.Core.Path.{◌≡◌, refl, sym, ap, ◌∙◌}
-use mathlib.Core.Logic.{⊎_elim}
-use native.Mathlib.Omega.{arith}
+use mathlib.Core.Path.{◌≡◌}
 use Rattle.text.proofs.put.put_digits.Given as goal
 
 -- With room for all of them: the digits put so far, with those of what is left put before them, are all the digits put.

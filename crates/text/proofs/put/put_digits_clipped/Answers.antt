@@ -1,10 +1,5 @@
-use Prim.Native.Nat.{◌≤◌}
 use Rattle.text.proofs.Runs.{digit_step, digit_end}
-use Rattle.text.specs.Digits.{digits_text}
-use borrow.Author.Rules.{rules}
-use lib.ListN.{length}
-use lib.Seq.{sets}
-use mathlib.Core.Path.{◌≡◌, refl, sym, ◌∙◌}
+use mathlib.Core.Path.{refl, sym, ◌∙◌}
 use native.Mathlib.Omega.{arith}
 use Rattle.text.proofs.put.put_digits_clipped.Goals as goal
 

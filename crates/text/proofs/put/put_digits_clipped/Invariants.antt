@@ -1,11 +1,8 @@
 use Prim.Native.Nat.{◌≤◌}
-use Rattle.text.proofs.Runs.{digit_step, digit_end}
 use Rattle.text.specs.Digits.{digits_text}
-use borrow.Author.Rules.{rules}
 use lib.ListN.{length}
 use lib.Seq.{sets}
-use mathlib.Core.Path.{◌≡◌, refl, sym, ◌∙◌}
-use native.Mathlib.Omega.{arith}
+use mathlib.Core.Path.{◌≡◌}
 use Rattle.text.proofs.put.put_digits_clipped.Given as goal
 
 -- The digits put so far, with those of what is left put before them, are all the digits put.

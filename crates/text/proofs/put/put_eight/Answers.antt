@@ -1,5 +1,4 @@
 use Rattle.text.proofs.Loads.{eight_moved}
-use borrow.Author.Rules.{rules}
 use Rattle.text.proofs.put.put_eight.Goals as goal
 
 pub returns : goal.returns

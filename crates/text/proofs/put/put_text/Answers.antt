@@ -1,7 +1,7 @@
 -- As many bytes as there is room for: the others change nothing.
 use Rattle.text.proofs.Runs.{text_clip, text_none}
 use lib.ListN.{length}
-use mathlib.Core.Path.{◌≡◌, refl, sym, ap, ◌∙◌}
+use mathlib.Core.Path.{refl, ap, ◌∙◌}
 use native.Mathlib.Omega.{arith}
 use Rattle.text.proofs.put.put_text.Goals as goal
 use Rattle.text.proofs.put.put_text.Goals.{then-n-ne0, else-n-ne0}

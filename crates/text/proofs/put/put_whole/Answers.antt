@@ -1,5 +1,4 @@
 use Rattle.text.proofs.Runs.{whole_put}
-use borrow.Author.Rules.{rules}
 use Rattle.text.proofs.put.put_whole.Goals as goal
 
 pub returns : goal.returns

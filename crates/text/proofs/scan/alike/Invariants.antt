@@ -1,11 +1,7 @@
 use Prim.Native.Nat.{◌-◌}
-use Rattle.text.proofs.Cuts.{alike_stop, alike_next, alike_last}
 use Rattle.text.specs.Bytes.{same}
-use borrow.Author.Rules.{rules}
-use borrow.Author.Tests.{not-true, not-false}
 use lib.ListN.{take, drop}
-use mathlib.Core.Path.{◌≡◌, sym, ◌∙◌}
-use native.Mathlib.Omega.{arith}
+use mathlib.Core.Path.{◌≡◌}
 use Rattle.text.proofs.scan.alike.Given as goal
 
 -- The first n of both are the same where those from i on are, and so, once i is past them, where the last eight are.

@@ -1,5 +1,4 @@
 use Rattle.text.proofs.Cuts.{same_eight}
-use borrow.Author.Rules.{rules}
 use Rattle.text.proofs.scan.eight_alike.Goals as goal
 
 pub returns : goal.returns

@@ -1,5 +1,4 @@
 use Rattle.text.proofs.Loads.{eight_are}
-use borrow.Author.Rules.{rules}
 use native.Mathlib.Omega.{arith}
 use Rattle.text.proofs.scan.eight_are.Goals as goal
 

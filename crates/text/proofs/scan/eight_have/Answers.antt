@@ -1,6 +1,5 @@
 use Rattle.text.proofs.Cuts.{any_eight}
 use Rattle.text.specs.Bytes.{is}
-use borrow.Author.Rules.{rules}
 use Rattle.text.proofs.scan.eight_have.Goals as goal
 
 pub returns : goal.returns

@@ -1,9 +1,5 @@
-use Prim.Native.Nat.{◌-◌, ◌≤◌}
 use Rattle.text.proofs.Cuts.{alike_here, alike_on, alike_end}
-use Rattle.text.specs.Bytes.{same}
-use borrow.Author.Rules.{rules}
-use lib.ListN.{take, drop}
-use mathlib.Core.Path.{◌≡◌, sym, ◌∙◌}
+use mathlib.Core.Path.{sym, ◌∙◌}
 use native.Mathlib.Omega.{arith}
 use Rattle.text.proofs.scan.few_alike.Goals as goal
 

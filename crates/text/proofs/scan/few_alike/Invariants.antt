@@ -1,10 +1,7 @@
 use Prim.Native.Nat.{◌-◌, ◌≤◌}
-use Rattle.text.proofs.Cuts.{alike_here, alike_on, alike_end}
 use Rattle.text.specs.Bytes.{same}
-use borrow.Author.Rules.{rules}
 use lib.ListN.{take, drop}
-use mathlib.Core.Path.{◌≡◌, sym, ◌∙◌}
-use native.Mathlib.Omega.{arith}
+use mathlib.Core.Path.{◌≡◌}
 use Rattle.text.proofs.scan.few_alike.Given as goal
 
 -- The first n of both are the same where those from i on are.

@@ -1,4 +1,4 @@
-use Prim.Native.Nat.{ℕ, ◌≤◌}
+use Prim.Native.Nat.{ℕ}
 use Rattle.text.proofs.Trims.{end_on, end_here}
 use Rattle.text.specs.Bytes.{skip_end, is_blank}
 use borrow.Author.Rules.{rules}

@@ -1,10 +1,8 @@
-use Prim.Native.Nat.{◌+◌, ◌-◌, ◌≤◌}
 use Rattle.text.proofs.Cuts.{upto_here, upto_on, upto_over, upto_end}
-use Rattle.text.specs.Bytes.{is, first_of}
-use borrow.Author.Rules.{rules}
+use Rattle.text.specs.Bytes.{is}
 use borrow.Author.Tests.{eq-eqb, ne_eqb}
-use lib.ListN.{length, drop}
-use mathlib.Core.Path.{◌≡◌, sym, ap, ◌∙◌}
+use lib.ListN.{length}
+use mathlib.Core.Path.{sym, ap, ◌∙◌}
 use native.Mathlib.Omega.{arith}
 use Rattle.text.proofs.scan.first.Goals as goal
 

@@ -1,11 +1,7 @@
 use Prim.Native.Nat.{◌+◌, ◌-◌, ◌≤◌}
-use Rattle.text.proofs.Cuts.{upto_here, upto_on, upto_over, upto_end}
-use Rattle.text.specs.Bytes.{is, first_of}
-use borrow.Author.Rules.{rules}
-use borrow.Author.Tests.{eq-eqb, ne_eqb}
+use Rattle.text.specs.Bytes.{first_of}
 use lib.ListN.{length, drop}
-use mathlib.Core.Path.{◌≡◌, sym, ap, ◌∙◌}
-use native.Mathlib.Omega.{arith}
+use mathlib.Core.Path.{◌≡◌}
 use Rattle.text.proofs.scan.first.Given as goal
 
 -- What stands before the first in the whole is i and what stands before it in the rest.

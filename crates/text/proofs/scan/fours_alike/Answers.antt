@@ -1,5 +1,4 @@
 use Rattle.text.proofs.Loads.{fours_same}
-use borrow.Author.Rules.{rules}
 use Rattle.text.proofs.scan.fours_alike.Goals as goal
 
 pub returns : goal.returns

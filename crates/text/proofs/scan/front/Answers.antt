@@ -1,5 +1,4 @@
 use Rattle.text.proofs.Cuts.{front_count}
-use borrow.Author.Rules.{rules}
 use lib.Seq.{take_all}
 use mathlib.Core.Path.{sym}
 use native.Mathlib.Omega.{arith}

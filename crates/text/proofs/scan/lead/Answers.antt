@@ -1,19 +1,16 @@
-use Prim.Native.Nat.{◌-◌, ◌≤◌}
 use Rattle.text.proofs.Cuts.{skip_here, skip_on, skip_over, skip_none}
-use Rattle.text.specs.Bytes.{skip, is_blank}
-use borrow.Author.Rules.{rules}
-use borrow.Author.Tests.{eq-eqb, ne_eqb, not-false}
-use lib.ListN.{length, drop, length-drop}
-use mathlib.Core.Path.{◌≡◌, sym, ap, ◌∙◌}
+use Rattle.text.specs.Bytes.{is_blank}
+use borrow.Author.Tests.{eq-eqb, ne_eqb}
+use lib.ListN.{length, length-drop}
+use mathlib.Core.Path.{sym, ap, ◌∙◌}
 use native.Mathlib.Omega.{arith}
 use Rattle.text.proofs.scan.lead.Goals as goal
 
 pub loop-n-preserved : goal.loop-n-preserved
-loop-n-preserved c =
-    (
-      omega arith,
-      c.loop-n.invariant.1 ∙ skip_over is_blank c.args.s.now c.loop-n.n 8 (sym c.eight_are.ensures ∙ c.if-not-eight_are.false),
-    )
+loop-n-preserved c = (
+  omega arith,
+  c.loop-n.invariant.1 ∙ skip_over is_blank c.args.s.now c.loop-n.n 8 (sym c.eight_are.ensures ∙ c.if-not-eight_are.false),
+)
 
 pub returns-then-s-n-ne32 : goal.returns-then-s-n-ne32
 returns-then-s-n-ne32 c =

@@ -1,11 +1,7 @@
 use Prim.Native.Nat.{◌-◌, ◌≤◌}
-use Rattle.text.proofs.Cuts.{skip_here, skip_on, skip_over, skip_none}
 use Rattle.text.specs.Bytes.{skip, is_blank}
-use borrow.Author.Rules.{rules}
-use borrow.Author.Tests.{eq-eqb, ne_eqb, not-false}
-use lib.ListN.{length, drop, length-drop}
-use mathlib.Core.Path.{◌≡◌, sym, ap, ◌∙◌}
-use native.Mathlib.Omega.{arith}
+use lib.ListN.{length, drop}
+use mathlib.Core.Path.{◌≡◌}
 use Rattle.text.proofs.scan.lead.Given as goal
 
 -- The whole and the rest come to the same once blanks are skipped.

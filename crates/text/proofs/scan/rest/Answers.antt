@@ -1,5 +1,4 @@
 use Rattle.text.proofs.Cuts.{tail}
-use borrow.Author.Rules.{rules}
 use lib.ListN.{drop_of_length-le}
 use mathlib.Core.Path.{sym}
 use Rattle.text.proofs.scan.rest.Goals as goal

@@ -1,6 +1,5 @@
 use Rattle.text.proofs.Cuts.{same_lengths}
 use Rattle.text.specs.Bytes.{same}
-use borrow.Author.Rules.{rules}
 use lib.ListN.{length}
 use lib.Seq.{take_all, take-length}
 use mathlib.Core.Path.{ap₂, ◌∙◌}

@@ -1,7 +1,6 @@
 use Prim.Native.Nat.{ℕ}
 use Rattle.text.proofs.Cuts.{starts_short, starts_same}
 use Rattle.text.specs.Bytes.{same}
-use borrow.Author.Rules.{rules}
 use lib.ListN.{length, take}
 use lib.Seq.{take-length}
 use mathlib.Core.List.{List}

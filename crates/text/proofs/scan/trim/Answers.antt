@@ -1,5 +1,4 @@
 use Rattle.text.proofs.Trims.{end_count, trim_law}
-use borrow.Author.Rules.{rules}
 use mathlib.Core.Path.{refl}
 use Rattle.text.proofs.scan.trim.Goals as goal
 

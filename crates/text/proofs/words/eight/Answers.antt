@@ -1,5 +1,4 @@
 use Rattle.text.proofs.Loads.{word_halves}
-use borrow.Author.Rules.{rules}
 use Rattle.text.proofs.words.eight.Goals as goal
 
 pub returns : goal.returns

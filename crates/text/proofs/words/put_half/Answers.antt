@@ -1,5 +1,4 @@
 use Rattle.text.proofs.Loads.{put_four}
-use borrow.Author.Rules.{rules}
 use lib.ListN.{length-set}
 use native.Mathlib.Omega.{arith}
 use Rattle.text.proofs.words.put_half.Goals as goal

@@ -1,5 +1,4 @@
 use Rattle.text.proofs.Loads.{halves_put}
-use borrow.Author.Rules.{rules}
 use native.Mathlib.Omega.{arith}
 use Rattle.text.proofs.words.put_word.Goals as goal
 

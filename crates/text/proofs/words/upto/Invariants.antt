@@ -1,10 +1,7 @@
 use Prim.Native.Nat.{◌-◌, ◌≤◌}
-use Rattle.text.proofs.Loads.{word_room, word_step, word_none, word_end, word_all}
 use Rattle.text.specs.Words.{word_of}
-use borrow.Author.Rules.{rules}
 use lib.ListN.{length, drop}
-use mathlib.Core.Path.{◌≡◌, ◌∙◌}
-use native.Mathlib.Omega.{arith}
+use mathlib.Core.Path.{◌≡◌}
 use Rattle.text.proofs.words.upto.Given as goal
 
 -- The number of the bytes from k on; another byte in front is its lowest.

@@ -1,15 +1,6 @@
-use Prim.Native.Nat.{ℕ}
-use Rattle.transfer_unit.specs.Units.{is_other}
-use Rattle.transfer_unit.specs.declared.Told.{Told}
 use Rattle.transfer.proofs.Turns.{of_another, of_none, goes, goes_still}
 use Rattle.transfer.proofs.Turns.{file_ready_any, section_ready_any, last_segment_any, last_section_any}
-use Rattle.transfer.specs.Collect.{kept, taken_as, kept_as, taken_of, room_after}
-use Rattle.transfer.specs.declared.Collector.{Collector}
-use Rattle.transfer.specs.declared.Taken.{Taken}
-use borrow.Author.Rules.{rules}
-use mathlib.Core.Bool.{false}
-use mathlib.Core.List.{List}
-use mathlib.Core.Path.{◌≡◌, refl}
+use mathlib.Core.Path.{refl}
 use Rattle.transfer.proofs.Collector.take.Goals as goal
 
 pub returns-then-is_elsewhere : goal.returns-then-is_elsewhere

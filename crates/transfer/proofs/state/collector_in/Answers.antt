@@ -1,5 +1,4 @@
 use Rattle.transfer.specs.States.{collector_in}
-use borrow.Author.Rules.{rules}
 use Rattle.transfer.proofs.state.collector_in.Goals as goal
 
 pub returns : goal.returns

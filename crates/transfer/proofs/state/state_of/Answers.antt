@@ -1,5 +1,4 @@
 use Rattle.transfer.specs.States.{state_of}
-use borrow.Author.Rules.{rules}
 use Rattle.transfer.proofs.state.state_of.Goals as goal
 
 pub returns : goal.returns

@@ -1,5 +1,4 @@
 use Rattle.value.specs.Kinds.{list_from}
-use borrow.Author.Rules.{rules}
 use mathlib.Core.Path.{sym, ap}
 use Rattle.value.proofs.read.listed.Goals as goal
 

@@ -1,5 +1,4 @@
 use Rattle.value.specs.Kinds.{value_of}
-use borrow.Author.Rules.{rules}
 use Rattle.value.proofs.read.read.Goals as goal
 
 -- A blank where one may stand, or the shape.

@@ -1,5 +1,4 @@
 use Rattle.value.specs.Kinds.{amount_from}
-use borrow.Author.Rules.{rules}
 use mathlib.Core.Path.{sym, ap, ◌∙◌}
 use mir.Syntax.{w32}
 use mir.ValLaws.{to_z-of_z}

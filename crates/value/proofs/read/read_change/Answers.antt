@@ -1,6 +1,5 @@
 use Rattle.value.proofs.Settings.{is_number, is_word}
 use Rattle.value.specs.Kinds.{change}
-use borrow.Author.Rules.{rules}
 use mir.Syntax.{w32}
 use mir.ValLaws.{to_z-of_z}
 use Rattle.value.proofs.read.read_change.Goals as goal

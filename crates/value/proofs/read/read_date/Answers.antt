@@ -1,5 +1,4 @@
 use Rattle.value.specs.Kinds.{date_from}
-use borrow.Author.Rules.{rules}
 use mathlib.Core.Path.{sym, ap, ◌∙◌}
 use Rattle.value.proofs.read.read_date.Goals as goal
 

@@ -1,6 +1,5 @@
 use Rattle.value.proofs.Settings.{is_number, is_word}
 use Rattle.value.specs.Kinds.{reactive}
-use borrow.Author.Rules.{rules}
 use mathlib.Core.Path.{◌∙◌}
 use mir.Syntax.{w32}
 use mir.ValLaws.{to_z-of_z}

@@ -1,6 +1,5 @@
 use Rattle.value.specs.Kinds.{list_from, shape_of}
 use Rattle.value.specs.declared.Shape.{Shape}
-use borrow.Author.Rules.{rules}
 use mathlib.Core.Path.{sym, ap, ◌∙◌}
 use Rattle.value.proofs.read.read_shape.Goals as goal
 

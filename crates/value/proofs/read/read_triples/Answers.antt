@@ -1,5 +1,4 @@
 use Rattle.value.proofs.Settings.{good_triples, bad_triples}
-use borrow.Author.Rules.{rules}
 use Rattle.value.proofs.read.read_triples.Goals as goal
 
 pub returns-then-g : goal.returns-then-g

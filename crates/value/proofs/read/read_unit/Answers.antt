@@ -1,5 +1,4 @@
 use Rattle.value.specs.Kinds.{shape_of}
-use borrow.Author.Rules.{rules}
 use mathlib.Core.Path.{sym}
 use Rattle.value.proofs.read.read_unit.Goals as goal
 

@@ -1,5 +1,4 @@
 use Rattle.value.specs.Kinds.{got_word}
-use borrow.Author.Rules.{rules}
 use mathlib.Core.Path.{ap, ◌∙◌}
 use Rattle.value.proofs.read.read_word.Goals as goal
 

@@ -1,5 +1,4 @@
 use Rattle.value_fits.specs.Fits.{is_among}
-use borrow.Author.Rules.{rules}
 use Rattle.value_fits.proofs.shapes.is_among.Goals as goal
 
 pub returns : goal.returns

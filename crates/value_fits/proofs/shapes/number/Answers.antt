@@ -1,4 +1,3 @@
-use borrow.Author.Rules.{rules}
 use Rattle.value_fits.proofs.shapes.number.Goals as goal
 
 pub returns-in-IsId : goal.returns-in-IsId

@@ -1,5 +1,4 @@
 use Rattle.text.specs.Bytes.{tidy}
-use borrow.Author.Rules.{rules}
 use Rattle.value_fits.proofs.texts.is_tidy.Goals as goal
 
 pub returns : goal.returns

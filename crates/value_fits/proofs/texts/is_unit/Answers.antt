@@ -1,5 +1,4 @@
 use Rattle.value_fits.specs.Fits.{is_named}
-use borrow.Author.Rules.{rules}
 use Rattle.value_fits.proofs.texts.is_unit.Goals as goal
 
 pub returns : goal.returns

@@ -1,11 +1,9 @@
-use Prim.Native.Nat.{◌-◌, ◌<◌}
+use Prim.Native.Nat.{◌<◌}
 use Rattle.value_fits.specs.Fits.{is_no_triple}
 use Rattle.text.proofs.Cuts.{all_here, all_on, all_end}
-use Rattle.text.specs.Bytes.{all}
 use borrow.Author.Rules.{rules}
-use borrow.Author.Tests.{not-true, not-false}
-use lib.ListN.{length, drop}
-use mathlib.Core.Path.{◌≡◌, refl, sym, ◌∙◌}
+use lib.ListN.{length}
+use mathlib.Core.Path.{refl, sym, ◌∙◌}
 use native.Mathlib.Omega.{arith}
 use Rattle.value_fits.proofs.triples.are_none.Goals as goal
 

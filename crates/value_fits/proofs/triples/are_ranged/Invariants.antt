@@ -1,12 +1,8 @@
-use Prim.Native.Nat.{◌-◌, ◌≤◌, ◌<◌}
+use Prim.Native.Nat.{◌-◌, ◌≤◌}
 use Rattle.value_fits.specs.Fits.{is_ranged}
-use Rattle.text.proofs.Cuts.{front_here, front_on, front_done}
 use Rattle.text.specs.Bytes.{all}
-use borrow.Author.Rules.{rules}
-use borrow.Author.Tests.{not-true, not-false}
 use lib.ListN.{length, take, drop}
-use mathlib.Core.Path.{◌≡◌, refl, sym, ◌∙◌}
-use native.Mathlib.Omega.{arith}
+use mathlib.Core.Path.{◌≡◌}
 use Rattle.value_fits.proofs.triples.are_ranged.Given as goal
 
 -- All of the first n are in range where all that are left of them are.

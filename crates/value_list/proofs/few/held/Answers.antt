@@ -1,5 +1,4 @@
 use Rattle.value_list.proofs.Lines.{held_few, held_four}
-use borrow.Author.Rules.{rules}
 use native.Mathlib.Omega.{arith}
 use Rattle.value_list.proofs.few.held.Goals as goal
 

@@ -1,6 +1,6 @@
-use Prim.Native.Nat.{◌+◌, ◌-◌, ◌≤◌}
+use Prim.Native.Nat.{◌+◌, ◌≤◌}
 use Rattle.value_list.proofs.Lines.{held_at}
-use Rattle.value_list.proofs.Puts.{Putting, begin_put, same_room, next_put, all_put, none_put, place_near}
+use Rattle.value_list.proofs.Puts.{begin_put, same_room, next_put, all_put, none_put, place_near}
 use Rattle.value_list.specs.Forms.{list_of, numbers_text}
 use Rattle.value_number.proofs.RoundTrip.{number_short}
 use Rattle.value_number.specs.Number.{number_text}

@@ -1,12 +1,11 @@
-use Prim.Native.Nat.{ℕ, ◌+◌, ◌-◌}
-use Rattle.value_list.proofs.Cuts.{Sofar, begin, too_many, ends, bad_part, next_part, too_few}
+use Prim.Native.Nat.{◌+◌}
+use Rattle.value_list.proofs.Cuts.{begin, too_many, ends, bad_part, next_part, too_few}
 use Rattle.value_list.proofs.Lines.{part_bad, part_read, no_numbers, are_numbers}
 use Rattle.value_list.specs.Forms.{amount_of}
 use Rattle.text.specs.Bytes.{part, first_of, trim}
 use borrow.Author.Rules.{rules}
-use lib.IntN.{ℤ, pos}
-use lib.ListN.{length-set, length, drop}
-use mathlib.Core.List.{List}
+use lib.IntN.{pos}
+use lib.ListN.{length-set, drop}
 use mathlib.Core.Option.{some}
 use mathlib.Core.Path.{◌≡◌, refl, sym, ◌∙◌}
 use mir.Syntax.{w32}
@@ -47,8 +46,7 @@ overflow_add-at c =
 pub loop-n-preserved : goal.loop-n-preserved
 loop-n-preserved c =
     let was_read : (c.in-Is.e ≡ c.loop-n.at + first_of c.args.sep (drop c.loop-n.at c.args.s.now)) × (amount_of (trim (part c.loop-n.at c.in-Is.e c.args.s.now)) ≡ some (to_z w32 (of_z w32 c.in-Is.v))) = rw (to_z-of_z w32 c.in-Is.v (search rules))
-    (part_read _ c.args.s.now c.loop-n.at c.loop-n.invariant.1.inside _ _ (sym c.in-Is.is ∙ c.read_part.ensures)) in
-    (
+    (part_read _ c.args.s.now c.loop-n.at c.loop-n.invariant.1.inside _ _ (sym c.in-Is.is ∙ c.read_part.ensures)) in (
       length-set c.loop-n.values c.loop-n.n (to_z w32 (of_z w32 c.in-Is.v)) ∙ c.loop-n.invariant.0,
       next_part amount_of _ _ _ _ _ _ _ c.loop-n.invariant.1 was_read.0 (to_z w32 (of_z w32 c.in-Is.v)) (omega arith) was_read.1 c.if-e-s.false,
     )

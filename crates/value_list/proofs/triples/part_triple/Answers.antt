@@ -1,5 +1,4 @@
 use Rattle.value_list.specs.Forms.{one_in}
-use borrow.Author.Rules.{rules}
 use mathlib.Core.Path.{ap, ◌∙◌}
 use Rattle.value_list.proofs.triples.part_triple.Goals as goal
 

@@ -1,11 +1,8 @@
-use Prim.Native.Nat.{ℕ, ◌-◌}
-use Rattle.value_list.proofs.Cuts.{Sofar, begin, too_many, ends, bad_part, next_part}
+use Rattle.value_list.proofs.Cuts.{begin, too_many, ends, bad_part, next_part}
 use Rattle.value_list.proofs.Lines.{no_gradients, are_gradients}
 use Rattle.value_list.specs.Forms.{triple_is, triple_in, no_triple}
 use Rattle.text.specs.Bytes.{part, trim}
-use borrow.Author.Rules.{rules}
-use lib.ListN.{length-set, length}
-use mathlib.Core.List.{List}
+use lib.ListN.{length-set}
 use mathlib.Core.Option.{some}
 use mathlib.Core.Path.{◌≡◌, refl, sym, ap, ◌∙◌}
 use native.Mathlib.Omega.{arith}
@@ -37,8 +34,7 @@ overflow_add-at c =
 
 pub loop-n-preserved : goal.loop-n-preserved
 loop-n-preserved c =
-    let was_read : triple_in (trim (part c.loop-n.at c.part_end-e.result c.args.s.now)) ≡ some c.in-It.t = ap triple_is (sym c.part_triple.ensures ∙ c.in-It.is) in
-    (
+    let was_read : triple_in (trim (part c.loop-n.at c.part_end-e.result c.args.s.now)) ≡ some c.in-It.t = ap triple_is (sym c.part_triple.ensures ∙ c.in-It.is) in (
       length-set c.loop-n.values c.loop-n.n c.in-It.t ∙ c.loop-n.invariant.0,
       next_part triple_in _ _ _ _ _ _ _ c.loop-n.invariant.1 c.part_end-e.ensures c.in-It.t (omega arith) was_read c.if-e-s.false,
     )

@@ -1,14 +1,8 @@
-use Prim.Native.Nat.{ℕ, ◌-◌}
-use Rattle.value_list.proofs.Cuts.{Sofar, begin, too_many, ends, bad_part, next_part}
-use Rattle.value_list.proofs.Lines.{no_gradients, are_gradients}
-use Rattle.value_list.specs.Forms.{triple_is, triple_in, no_triple}
-use Rattle.text.specs.Bytes.{part, trim}
-use borrow.Author.Rules.{rules}
-use lib.ListN.{length-set, length}
-use mathlib.Core.List.{List}
-use mathlib.Core.Option.{some}
-use mathlib.Core.Path.{◌≡◌, refl, sym, ap, ◌∙◌}
-use native.Mathlib.Omega.{arith}
+use Prim.Native.Nat.{◌-◌}
+use Rattle.value_list.proofs.Cuts.{Sofar}
+use Rattle.value_list.specs.Forms.{triple_in, no_triple}
+use lib.ListN.{length}
+use mathlib.Core.Path.{◌≡◌}
 use Rattle.value_list.proofs.triples.read.Given as goal
 
 -- As the reader of numbers, with a triple for a number: the room holds what is read up to `at`, and what is left is the list of the rest.

@@ -1,5 +1,4 @@
 use Rattle.value_name.proofs.Readers.{with_dash}
-use borrow.Author.Rules.{rules}
 use Rattle.value_name.proofs.identifier.prefix.Goals as goal
 
 pub returns : goal.returns

@@ -1,5 +1,4 @@
 use Rattle.value_name.proofs.Writers.{identifier_put}
-use borrow.Author.Rules.{rules}
 use Rattle.value_name.proofs.identifier.put.Goals as goal
 
 pub returns : goal.returns

@@ -1,7 +1,5 @@
 use Rattle.value_name.proofs.Readers.{identifier_sized, identifier_other, identifier_read}
 use Rattle.text.proofs.Cuts.{front_count}
-use borrow.Author.Rules.{rules}
-use borrow.Author.Tests.{not-true, not-false}
 use native.Mathlib.Omega.{arith}
 use Rattle.value_name.proofs.identifier.read.Goals as goal
 

@@ -1,5 +1,4 @@
 use Rattle.value_name.proofs.Readers.{sequence_zero, sequence_short, sequence_other}
-use borrow.Author.Rules.{rules}
 use mathlib.Core.Path.{◌∙◌}
 use native.Mathlib.Omega.{arith}
 use Rattle.value_name.proofs.sequence.read.Goals as goal

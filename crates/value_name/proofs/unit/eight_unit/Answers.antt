@@ -1,5 +1,4 @@
 use Rattle.value_name.proofs.Units.{eight_units}
-use borrow.Author.Rules.{rules}
 use Rattle.value_name.proofs.unit.eight_unit.Goals as goal
 
 pub returns : goal.returns

@@ -1,5 +1,4 @@
 use Rattle.value_name.proofs.Units.{unit_sized, unit_other}
-use borrow.Author.Rules.{rules}
 use Rattle.value_name.proofs.unit.is_unit.Goals as goal
 
 pub returns-then-n : goal.returns-then-n

@@ -1,4 +1,3 @@
-use borrow.Author.Rules.{rules}
 use Rattle.value_name.proofs.unit.is_unit_byte.Goals as goal
 
 pub returns : goal.returns

@@ -1,12 +1,7 @@
-use Prim.Native.Nat.{◌-◌, ◌≤◌}
 use Rattle.value_name.specs.Names.{is_unit_byte}
 use Rattle.text.proofs.Cuts.{skip_on, skip_over}
 use Rattle.text.proofs.Fronts.{run_here, run_end}
-use Rattle.text.specs.Bytes.{skip}
-use borrow.Author.Rules.{rules}
-use borrow.Author.Tests.{not-true, not-false}
-use lib.ListN.{length, drop}
-use mathlib.Core.Path.{◌≡◌, sym, ◌∙◌}
+use mathlib.Core.Path.{sym, ◌∙◌}
 use native.Mathlib.Omega.{arith}
 use Rattle.value_name.proofs.unit.run.Goals as goal
 
