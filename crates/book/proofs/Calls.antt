@@ -11,8 +11,8 @@ use Rattle.book.specs.declared.InForce.{InForce}
 use Rattle.book.specs.declared.InForce.TheVariants.{Refused}
 use Rattle.book.specs.declared.Panel.TheVariants.{Refused as Unshown, Shows}
 use Rattle.book.specs.declared.Tally.{Tally}
-use Rattle.book_ledger.specs.Calls.{Call, command, revoke, close, Deed, hold, strike, shut, deed_of, unfit, could_ask}
-use Rattle.book_ledger.specs.Ledger.{answer, effect, rungs_of, is_full}
+use Rattle.book_ledger.specs.Calls.{Call, command, revoke, close, Deed, hold, strike, shut, unfit, could_ask}
+use Rattle.book_ledger.specs.Ledger.{effect, rungs_of, is_full}
 use Rattle.book_lists.proofs.Least.{least_insert, least_map}
 use Rattle.book_lists.proofs.Sorting.{length_insert}
 use Rattle.book_lists.specs.Keyed.{keep, insert, greatest, sooner, Ascending}

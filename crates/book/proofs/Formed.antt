@@ -5,7 +5,7 @@ use Rattle.book.specs.Places.{with_orders, book_of, shelf, formed_unit, true_pan
 use Rattle.book.specs.declared.Book.{Book}
 use Rattle.book.specs.declared.InForce.TheVariants.{Refused}
 use Rattle.book_ledger.specs.Calls.{Call, ask, Deed, deed_of, could_ask}
-use Rattle.book_ledger.specs.Ledger.{Ledger, rungs_of, is_full, answer, effect, in_force}
+use Rattle.book_ledger.specs.Ledger.{rungs_of, is_full, answer, effect, in_force}
 use Rattle.book_order.specs.Orders.{next_end}
 use Rattle.book_order.specs.declared.Order.{Order}
 use Rattle.book_places.proofs.Leading.{formed_places}
@@ -20,8 +20,8 @@ use borrow.Author.Tests.{leb-true, eqb-true}
 use lib.Dec.{eqb, leb}
 use lib.ListN.{length, take, drop}
 use lib.Seq.{length-take-le}
-use mathlib.Core.Bool.{Bool, true, false, false≢true, true≢false}
-use mathlib.Core.List.{List, [], ◌∷◌, ◌++◌}
+use mathlib.Core.Bool.{true, false, true≢false}
+use mathlib.Core.List.{List}
 use mathlib.Core.Path.{◌≡◌, refl, sym, ap, ◌∙◌}
 use native.Mathlib.Omega.{arith}
 

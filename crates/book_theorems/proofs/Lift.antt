@@ -1,7 +1,7 @@
 -- The book that holds a fitting ledger is not malformed, and its calls are the ledger's. Assumes nothing.
 use Prim.Native.Nat.{ℕ, zero, suc, ◌-◌, ◌≤◌}
 use Rattle.book_places.proofs.Empty.{zero_is, empty_dropped}
-use Rattle.book_places.proofs.Leading.{fits_past, fits_filled, fits_facts, kept_leading, leading_long}
+use Rattle.book_places.proofs.Leading.{fits_past, fits_filled, kept_leading, leading_long}
 use Rattle.book_places.specs.Places.{fits_after, formed_from, leading}
 use Rattle.book.proofs.Formed.{formed_tells}
 use Rattle.book.specs.Answers.{call_number, next_of, deed_number, deed_next, deed_outcome_of, found, asked_of}

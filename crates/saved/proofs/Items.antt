@@ -1,6 +1,5 @@
 -- What the answer for an item, and for an order, tells of what is read. Assumes nothing.
 use Prim.Native.Nat.{ℕ, ◌+◌, ◌-◌, ◌≤◌}
-use Rattle.saved.specs.Reads.{good}
 use Rattle.saved_lines.proofs.Exact.{read_only, bad_low}
 use Rattle.saved_lines.specs.Items.{Lines, good as good_lines, bad as bad_line, read_from, text_from, Said, item_of}
 use Rattle.saved_lines.specs.Tables.{next_of}

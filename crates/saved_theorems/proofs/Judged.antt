@@ -6,7 +6,7 @@ use Rattle.saved.specs.Reads.{Read, good, bad, and_then, ended, lined, read_item
 use Rattle.saved.specs.Saved.{above, nothing, read_order, read_orders, read_head, read_rest, read_book, read_as, read_of}
 use Rattle.saved_lines.proofs.OneLine.{key_clean}
 use Rattle.saved_lines.specs.Items.{Lines, good as good_lines, bad as bad_line, if_met, read_from}
-use Rattle.saved_lines.specs.Tables.{at, next_of}
+use Rattle.saved_lines.specs.Tables.{next_of}
 use Rattle.saved_lines.specs.Values.{key_text, line_value, met_in, met_of}
 use Rattle.saved_lines.specs.declared.Above.{Above}
 use Rattle.saved_lines.specs.declared.Key.{Key}

@@ -1,5 +1,5 @@
 -- How long a saved text is at most. Assumes nothing.
-use Prim.Native.Nat.{ℕ, ◌+◌, ◌*◌, ◌≤◌}
+use Prim.Native.Nat.{ℕ, ◌*◌, ◌≤◌}
 use Rattle.book_ledger.specs.Ledger.{Ledger}
 use Rattle.book_order.specs.declared.Order.{Order}
 use Rattle.book_theorems.proofs.Fitting.{Fits}

@@ -20,7 +20,6 @@ use Rattle.record.specs.declared.Record.{Record}
 use Rattle.times_sheet.proofs.Sheets.{for_good, sheet_part_lem}
 use Rattle.times_sheet.specs.Sheet.{is_for, sheet_part}
 use Rattle.times_sheet.specs.declared.Part.{Part}
-use Rattle.times_sheet.specs.declared.Which.TheVariants.{StartUp, Ramp}
 use Rattle.times_sheet.specs.declared.Which.{Which}
 use Rattle.text.specs.Bytes.{part}
 use Rattle.text_lines.specs.Places.{span_at}

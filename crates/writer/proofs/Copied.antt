@@ -1,5 +1,5 @@
 -- Where each value stands as it is written, the written form of the record is that of the file's own texts. Assumes nothing.
-use Prim.Native.Nat.{ℕ, suc, ◌+◌, ◌-◌, ◌≤◌, ◌<◌}
+use Prim.Native.Nat.{ℕ, suc, ◌-◌, ◌≤◌, ◌<◌}
 use Rattle.reader_fill.proofs.Stored.{SuitsAs, suits}
 use Rattle.reader_fill.specs.Filled.{record_with}
 use Rattle.layout.proofs.Labels.{kinds_length, kind_at_lem, few}
@@ -22,8 +22,7 @@ use Rattle.reader_theorems.proofs.Held.ReadAll.{end, next}
 use Rattle.reader_theorems.proofs.Readings.{Reads, reads_of}
 use Rattle.reader_theorems.proofs.Validity.{good_of_lem, read_short}
 use Rattle.layout.specs.FieldNumbers.{reason_field, note_field, gradients_field}
-use Rattle.record.specs.Records.{cell, cells_of, record_of, typed}
-use Rattle.record.specs.Records.Typed.{good}
+use Rattle.record.specs.Records.{cell, cells_of, record_of}
 use Rattle.record.specs.declared.Cell.{Cell}
 use Rattle.record.specs.declared.Record.{Record}
 use Rattle.text.proofs.Tests.{and_parts}

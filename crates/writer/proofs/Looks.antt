@@ -19,7 +19,7 @@ use lib.ListN.{length, get_or, take, drop, length-map, drop_of_length-le, get_or
 use lib.Seq.{drop-cons, length-take-le, get_or-take}
 use mathlib.Core.Bool.{Bool, true, false, ◌&&◌}
 use mathlib.Core.List.{List, [], map}
-use mathlib.Core.Path.{◌≡◌, refl, sym, ap, ap₂, ◌∙◌, subst}
+use mathlib.Core.Path.{◌≡◌, refl, sym, ap, ap₂, ◌∙◌}
 use native.Mathlib.Numerals.{add-one}
 use native.Mathlib.Omega.{arith}
 

@@ -1,18 +1,14 @@
 -- THE THEOREMS: the written form of what was read is read as the same record at the same address, and writing that again changes nothing.
 -- Assumes nothing.
 use Prim.Native.Nat.{ℕ}
-use Rattle.layout.specs.Layouts.{type_of}
 use Rattle.layout.specs.Rows.{text_at}
 use Rattle.layout.specs.declared.Layout.{Layout}
-use Rattle.layout.specs.declared.Layout.TheVariants.{Market, Mfrr}
-use Rattle.text_lines.specs.Lines.{Param}
 use Rattle.value_name.specs.declared.MessageType.{MessageType}
-use Rattle.value_name.specs.declared.MessageType.TheVariants.{Cb, Rc, Mg, Eb, Lb, Sr, Vq, Ri, Qr}
 use Rattle.plan.specs.Plans.{plan_of, sought_of}
 use Rattle.plan.specs.declared.Sought.{Sought}
 use Rattle.reader.proofs.Firsts.{accepted_none, numbers}
 use Rattle.reader.proofs.Chosen.{type_in}
-use Rattle.reader.specs.Messages.{given, is_kind_of_command, layout_in, values_of, column_record, good_of}
+use Rattle.reader.specs.Messages.{given, layout_in, values_of, column_record, good_of}
 use Rattle.reader.specs.Reader.{body_column, record_in, message_of, unit_in, planned, answer_at, read_of}
 use Rattle.reader.specs.Refusals.{accepted as taken}
 use Rattle.reader.specs.declared.Answer.{Answer}
@@ -22,12 +18,10 @@ use Rattle.reader_theorems.proofs.Validity.{good_of_lem, tidy_body}
 use Rattle.record.specs.Records.{record_of}
 use Rattle.record.specs.declared.Record.{Record}
 use Rattle.writer_theorems.proofs.RoundTrip.{message_back, planned_back}
-use Rattle.text.specs.Bytes.{any}
 use Rattle.text.specs.Refusals.{NoneHolds, next}
 use Rattle.record_valid.specs.Valid.{texts_of, ValidAs}
 use Rattle.value.specs.declared.Value.{Value}
 use Rattle.writer_form.specs.Written.{file_of}
-use mathlib.Core.Bool.{Bool, true, false, cond}
 use mathlib.Core.List.{List}
 use mathlib.Core.Path.{◌≡◌, refl, sym, ap, ◌∙◌, subst}
 

@@ -1,7 +1,5 @@
 use Rattle.book.proofs.Fitting.{fresh_bad, fresh_good}
 use Rattle.book.specs.Answers.{outcome}
-use borrow.Author.Rules.{rules}
-use borrow.Author.Tests.{not-true, not-false}
 use mathlib.Core.Path.{sym, ap, ◌∙◌}
 use Rattle.book.proofs.fresh.Goals as goal
 

@@ -1,7 +1,6 @@
 use Prim.Native.Nat.{◌<◌}
 use Rattle.book.proofs.Asking.{none_live, some_live}
 use Rattle.book_places.proofs.Staying.{place_inside}
-use borrow.Author.Rules.{rules}
 use mathlib.Core.Path.{sym, ◌∙◌}
 use native.Mathlib.Omega.{arith}
 use Rattle.book.proofs.in_force_in.Goals as goal

@@ -1,5 +1,4 @@
 use Rattle.book.specs.Places.{zero_book}
-use borrow.Author.Rules.{rules}
 use Rattle.book.proofs.zero.Goals as goal
 
 pub returns : goal.returns

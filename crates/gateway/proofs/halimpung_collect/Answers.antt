@@ -1,5 +1,4 @@
 use Rattle.gateway.proofs.Collected.{collected, few}
-use borrow.Author.Rules.{rules}
 use mathlib.Core.Path.{refl}
 use native.Mathlib.Omega.{arith}
 use Rattle.gateway.proofs.halimpung_collect.Goals as goal

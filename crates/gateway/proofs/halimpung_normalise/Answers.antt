@@ -1,5 +1,4 @@
 use Rattle.gateway.proofs.Normal.{length_fair, refused_fair, length_end, refused_end}
-use borrow.Author.Rules.{rules}
 use native.Mathlib.Omega.{arith}
 use Rattle.gateway.proofs.halimpung_normalise.Goals as goal
 

@@ -1,6 +1,4 @@
-use Prim.Native.Nat.{◌-◌}
-use Rattle.record_check.proofs.Fields.{Rest, all_asked, small, one_fails, one_holds}
-use Rattle.value.specs.Texts.{rooms}
+use Rattle.record_check.proofs.Fields.{all_asked, small, one_fails, one_holds}
 use borrow.Author.Rules.{rules}
 use mathlib.Core.Path.{refl}
 use native.Mathlib.Omega.{arith}

@@ -1,9 +1,6 @@
 use Prim.Native.Nat.{◌-◌}
-use Rattle.record_check.proofs.Fields.{Rest, all_asked, small, one_fails, one_holds}
+use Rattle.record_check.proofs.Fields.{Rest}
 use Rattle.value.specs.Texts.{rooms}
-use borrow.Author.Rules.{rules}
-use mathlib.Core.Path.{refl}
-use native.Mathlib.Omega.{arith}
 use Rattle.record_check.proofs.all_hold.Given as goal
 
 -- All values are ones that their kinds may hold where all that are left to ask are.

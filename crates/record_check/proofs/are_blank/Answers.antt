@@ -1,13 +1,12 @@
-use Prim.Native.Nat.{◌-◌, ◌<◌}
+use Prim.Native.Nat.{◌<◌}
 use Rattle.record.specs.Records.{cell}
 use Rattle.text.proofs.Cuts.{all_here, all_on, all_end}
-use Rattle.text.specs.Bytes.{all}
 use Rattle.record_check.specs.Validity.{is_blank_cell}
 use Rattle.value.specs.declared.Value.TheVariants.{Blank}
 use borrow.Author.Rules.{rules}
-use lib.ListN.{length, drop}
+use lib.ListN.{length}
 use mathlib.Core.Bool.{not}
-use mathlib.Core.Path.{◌≡◌, refl, sym, ap, ◌∙◌}
+use mathlib.Core.Path.{refl, sym, ap, ◌∙◌}
 use native.Mathlib.Omega.{arith}
 use Rattle.record_check.proofs.are_blank.Goals as goal
 

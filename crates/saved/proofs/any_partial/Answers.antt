@@ -1,10 +1,9 @@
-use Prim.Native.Nat.{◌-◌, ◌≤◌}
+use Prim.Native.Nat.{◌≤◌}
 use Rattle.book_order.specs.Orders.{is_partial}
 use Rattle.book_places.specs.Places.{past_order}
 use Rattle.saved.proofs.Saving.{any_here, any_on, any_none}
-use Rattle.text.specs.Bytes.{any}
 use borrow.Author.Rules.{rules}
-use lib.ListN.{length, take, drop}
+use lib.ListN.{length}
 use mathlib.Core.Path.{◌≡◌, refl}
 use native.Mathlib.Omega.{arith}
 use Rattle.saved.proofs.any_partial.Goals as goal

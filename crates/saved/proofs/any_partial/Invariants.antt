@@ -1,12 +1,8 @@
 use Prim.Native.Nat.{◌-◌, ◌≤◌}
 use Rattle.book_order.specs.Orders.{is_partial}
-use Rattle.book_places.specs.Places.{past_order}
-use Rattle.saved.proofs.Saving.{any_here, any_on, any_none}
 use Rattle.text.specs.Bytes.{any}
-use borrow.Author.Rules.{rules}
-use lib.ListN.{length, take, drop}
-use mathlib.Core.Path.{◌≡◌, refl}
-use native.Mathlib.Omega.{arith}
+use lib.ListN.{take, drop}
+use mathlib.Core.Path.{◌≡◌}
 use Rattle.saved.proofs.any_partial.Given as goal
 
 -- Whether one of the orders that are left is struck in part is whether one of all is.

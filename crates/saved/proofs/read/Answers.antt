@@ -1,9 +1,6 @@
 use Rattle.saved.proofs.Opening.{opened, no_book, book_below}
-use borrow.Author.Rules.{rules}
 use borrow.Author.Tests.{not-true, not-false}
 use mathlib.Core.Path.{◌∙◌}
-use mathlib.Core.Bool.{not}
-use mathlib.Core.Path.{ap}
 use Rattle.saved.proofs.read.Goals as goal
 
 -- The book of a text is the one that is read below its head; without a head there is none.

@@ -1,11 +1,9 @@
 use Prim.Native.Nat.{◌+◌, ◌-◌, ◌≤◌}
 use Rattle.saved.proofs.Reading.{Reading, begin, line_low, stop_here, go_on, too_many, all_there}
-use borrow.Author.Rules.{rules}
 use borrow.Author.Tests.{not-true, not-false}
 use lib.ListN.{length, take, drop, set, length-take}
 use mathlib.Core.Path.{ap, sym, ◌∙◌}
 use native.Mathlib.Omega.{arith}
-use mathlib.Core.Bool.{not}
 use Rattle.saved.proofs.read_below.Goals as goal
 
 pub loop-count-init : goal.loop-count-init

@@ -1,10 +1,5 @@
-use Prim.Native.Nat.{◌+◌, ◌-◌, ◌≤◌}
-use Rattle.saved.proofs.Reading.{Reading, begin, line_low, stop_here, go_on, too_many, all_there}
-use borrow.Author.Rules.{rules}
-use borrow.Author.Tests.{not-true, not-false}
-use lib.ListN.{length, take, drop, set, length-take}
-use mathlib.Core.Path.{ap, sym, ◌∙◌}
-use native.Mathlib.Omega.{arith}
+use Prim.Native.Nat.{◌-◌}
+use Rattle.saved.proofs.Reading.{Reading}
 use Rattle.saved.proofs.read_below.Given as goal
 
 -- The loop keeps `Reading`: the orders read so far, with what the rest gives after them, are the orders below the head.

@@ -1,4 +1,4 @@
-use Prim.Native.Nat.{ℕ, ◌+◌, ◌-◌, ◌≤◌, ◌<◌}
+use Prim.Native.Nat.{◌+◌, ◌-◌, ◌≤◌, ◌<◌}
 use Rattle.saved.proofs.Heading.{bad_form, form_inside, bad_unit, unit_inside, unit_size, bad_head, floor_to, end_inside, orders_at, good_head}
 use Rattle.saved.proofs.Items.{broken_item}
 use Rattle.saved.proofs.Opening.{bad_answer, good_answer}
@@ -6,10 +6,8 @@ use Rattle.saved.specs.Saved.{nothing}
 use Rattle.saved_lines.specs.declared.Table.TheVariants.{Form, Head as HeadTable}
 use Rattle.text.proofs.Cuts.{length_part}
 use Rattle.text.specs.Puts.{limit}
-use borrow.Author.Rules.{rules}
 use borrow.Author.Tests.{not-true, not-false}
 use lib.ListN.{length, take, drop}
-use mathlib.Core.List.{List}
 use native.Mathlib.Nat.{le_refl}
 use native.Mathlib.Omega.{arith}
 use Rattle.saved.proofs.read_head.Goals as goal

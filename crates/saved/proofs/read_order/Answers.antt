@@ -1,5 +1,4 @@
 use Rattle.saved.proofs.Answers.{bad_order, order_instants, good_order}
-use borrow.Author.Rules.{rules}
 use borrow.Author.Tests.{not-true, not-false}
 use Rattle.saved.proofs.read_order.Goals as goal
 

@@ -1,12 +1,10 @@
 use Rattle.book.proofs.Holding.{Holding, holds, holds_none}
 use Rattle.book.proofs.Sizes.{sized}
-use Rattle.book.specs.Places.{tally_of}
-use Rattle.book.specs.declared.Tally.TheVariants.{Holds}
 use Rattle.saved.proofs.Saving.{partial_held, save_malformed, save_partial, save_full, save_done}
 use Rattle.saved.specs.Saved.{has_partial}
 use borrow.Author.Rules.{rules}
 use mathlib.Core.Bool.{Bool}
-use mathlib.Core.Path.{◌≡◌, sym, ◌∙◌}
+use mathlib.Core.Path.{◌≡◌}
 use Rattle.saved.proofs.save.Goals as goal
 
 pub returns-in_default : goal.returns-in_default

@@ -1,5 +1,4 @@
 use Rattle.book.specs.declared.Book.{Book}
-use borrow.Author.Rules.{rules}
 use mathlib.Core.Path.{ap}
 use Rattle.saved.proofs.unread.Goals as goal
 

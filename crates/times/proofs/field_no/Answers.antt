@@ -1,5 +1,4 @@
 use Rattle.times.specs.Times.{field_no}
-use borrow.Author.Rules.{rules}
 use mathlib.Core.Path.{sym, ap}
 use Rattle.times.proofs.field_no.Goals as goal
 

@@ -1,15 +1,11 @@
-use Prim.Native.Nat.{◌≤◌, ◌<◌}
+use Prim.Native.Nat.{◌≤◌}
 use Rattle.reader.proofs.Readings.{placed_of}
 use Rattle.record.proofs.Rooms.{unit_in}
 use Rattle.times_sheet.proofs.Sheets.{for_good}
-use Rattle.times_sheet.specs.Sheet.{is_for}
 use Rattle.times.proofs.Fields.{field_within}
 use Rattle.times.proofs.Told.{refused_told, not_market, bad_sheet, in_file_told, in_sheet_told}
 use Rattle.value_ask.specs.Values.{is_filled}
-use borrow.Author.Rules.{rules}
-use borrow.Author.Tests.{not-true, not-false}
-use mathlib.Core.Bool.{true}
-use mathlib.Core.Path.{◌≡◌, sym, ap, ◌∙◌}
+use mathlib.Core.Path.{sym, ap, ◌∙◌}
 use native.Mathlib.Omega.{arith}
 use Rattle.times.proofs.locate.Goals as goal
 

@@ -1,5 +1,4 @@
 use Rattle.times.proofs.Told.{file_within, sheet_within, file_part, sheet_part_of}
-use borrow.Author.Rules.{rules}
 use Rattle.times.proofs.part_at.Goals as goal
 
 pub slice_bounds-result-count : goal.slice_bounds-result-count

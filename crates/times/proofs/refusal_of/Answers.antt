@@ -1,6 +1,5 @@
 use Rattle.times.proofs.Told.{refusal_none}
 use Rattle.times.specs.Times.{time_refusal}
-use borrow.Author.Rules.{rules}
 use mathlib.Core.Path.{sym, ap, ◌∙◌}
 use borrow.Enum.Refused.{opened}
 use Rattle.times.proofs.refusal_of.Goals as goal

@@ -1,5 +1,4 @@
 use Rattle.times.proofs.Told.{located_within, located_part}
-use borrow.Author.Rules.{rules}
 use Rattle.times.proofs.start_up.Goals as goal
 
 pub part_at-requires : goal.part_at-requires

@@ -1,16 +1,14 @@
-use Prim.Native.Nat.{◌+◌, ◌-◌, ◌≤◌, ◌<◌}
+use Prim.Native.Nat.{◌+◌, ◌≤◌, ◌<◌}
 use Rattle.layout.proofs.Labels.{few}
 use Rattle.text_lines.specs.Places.{span_at, Placed, column_in}
-use Rattle.text_lines.specs.declared.Span.{Span}
 use Rattle.layout.specs.Layouts.{size_of}
 use Rattle.reader.proofs.Readings.{placed_of}
 use Rattle.record.proofs.Rooms.{unit_in, reason_in, note_in}
 use Rattle.writer.proofs.Copied.{cells_room, copies, copied_end}
-use Rattle.writer.proofs.Looks.{Asking, start, turn, finish, of_layout, one_left, none_over}
+use Rattle.writer.proofs.Looks.{start, turn, finish, of_layout, one_left, none_over}
 use Rattle.writer.proofs.Normal.{refused_end, taken_held, taken_end}
 use Rattle.writer.specs.Copied.{all_written}
 use Rattle.writer_form.specs.Written.{values_in}
-use borrow.Author.Rules.{rules}
 use lib.ListN.{length}
 use mathlib.Core.Bool.{true}
 use mathlib.Core.Path.{◌≡◌, sym, subst}

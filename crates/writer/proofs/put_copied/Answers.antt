@@ -1,5 +1,4 @@
 use Rattle.writer.proofs.Ends.{put_end, full_end, roomy_end}
-use borrow.Author.Rules.{rules}
 use native.Mathlib.Omega.{arith}
 use Rattle.writer.proofs.put_copied.Goals as goal
 

@@ -1,6 +1,5 @@
 use Rattle.writer.proofs.Ends.{put_end, full_end, roomy_end}
 use Rattle.writer_form.proofs.Sizes.{message_small}
-use borrow.Author.Rules.{rules}
 use native.Mathlib.Omega.{arith}
 use Rattle.writer.proofs.put_file.Goals as goal
 

@@ -2,8 +2,6 @@ use Rattle.writer.proofs.Ends.{invalid_end, valid_end}
 use Rattle.writer.proofs.Held.{told_held}
 use Rattle.writer_form.specs.Written.{file_of}
 use Rattle.record_check.specs.Validity.{is_valid}
-use borrow.Author.Rules.{rules}
-use borrow.Author.Tests.{not-true, not-false}
 use mathlib.Core.Bool.{true}
 use mathlib.Core.Path.{◌≡◌, sym, ◌∙◌}
 use Rattle.writer.proofs.write.Goals as goal

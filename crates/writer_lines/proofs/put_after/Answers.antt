@@ -1,6 +1,5 @@
 use Rattle.writer_lines.proofs.Lines.{put_none, put_some}
 use Rattle.writer_form.proofs.Columns.{told_blank, told_filled}
-use borrow.Author.Rules.{rules}
 use mathlib.Core.Bool.{not}
 use mathlib.Core.Path.{ap}
 use Rattle.writer_lines.proofs.put_after.Goals as goal

@@ -1,9 +1,8 @@
-use Prim.Native.Nat.{◌-◌, ◌<◌}
-use Rattle.writer_lines.proofs.Lines.{Sofar, start, place_low, turn, finish, same_room, full, text_of, all_lines_short}
+use Prim.Native.Nat.{◌<◌}
+use Rattle.writer_lines.proofs.Lines.{start, place_low, turn, finish, same_room, full, text_of, all_lines_short}
 use Rattle.layout.proofs.Labels.{few}
 use Rattle.layout.specs.Layouts.{size_of}
-use Rattle.value.specs.Texts.{rooms}
-use Rattle.writer_form.proofs.Columns.{column_of, spoken}
+use Rattle.writer_form.proofs.Columns.{spoken}
 use borrow.Author.Rules.{rules}
 use lib.ListN.{length}
 use mathlib.Core.Path.{◌≡◌}

@@ -1,7 +1,6 @@
 use Rattle.writer_lines.proofs.Lines.{label_short, put_said, put_empty, line_put}
 use Rattle.layout_label.proofs.Texts.{label_text_lem}
 use Rattle.layout.specs.Layouts.{label_at}
-use borrow.Author.Rules.{rules}
 use mathlib.Core.Path.{refl}
 use native.Mathlib.Omega.{arith}
 use Rattle.writer_lines.proofs.put_text_line.Goals as goal

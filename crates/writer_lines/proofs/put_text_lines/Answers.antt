@@ -1,9 +1,9 @@
-use Prim.Native.Nat.{◌+◌, ◌-◌, ◌≤◌, ◌<◌}
+use Prim.Native.Nat.{◌+◌, ◌≤◌, ◌<◌}
 use Rattle.writer_lines.proofs.Copies.{column_full, text_there, part_small, all_lines_small}
-use Rattle.writer_lines.proofs.Lines.{Sofar, start, place_low, turn, finish, same_room}
+use Rattle.writer_lines.proofs.Lines.{start, place_low, turn, finish, same_room}
 use Rattle.layout.proofs.Labels.{few}
 use Rattle.layout.specs.Layouts.{size_of}
-use Rattle.text_lines.specs.Places.{span_at, column_in}
+use Rattle.text_lines.specs.Places.{span_at}
 use borrow.Author.Rules.{rules}
 use lib.ListN.{length}
 use native.Mathlib.Omega.{arith}

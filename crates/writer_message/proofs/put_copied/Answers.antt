@@ -3,7 +3,6 @@ use Rattle.writer_lines.proofs.Copies.{all_lines_small}
 use Rattle.writer_message.proofs.Message.{banner_short, row_small, written_put}
 use Rattle.layout.specs.Layouts.{size_of}
 use Rattle.text_lines.specs.Places.{column_in}
-use borrow.Author.Rules.{rules}
 use native.Mathlib.Omega.{arith}
 use Rattle.writer_message.proofs.put_copied.Goals as goal
 

@@ -2,7 +2,7 @@ use Prim.Native.Nat.{◌+◌, ◌≤◌}
 use Rattle.writer_lines.proofs.Lines.{all_lines_short}
 use Rattle.writer_message.proofs.Message.{banner_short, message_put}
 use Rattle.writer_row.proofs.Rows.{all_row_short}
-use Rattle.value.specs.Texts.{Rooms, rooms}
+use Rattle.value.specs.Texts.{rooms}
 use borrow.Author.Rules.{rules}
 use lib.ListN.{length}
 use mathlib.Core.Path.{◌≡◌}

@@ -1,12 +1,10 @@
 use Rattle.book_order.specs.Orders.{is_brought}
-use Rattle.book_order.specs.declared.Order.{Order}
 use Rattle.book.specs.declared.Tally.TheVariants.{Holds}
 use Rattle.book.proofs.Calls.{call_malformed, command_unfit, command_instants, command_brings, command_holds}
 use Rattle.book.proofs.Holding.{Holding, holds}
 use Rattle.book.proofs.Sizes.{sized}
 use Rattle.book.specs.Places.{tally_of}
 use borrow.Author.Rules.{rules}
-use mathlib.Core.Bool.{true}
 use mathlib.Core.Path.{◌≡◌, sym, ap, ◌∙◌}
 use Rattle.book.proofs.Book.command.Goals as goal
 

@@ -5,7 +5,6 @@ use Rattle.book.proofs.Holding.{Holding, holds}
 use Rattle.book.proofs.Sizes.{sized}
 use Rattle.book.specs.Places.{tally_of}
 use borrow.Author.Rules.{rules}
-use borrow.Author.Tests.{not-true, not-false}
 use mathlib.Core.Path.{◌≡◌, sym, ◌∙◌}
 use Rattle.book.proofs.Book.strike.Goals as goal
 

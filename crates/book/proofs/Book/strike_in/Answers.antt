@@ -6,8 +6,6 @@ use borrow.Author.Rules.{rules}
 use borrow.Author.Tests.{not-true, not-false}
 use mathlib.Core.Path.{refl, ◌∙◌}
 use native.Mathlib.Omega.{arith}
-use mathlib.Core.Bool.{not}
-use mathlib.Core.Path.{ap}
 use Rattle.book.proofs.Book.strike_in.Goals as goal
 
 pub seat_of-seat-requires : goal.seat_of-seat-requires

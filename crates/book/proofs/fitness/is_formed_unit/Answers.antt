@@ -1,7 +1,6 @@
 use Rattle.book.proofs.Fitting.{unit_long, unit_is}
 use Rattle.value_name.specs.Names.{is_unit}
 use Rattle.text.specs.Bytes.{all, is}
-use borrow.Author.Rules.{rules}
 use mathlib.Core.Path.{ap, ◌∙◌}
 use Rattle.book.proofs.fitness.is_formed_unit.Goals as goal
 

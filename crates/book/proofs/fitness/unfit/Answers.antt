@@ -1,13 +1,9 @@
-use Prim.Native.Nat.{ℕ}
 use Rattle.book.proofs.Fitting.{unfit_invalid, unfit_layout, unfit_unit, unfit_none, unit_told}
 use Rattle.report_brief.specs.Brief.{unit_of}
 use Rattle.text.specs.Bytes.{same}
 use Rattle.record_check.specs.Validity.{is_valid}
-use borrow.Author.Rules.{rules}
-use borrow.Author.Tests.{not-true, not-false}
 use lib.ListN.{take}
 use mathlib.Core.Bool.{true}
-use mathlib.Core.List.{List}
 use mathlib.Core.Path.{◌≡◌, sym, ap₂, ◌∙◌}
 use Rattle.book.proofs.fitness.unfit.Goals as goal
 

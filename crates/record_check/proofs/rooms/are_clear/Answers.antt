@@ -1,6 +1,5 @@
 use Rattle.record_check.proofs.Unused.{few_texts}
 use Rattle.record_check.specs.Validity.{are_clear}
-use borrow.Author.Rules.{rules}
 use native.Mathlib.Omega.{arith}
 use Rattle.record_check.proofs.rooms.are_clear.Goals as goal
 

@@ -1,5 +1,4 @@
 use Rattle.record_check.proofs.Unused.{with_triples, without_triples}
-use borrow.Author.Rules.{rules}
 use mathlib.Core.Path.{◌∙◌}
 use Rattle.record_check.proofs.rooms.has_no_triples.Goals as goal
 

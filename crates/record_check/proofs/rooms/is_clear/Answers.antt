@@ -1,5 +1,4 @@
 use Rattle.text.specs.Bytes.{all, is}
-use borrow.Author.Rules.{rules}
 use mathlib.Core.Path.{ap, ◌∙◌}
 use Rattle.record_check.proofs.rooms.is_clear.Goals as goal
 

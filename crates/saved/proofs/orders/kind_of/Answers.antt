@@ -1,5 +1,4 @@
 use Rattle.saved.proofs.Valued.{kind_other}
-use borrow.Author.Rules.{rules}
 use borrow.Enum.Refused.{opened}
 use Rattle.saved.proofs.orders.kind_of.Goals as goal
 

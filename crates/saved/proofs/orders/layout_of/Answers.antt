@@ -1,5 +1,4 @@
 use Rattle.saved.proofs.Valued.{other_kind}
-use borrow.Author.Rules.{rules}
 use Rattle.saved.proofs.orders.layout_of.Goals as goal
 
 pub returns : goal.returns

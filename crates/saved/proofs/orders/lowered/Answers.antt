@@ -1,5 +1,4 @@
 use Rattle.saved.proofs.Valued.{lowered_below, lowered_from}
-use borrow.Author.Rules.{rules}
 use mathlib.Core.Path.{◌∙◌}
 use mir.Syntax.{w32}
 use mir.ValLaws.{to_z-of_z}

@@ -1,5 +1,4 @@
 use Rattle.saved.proofs.Valued.{amount_small, raised_below, raised_from}
-use borrow.Author.Rules.{rules}
 use native.Mathlib.Omega.{arith}
 use Rattle.saved.proofs.orders.raised.Goals as goal
 

@@ -1,7 +1,6 @@
-use Prim.Native.Nat.{◌-◌}
 use Rattle.book.proofs.Holding.{Holding, holds}
 use Rattle.book.proofs.Sizes.{sized}
-use Rattle.saved.proofs.Shelving.{Shelved, order_come, none_shelved, next_place, next_shelved, all_shelved}
+use Rattle.saved.proofs.Shelving.{order_come, none_shelved, next_place, next_shelved, all_shelved}
 use Rattle.saved_lines.proofs.Putting.{same_room}
 use borrow.Author.Rules.{rules}
 use mathlib.Core.Path.{refl}

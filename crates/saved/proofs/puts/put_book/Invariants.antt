@@ -1,11 +1,5 @@
 use Prim.Native.Nat.{◌-◌}
-use Rattle.book.proofs.Holding.{Holding, holds}
-use Rattle.book.proofs.Sizes.{sized}
-use Rattle.saved.proofs.Shelving.{Shelved, order_come, none_shelved, next_place, next_shelved, all_shelved}
-use Rattle.saved_lines.proofs.Putting.{same_room}
-use borrow.Author.Rules.{rules}
-use mathlib.Core.Path.{refl}
-use native.Mathlib.Omega.{arith}
+use Rattle.saved.proofs.Shelving.{Shelved}
 use Rattle.saved.proofs.puts.put_book.Given as goal
 
 -- The lines above, then one loop over the orders: each that the book holds could come.

@@ -19,8 +19,7 @@ put_line-b-requires c =
 
 pub put_item-requires : goal.put_item-requires
 put_item-requires c =
-    let sixteen : length c.args.unit ≡ 16 = search rules in
-    (
+    let sixteen : length c.args.unit ≡ 16 = search rules in (
       below_unit _ _ _ c.put_item-a.ensures c.args.unit _ c.args.size c.front.ensures sixteen _ _ c.put_line-b.ensures,
       omega arith,
       head_small c.args.floor c.args.count (omega (arith, c.ranges.floor.fits)) c.requires,

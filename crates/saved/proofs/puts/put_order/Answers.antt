@@ -1,6 +1,5 @@
 use Rattle.saved.proofs.Shelving.{order_put}
 use Rattle.saved.proofs.Valued.{values_small}
-use borrow.Author.Rules.{rules}
 use native.Mathlib.Omega.{arith}
 use Rattle.saved.proofs.puts.put_order.Goals as goal
 
