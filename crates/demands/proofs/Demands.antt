@@ -3,7 +3,7 @@ use Prim.Native.Nat.{ℕ}
 use Rattle.book.specs.Answers.{fresh_of, of_in_force, asked_of, shown_of}
 use Rattle.book_ledger.specs.History.{ledger_of}
 use Rattle.book_ledger.specs.Ledger.{in_force}
-use Rattle.book_source.proofs.Given.{given-tells}
+use Rattle.book_source.proofs.Given.{given_tells}
 use Rattle.book_theorems.proofs.Theorems.{kept, unkept, found_says, asked_refusal, removal, refused_same, deed_same, tally_says}
 use Rattle.book_theorems.proofs.Lift.{deed_formed}
 use Rattle.book_theorems.specs.Books.{history}
@@ -42,7 +42,7 @@ demand_1 =
       refused_file = answers.refused_file;
       refused_first = answers.refused_first;
       refused_write = answers.refused_write;
-      refused_normalise = λ ca ioa plan file out h. answers.left-normal (read_of ca ioa plan file) out h;
+      refused_normalise = λ ca ioa plan file out h. answers.left_normal (read_of ca ioa plan file) out h;
       refused_value = answers.refused_value;
       refused_read_entry = answers.read_leaves;
       refused_normalise_entry = answers.normalise_leaves;
@@ -99,7 +99,7 @@ demand_3 =
           ap of_in_force ((kept unit ks e).in_force_so t h) ∙ found_says (in_force t (ledger_of unit (history unit ks)));
       good_unit = fresh_taken;
       bad_unit = λ unit ks k e. let u = unkept unit e ks k in (fresh_refused unit e, u.0, u.1);
-      could_come_iff = given-tells;
+      could_come_iff = given_tells;
       asked = asked_refusal;
       left_out = removal;
       tallied = tally_says;

@@ -46,38 +46,42 @@ use Rattle.writer.proofs as writer
 use Rattle.writer.specs.Writer.{write_of, left_by, normalise_of, normal_left}
 use Rattle.writer.specs.declared.Written.{Written}
 use Rattle.writer_form.specs.Written.{file_of}
-use Rattle.std.specs.Borrow.{Bor}
+use Rattle.std.specs.Borrow.{Bor, MutBor}
 
 -- a slice that the caller lends: `now` has its bytes
 abbrev Slice : Type 0
 Slice = Bor (List ℕ)
+
+-- and one that it lends to be written: `now` has the bytes at the call
+abbrev Room : Type 0
+Room = MutBor (List ℕ)
 
 -- the reader's answer to what was lent
 abbrev to : ℕ → ℕ → Slice → Slice → Answer
 to ca ioa plan file = read_of ca ioa plan.now file.now
 
 pub record Contracts : Type 0 where
-  pub halimpung_read : (κs : _) (ca ioa : ℕ) (plan file out : Slice) (z : ℕ) (e : _)
+  pub halimpung_read : (κs : _) (ca ioa : ℕ) (plan file : Slice) (out : Room) (z : ℕ) (e : _)
       → gateway.halimpung_read.Reads.Learnt κs (ca, (ioa, (plan, (file, (out, tt))))) z e
       → (z ≡ entry_code six_lines (to ca ioa plan file) (length out.now)) × (e.1.1.1.1.0.now ≡ out_of six_lines (to ca ioa plan file) out.now)
-  pub halimpung_normalise : (κs : _) (ca ioa : ℕ) (plan file out : Slice) (z : ℕ) (e : _)
+  pub halimpung_normalise : (κs : _) (ca ioa : ℕ) (plan file : Slice) (out : Room) (z : ℕ) (e : _)
       → gateway.halimpung_normalise.Reads.Learnt κs (ca, (ioa, (plan, (file, (out, tt))))) z e
       → (z ≡ entry_code file_of (to ca ioa plan file) (length out.now)) × (e.1.1.1.1.0.now ≡ out_of file_of (to ca ioa plan file) out.now)
-  pub halimpung_collect : (κs : _) (unit state file : Slice) (z : ℕ) (e : _)
+  pub halimpung_collect : (κs : _) (unit : Slice) (state file : Room) (z : ℕ) (e : _)
       → gateway.halimpung_collect.Reads.Learnt κs (unit, (state, (file, tt))) z e
       → (z ≡ collect_code (taken_of (collector_in state.now) unit.now file.now).heard)
       × (e.1.0.now ≡ state_of (taken_of (collector_in state.now) unit.now file.now).collector)
       × (e.1.1.0.now ≡ room_after (collector_in state.now) unit.now file.now)
-  pub take : (κs : _) (c : Collector) (unit file : Slice) (z : Taken) (e : _)
+  pub take : (κs : _) (c : Collector) (unit : Slice) (file : Room) (z : Taken) (e : _)
       → transfer.Collector.take.Reads.Learnt κs (c, (unit, (file, tt))) z e
       → (z ≡ taken_of c unit.now file.now) × (e.1.1.0.now ≡ room_after c unit.now file.now)
   pub read : (κs : _) (ca ioa : ℕ) (plan file : Slice) (z : Answer) (e : _)
       → reader.read.Reads.Learnt κs (ca, (ioa, (plan, (file, tt)))) z e
       → z ≡ to ca ioa plan file
-  pub write : (κs : _) (r : Record) (out : Slice) (z : Written) (e : _)
+  pub write : (κs : _) (r : Record) (out : Room) (z : Written) (e : _)
       → writer.write.Reads.Learnt κs (r, (out, tt)) z e
       → (z ≡ write_of r (length out.now)) × (e.1.0.now ≡ left_by r out.now)
-  pub normalise : (κs : _) (ca ioa : ℕ) (plan file out : Slice) (z : Written) (e : _)
+  pub normalise : (κs : _) (ca ioa : ℕ) (plan file : Slice) (out : Room) (z : Written) (e : _)
       → writer.normalise.Reads.Learnt κs (ca, (ioa, (plan, (file, (out, tt))))) z e
       → (z ≡ normalise_of (to ca ioa plan file) (length out.now)) × (e.1.1.1.1.0.now ≡ normal_left (to ca ioa plan file) out.now)
   pub is_valid_so : (κs : _) (r : Record) (z : Bool) (e : _) → record_check.is_valid.Reads.Learnt κs (r, tt) z e → z ≡ is_valid r
@@ -91,7 +95,7 @@ pub record Contracts : Type 0 where
   pub strikes : (κs : _) (b : Book) (n : ℕ) (c : Stretch) (z : Outcome) (e : _)
       → book.Book.strike.Reads.Learnt κs (b, (n, (c, tt))) z e
       → z ≡ deed_outcome_of (strike (strike_for n c)) b
-  pub saves : (κs : _) (b : Book) (out : Slice) (z : Saved) (e : _)
+  pub saves : (κs : _) (b : Book) (out : Room) (z : Saved) (e : _)
       → saved.save.Reads.Learnt κs (b, (out, tt)) z e
       → (z ≡ save_of b (length out.now)) × (e.1.0.now ≡ saved_in b out.now)
   pub reads_back : (κs : _) (s : Slice) (z : Outcome) (e : _) → saved.read.Reads.Learnt κs (s, tt) z e → z ≡ saved_read s.now
@@ -107,7 +111,7 @@ pub record Contracts : Type 0 where
   pub refusal_of : (κs : _) (ca ioa : ℕ) (plan file sheet : Slice) (z : Refusal) (e : _)
       → times.refusal_of.Reads.Learnt κs (ca, (ioa, (plan, (file, (sheet, tt))))) z e
       → z ≡ time_refusal (time_of StartUp ca ioa plan.now file.now sheet.now)
-  pub write_value : (κs : _) (out : Slice) (at : ℕ) (t : MessageType) (v : Value) (unit reason note : Slice) (gradients : List Triple) (z : Wrote) (e : _)
+  pub write_value : (κs : _) (out : Room) (at : ℕ) (t : MessageType) (v : Value) (unit reason note : Slice) (gradients : List Triple) (z : Wrote) (e : _)
       → value_put.write_value.Reads.Learnt κs (out, (at, (t, (v, (unit, (reason, (note, (gradients, tt)))))))) z e
       → (z ≡ wrote_of out.now at (value_text t (rooms unit.now reason.now note.now gradients) v))
       × (e.0.now ≡ buffer_of out.now at (value_text t (rooms unit.now reason.now note.now gradients) v))

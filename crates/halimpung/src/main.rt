@@ -16,7 +16,8 @@ const MOST: u64 = 65536;
 // Room for what is printed: a record's six lines with a unit of sixteen bytes and numbers of ten digits have as much, and nothing has more.
 const ROOM: usize = 89;
 
-// Reads the plan, and says whether it could be read. A want of memory is no fault of the plan: it ends the program, with no answer.
+// Reads the plan, and says whether it could be opened. Where it cannot be read to its end, what was read is taken for the plan. A want of memory is
+// no fault of the plan: it ends the program, with no answer.
 fn read_plan<R: Files>(files: &R, plan: &mut Vec<u8>) -> io::Result<bool> {
     let Ok(file) = File::open(files, "plan.txt") else {
         return Ok(false);
@@ -24,7 +25,7 @@ fn read_plan<R: Files>(files: &R, plan: &mut Vec<u8>) -> io::Result<bool> {
     match file.take(MOST).read_to_end(plan) {
         Ok(_) => Ok(true),
         Err(e) if e.kind() == ErrorKind::OutOfMemory => Err(e),
-        Err(_) => Ok(false),
+        Err(_) => Ok(true),
     }
 }
 

@@ -10,10 +10,6 @@ use mathlib.Core.Path.{refl}
 use native.Mathlib.Omega.{arith}
 use Rattle.plan_row.proofs.row_at.Goals as goal
 
--- LOST slice-aggregate-number-line
--- slice-aggregate-number-line : tie.Need-slice-aggregate-number-line
--- slice-aggregate-number-line c = search rules
-
 pub number_line-requires : goal.number_line-requires
 unfolding any
 number_line-requires c = refl
@@ -26,10 +22,6 @@ overflow_add-second c =
     let short : length c.args.s.now < limit = omega arith in
     let two : At c.args.s.now (c.in-Is.a + 1) (below c.args.s.now) = search at_two in
     omega (arith, short, two.inside)
-
--- LOST slice-aggregate-number-line-2
--- slice-aggregate-number-line-2 : tie.Need-slice-aggregate-number-line-2
--- slice-aggregate-number-line-2 c = search rules
 
 pub slice_bounds-number_line-count : goal.slice_bounds-number_line-count
 slice_bounds-number_line-count c =

@@ -1,10 +1,6 @@
 use Rattle.plan_row.proofs.Codes.{type_key, type_short, type_open, type_line}
 use Rattle.plan_row.proofs.type_line.Goals as goal
 
--- LOST slice-aggregate-starts
--- slice-aggregate-starts : tie.Need-slice-aggregate-starts
--- slice-aggregate-starts c = search rules
-
 pub returns-then-not-starts : goal.returns-then-not-starts
 returns-then-not-starts c = type_key _ _ c.starts.ensures c.if-not-starts.true
 

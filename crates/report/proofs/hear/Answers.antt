@@ -5,16 +5,8 @@ use borrow.Author.Rules.{rules}
 use mathlib.Core.Path.{sym, ◌∙◌}
 use Rattle.report.proofs.hear.Goals as goal
 
--- LOST slice-aggregate-number
--- slice-aggregate-number : tie.Need-slice-aggregate-number
--- slice-aggregate-number c = search rules
-
 pub returns-in_default : goal.returns-in_default
 returns-in_default c = search no_ca
-
--- LOST slice-aggregate-number-2
--- slice-aggregate-number-2 : tie.Need-slice-aggregate-number-2
--- slice-aggregate-number-2 c = search rules
 
 pub returns-in_default-number : goal.returns-in_default-number
 returns-in_default-number c = search no_ioa

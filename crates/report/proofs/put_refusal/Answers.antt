@@ -4,14 +4,6 @@ use Rattle.text.specs.Bytes.{bytes}
 use borrow.Author.Rules.{rules}
 use Rattle.report.proofs.put_refusal.Goals as goal
 
--- LOST slice-aggregate-put-number
--- slice-aggregate-put-number : tie.Need-slice-aggregate-put-number
--- slice-aggregate-put-number c = search rules
-
--- LOST slice-aggregate-put-number-2
--- slice-aggregate-put-number-2 : tie.Need-slice-aggregate-put-number-2
--- slice-aggregate-put-number-2 c = search rules
-
 pub put_number-requires : goal.put_number-requires
 put_number-requires c =
     let h = number_length (bytes "result=") c.args.number in

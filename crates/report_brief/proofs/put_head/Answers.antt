@@ -3,14 +3,6 @@ use Rattle.text.proofs.Numerals.{whole_length}
 use borrow.Author.Rules.{rules}
 use Rattle.report_brief.proofs.put_head.Goals as goal
 
--- LOST slice-aggregate-put-text-2
--- slice-aggregate-put-text-2 : tie.Need-slice-aggregate-put-text-2
--- slice-aggregate-put-text-2 c = search rules
-
--- LOST slice-aggregate-put-text-3
--- slice-aggregate-put-text-3 : tie.Need-slice-aggregate-put-text-3
--- slice-aggregate-put-text-3 c = search rules
-
 pub put_byte-requires : goal.put_byte-requires
 put_byte-requires c =
     let k = whole_length 9 c.args.n in

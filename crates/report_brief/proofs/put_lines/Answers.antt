@@ -9,10 +9,6 @@ use native.Mathlib.Omega.{arith}
 use borrow.Author.Rules.{rules}
 use Rattle.report_brief.proofs.put_lines.Goals as goal
 
--- LOST slice-aggregate-put-line
--- slice-aggregate-put-line : tie.Need-slice-aggregate-put-line
--- slice-aggregate-put-line c = search rules
-
 pub put_line-third-requires : goal.put_line-third-requires
 put_line-third-requires c =
     let head_far : c.put_head-head.result ≤ c.args.at + 35 = omega (arith, c.put_head-head.ensures.0, head_length c.type_of.result c.args.b.number) in
@@ -20,10 +16,6 @@ put_line-third-requires c =
     let u : length b.unit ≡ 16 = search rules in
     omega (arith, ap length c.front.ensures, unit_length b.size b.unit u) in
     omega (arith, head_far, unit_short)
-
--- LOST slice-aggregate-put-text
--- slice-aggregate-put-text : tie.Need-slice-aggregate-put-text
--- slice-aggregate-put-text c = search rules
 
 pub put_text-fourth-requires : goal.put_text-fourth-requires
 put_text-fourth-requires c =
@@ -43,10 +35,6 @@ put_instant-fifth-requires c =
     let unit_far : c.put_line-third.result ≤ c.args.at + 57 = omega (arith, c.put_line-third.ensures.0, line_length (bytes "unit=") c.front.result.now, unit_short, head_far) in
     let start_far : c.put_text-fourth.result ≤ c.args.at + 63 = omega (arith, c.put_text-fourth.ensures.0, unit_far) in
     omega (arith, start_far)
-
--- LOST slice-aggregate-put-text-2
--- slice-aggregate-put-text-2 : tie.Need-slice-aggregate-put-text-2
--- slice-aggregate-put-text-2 c = search rules
 
 pub put_text-sixth-requires : goal.put_text-sixth-requires
 put_text-sixth-requires c =

@@ -21,19 +21,11 @@ returns-then-any_partial c =
     let partial : (u : Bool) → c.any_partial.result ≡ u → has_partial c.args.b ≡ u = λ u is. partial_held _ _ holding _ u c.any_partial.ensures is in
     save_partial _ _ holding.formed (partial _ c.if-any_partial.true)
 
--- FAILED put_book-size-requires: helper counted on ,
--- put-book-requires : tie.Need-put-book-requires
--- put-book-requires c κs = search (counted, rules)
-
 pub returns-then-out-size : goal.returns-then-out-size
 returns-then-out-size c =
     let holding : Holding c.args.b c.in-Holds.count = holds c.args.b _ c.tally.ensures _ (sized c.args.b (search rules) (search rules)) c.in-Holds.is in
     let partial : (u : Bool) → c.any_partial.result ≡ u → has_partial c.args.b ≡ u = λ u is. partial_held _ _ holding _ u c.any_partial.ensures is in
     save_full _ _ holding.formed (partial _ c.if-any_partial.false) _ _ c.put_book-size.ensures c.if-out-size.true
-
--- FAILED put_book-requires: helper counted on ,
--- put-book-requires-2 : tie.Need-put-book-requires-2
--- put-book-requires-2 c κs = search (counted, rules)
 
 pub returns : goal.returns
 returns c =

@@ -4,10 +4,6 @@ use Rattle.text.specs.Bytes.{bytes}
 use mathlib.Core.Path.{sym, ◌∙◌}
 use Rattle.text_keyline.proofs.unit_line.Goals as goal
 
--- LOST slice-aggregate-starts
--- slice-aggregate-starts : tie.Need-slice-aggregate-starts
--- slice-aggregate-starts c = search rules
-
 pub returns-then-not-starts : goal.returns-then-not-starts
 returns-then-not-starts c = unit_key _ _ c.starts.ensures c.if-not-starts.true
 

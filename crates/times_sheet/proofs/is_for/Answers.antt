@@ -5,16 +5,8 @@ use Rattle.times_sheet.proofs.is_for.Goals as goal
 pub returns-then-not-unit_line : goal.returns-then-not-unit_line
 returns-then-not-unit_line c = search (other_unit, not-true)
 
--- LOST slice-aggregate-number-line
--- slice-aggregate-number-line : tie.Need-slice-aggregate-number-line
--- slice-aggregate-number-line c = search rules
-
 pub returns-then-not-number_line : goal.returns-then-not-number_line
 returns-then-not-number_line c = search (no_start_up, not-true, not-false)
-
--- LOST slice-aggregate-number-line-2
--- slice-aggregate-number-line-2 : tie.Need-slice-aggregate-number-line-2
--- slice-aggregate-number-line-2 c = search rules
 
 pub returns-then-not-number_line-2 : goal.returns-then-not-number_line-2
 returns-then-not-number_line-2 c = search (no_ramp, not-true, not-false)

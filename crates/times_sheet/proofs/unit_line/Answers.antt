@@ -1,10 +1,6 @@
 use Rattle.times_sheet.proofs.Sheets.{no_unit_line, unit_line_lem}
 use Rattle.times_sheet.proofs.unit_line.Goals as goal
 
--- LOST slice-aggregate-line-of
--- slice-aggregate-line-of : tie.Need-slice-aggregate-line-of
--- slice-aggregate-line-of c = search rules
-
 pub returns-in_default : goal.returns-in_default
 returns-in_default c = no_unit_line _ _ _ c.line_of.ensures c.in_default.is
 

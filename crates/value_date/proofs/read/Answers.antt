@@ -5,10 +5,6 @@ use mathlib.Core.Bool.{true}
 use mathlib.Core.Path.{◌≡◌, sym, ap, ◌∙◌}
 use Rattle.value_date.proofs.read.Goals as goal
 
--- LOST slice-aggregate-has-shape
--- slice-aggregate-has-shape : tie.Need-slice-aggregate-has-shape
--- slice-aggregate-has-shape c = search rules
-
 pub returns-then-not-has_shape : goal.returns-then-not-has_shape
 returns-then-not-has_shape c = date_misshapen _ (sym c.has_shape.ensures ∙ c.if-not-has_shape.true)
 

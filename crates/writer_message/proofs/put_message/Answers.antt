@@ -24,10 +24,6 @@ put_lines-above-requires c =
     let empty_end : c.put_byte-body.result ≤ c.args.at + 89 = omega (arith, banner_end, c.put_byte-body.ensures.0) in
     (omega (arith, c.requires.0, empty_end), c.requires.1)
 
--- LOST slice-aggregate-put-text
--- slice-aggregate-put-text : tie.Need-slice-aggregate-put-text
--- slice-aggregate-put-text c = search rules
-
 pub put_text-from-requires : goal.put_text-from-requires
 put_text-from-requires c =
     let banner_end : c.put-head.result ≤ c.args.at + 88 = omega (arith, banner_short c.args.l, c.put-head.ensures.0) in
@@ -44,10 +40,6 @@ put_row-to-requires c =
     let lines_end : c.put_lines-above.result ≤ c.args.at + 18289 = omega (arith, empty_end, all_lines_short c.args.l _ _ c.requires.1 sixteen, c.put_lines-above.ensures.0) in
     let above_end : c.put_text-from.result ≤ c.args.at + 18295 = omega (arith, lines_end, c.put_text-from.ensures.0) in
     (omega (arith, c.requires.0, above_end), c.requires.1)
-
--- LOST slice-aggregate-put-text-2
--- slice-aggregate-put-text-2 : tie.Need-slice-aggregate-put-text-2
--- slice-aggregate-put-text-2 c = search rules
 
 pub put_text-requires : goal.put_text-requires
 put_text-requires c =

@@ -8,10 +8,6 @@ use Rattle.saved.proofs.puts.put_head.Goals as goal
 pub put_item-a-requires : goal.put_item-a-requires
 put_item-a-requires c = (omega arith, omega arith, form_small)
 
--- LOST slice-aggregate-put-line
--- slice-aggregate-put-line : tie.Need-slice-aggregate-put-line
--- slice-aggregate-put-line c = search rules
-
 pub put_line-b-requires : goal.put_line-b-requires
 put_line-b-requires c =
     let sixteen : length c.args.unit ≡ 16 = search rules in

@@ -2,10 +2,6 @@ use Rattle.saved_lines.proofs.Meeting.{whole_most, under_not, under_is, over_not
 use native.Mathlib.Omega.{arith}
 use Rattle.saved_lines.proofs.line.amount_of.Goals as goal
 
--- LOST slice-aggregate-starts
--- slice-aggregate-starts : tie.Need-slice-aggregate-starts
--- slice-aggregate-starts c = search rules
-
 pub returns-in_default : goal.returns-in_default
 returns-in_default c =
     under_not _ _ c.starts.ensures c.if-starts.true _ c.rest.ensures _ c.whole.ensures c.in_default.is

@@ -1,16 +1,8 @@
 use Rattle.saved_lines.proofs.Meeting.{letter_market, letter_mfrr, letter_none}
 use Rattle.saved_lines.proofs.line.letter_of.Goals as goal
 
--- LOST slice-aggregate-same
--- slice-aggregate-same : tie.Need-slice-aggregate-same
--- slice-aggregate-same c = search rules
-
 pub returns-then-same : goal.returns-then-same
 returns-then-same c = letter_market _ _ c.same.ensures c.if-same.true
-
--- LOST slice-aggregate-same-2
--- slice-aggregate-same-2 : tie.Need-slice-aggregate-same-2
--- slice-aggregate-same-2 c = search rules
 
 pub returns-then-same-2 : goal.returns-then-same-2
 returns-then-same-2 c =
