@@ -4,13 +4,13 @@ use Rattle.text.proofs.Tests.{by_test, or_parts}
 use Rattle.text.specs.Bytes.{any, first_of, is, upto}
 use Rattle.text_lines.specs.Lines.{allowed, allowed_from, allowed_upto}
 use Rattle.text_lines.specs.Spellings.{Spelling, begins_line, opens, label_room}
-use borrow.Author.Tests.{eqb-true, ltb-true, lt-ltb}
+use borrow.Author.Tests.{ltb-true, lt-ltb}
 use lib.Dec.{ltb}
 use lib.ListN.{length, get_or, take}
-use mathlib.Core.Bool.{Bool, true, false, ◌&&◌, ◌||◌, cond, or-false, false≢true}
+use mathlib.Core.Bool.{true, false, ◌&&◌, ◌||◌, cond, false≢true}
 use mathlib.Core.List.{List, [], ◌∷◌, ◌++◌}
 use mathlib.Core.Logic.{◌↔◌}
-use mathlib.Core.Path.{◌≡◌, refl, sym, ap, ◌∙◌}
+use mathlib.Core.Path.{◌≡◌, refl, sym, ◌∙◌}
 use native.Mathlib.Omega.{arith}
 
 module _ (sp : List Spelling) where

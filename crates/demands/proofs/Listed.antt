@@ -7,7 +7,7 @@ use Rattle.layout.specs.Layouts.{fields_of, labels_of, kinds_of, kind_at, no_kin
 use Rattle.layout.specs.Rows.{text_at, row_of}
 use Rattle.layout.specs.declared.Layout.{Layout}
 use Rattle.reader.specs.Messages.{given, row_in, layout_in, entries_in, values_of, is_bad, good_of, column_record}
-use Rattle.reader.specs.Reader.{Sound, is_there, number_or, valued, labelled, body_column, record_in, message_of}
+use Rattle.reader.specs.Reader.{Sound, is_there, number_or, valued, labelled, record_in, message_of}
 use Rattle.reader.specs.Refusals.{answer}
 use Rattle.text.specs.Refusals.{refusal}
 use Rattle.reader.specs.declared.Answer.{Answer}
@@ -22,7 +22,7 @@ use Rattle.text.proofs.Tests.{by_test, and_parts}
 use Rattle.text.proofs.Trims.{tidy_parts}
 use Rattle.text.specs.Bytes.{all, any, is, past, same, skip, skip_end, tidy, trim, upto}
 use Rattle.text_lines.proofs.Order.{Alike, missing_same}
-use Rattle.text_lines.specs.Entries.{Entry, stands, again, missing, value_at, column}
+use Rattle.text_lines.specs.Entries.{Entry, stands, again, value_at, column}
 use Rattle.text_room.specs.Rooms.{kept_in}
 use Rattle.value.specs.Kinds.{list_from, triples_from, shape_of, value_of}
 use Rattle.value.specs.declared.Got.TheVariants.{Read}
@@ -34,7 +34,6 @@ use Rattle.value.specs.declared.Value.TheVariants.{Blank}
 use Rattle.value_list.proofs.Cuts.{cut_none, cut_some, cut_first}
 use Rattle.value_list.specs.Forms.{amount_of, listed, numbers_in, profile_of, bands_of, one_of, one_in, triple_is, triple_in, gradients_read, gradients_in}
 use Rattle.value_list.specs.Lists.{cut_at, cons_read, every_of, counted, some_of}
-use Rattle.value_list.specs.declared.GradientsRead.{GradientsRead}
 use Rattle.value_list.specs.declared.Triple.{Triple}
 use Rattle.value_name.specs.declared.MessageType.{MessageType}
 use borrow.Author.Tests.{eqb-true, ne_eqb}
@@ -43,7 +42,7 @@ use lib.IntN.{ℤ}
 use lib.ListN.{length, get_or}
 use mathlib.Core.Bool.{Bool, true, ◌&&◌, ◌||◌, not, cond}
 use mathlib.Core.List.{List, [], ◌∷◌, map, map-map}
-use mathlib.Core.Logic.{◌⊎◌, inl, inr, ⊎_elim}
+use mathlib.Core.Logic.{◌⊎◌, inr, ⊎_elim}
 use mathlib.Core.Option.{Option, some}
 use mathlib.Core.Path.{◌≡◌, refl, sym, ap, ap₂, ◌∙◌, subst}
 use native.Mathlib.Omega.{arith}

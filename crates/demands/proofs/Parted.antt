@@ -21,8 +21,8 @@ use Rattle.value_name.specs.declared.MessageType.{MessageType}
 use lib.Dec.{eqb}
 use lib.ListN.{length}
 use mathlib.Core.Bool.{Bool, true, ◌&&◌, not, cond}
-use mathlib.Core.List.{List, [], ◌∷◌}
-use mathlib.Core.Option.{Option, none as nothing, some}
+use mathlib.Core.List.{List, ◌∷◌}
+use mathlib.Core.Option.{none as nothing, some}
 use mathlib.Core.Path.{◌≡◌, refl, sym, ap, ap₂, ◌∙◌}
 
 -- ---- one line: it is a separator or not, and it says the same parameter

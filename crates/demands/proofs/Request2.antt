@@ -1,5 +1,5 @@
 -- THE THEOREM: request A2 of document 02. Assumes nothing.
-use Prim.Native.Nat.{ℕ, ◌+◌, ◌*◌}
+use Prim.Native.Nat.{ℕ}
 use Rattle.demands.specs.Request2.{Request2, FirstOf, saying_of}
 use Rattle.reader.specs.Reader.{read_of}
 use Rattle.text.proofs.Firsts.{Decided, first, not_any, decided, first_given, none_given}
@@ -20,8 +20,8 @@ use Rattle.transfer_unit.specs.declared.Told.TheVariants.{Other}
 use borrow.Author.Tests.{eqb-true}
 use lib.Dec.{eqb}
 use lib.ListN.{replicate}
-use mathlib.Core.Bool.{Bool, true, false, ◌&&◌}
-use mathlib.Core.List.{List, [], ◌∷◌}
+use mathlib.Core.Bool.{◌&&◌}
+use mathlib.Core.List.{List, []}
 use mathlib.Core.Path.{◌≡◌, refl, sym, ap, ◌∙◌}
 use native.Mathlib.Omega.{arith}
 

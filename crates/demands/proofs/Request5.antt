@@ -6,7 +6,6 @@ use Rattle.layout.specs.Fields.{market, command, technical}
 use Rattle.layout.specs.Layouts.{fields_of, kinds_of, type_of, no_kind}
 use Rattle.layout.specs.declared.Layout.{Layout}
 use Rattle.layout.specs.declared.Layout.TheVariants.{Market}
-use Rattle.reader.specs.Reader.{read_of}
 use Rattle.reader_theorems.proofs.Validity.{read_valid}
 use Rattle.record.proofs.Fields.{field_value_at}
 use Rattle.record.proofs.Places.{At}
@@ -28,7 +27,7 @@ use Rattle.value.specs.declared.Kind.{Kind}
 use Rattle.value.specs.declared.Shape.{Shape}
 use Rattle.value.specs.declared.Shape.TheVariants.{IsProfile}
 use Rattle.value.specs.declared.Value.{Value}
-use Rattle.value.specs.declared.Value.TheVariants.{Blank, List as Numbers}
+use Rattle.value.specs.declared.Value.TheVariants.{List as Numbers}
 use Rattle.value_ask.specs.Values.{is_filled, list_size}
 use Rattle.value_list.specs.Forms.{numbers_of, list_of, numbers_in, numbers_text, ValidNumbers}
 use Rattle.value_list.specs.Lists.{counted, some_of}

@@ -1,10 +1,9 @@
 -- A file by either spelling of a label is answered alike, whatever the answer. Assumes nothing.
-use Prim.Native.Nat.{ℕ, suc, ◌≤◌, ◌<◌}
+use Prim.Native.Nat.{ℕ, ◌<◌}
 use Rattle.demands.proofs.Parted.{Alike, lines_same}
 use Rattle.demands.specs.Request1.{with_label}
 use Rattle.demands.specs.Spaced.{Pairwise, none, next}
 use Rattle.layout.specs.Layouts.{labels_of}
-use Rattle.layout.specs.declared.Layout.{Layout}
 use Rattle.reader.specs.Messages.{given, row_in, layout_in, entries_in, column_record}
 use Rattle.reader.specs.Reader.{Clean, Sound, labelled, reading, record_in, message_of}
 use Rattle.reader.specs.Refusals.{refused, answer}
@@ -12,22 +11,22 @@ use Rattle.reader.specs.declared.Answer.{Answer}
 use Rattle.reader_accent.proofs.Table.{accents_good}
 use Rattle.reader_accent.specs.Accents.{accents_of}
 use Rattle.reader_theorems.proofs.Alike.{sound_reading}
-use Rattle.text.proofs.Cuts.{all_append, any_append, any_seam, past_seam, upto_seam, same_true, all_none}
+use Rattle.text.proofs.Cuts.{all_append, any_append, any_seam, same_true, all_none}
 use Rattle.text.proofs.Tests.{by_test, within_tells}
 use Rattle.text.specs.Bytes.{all, any, bytes, is, is_blank, is_plain, past, same, skip, skip_end, trim, upto, within}
 use Rattle.text_lines.proofs.Allowed.{allowed_length, below_allowed, spelt_allowed}
-use Rattle.text_lines.proofs.Params.{param_of_line, sep_equals, equals_trim, blanks_equals, trim_front_blanks, trim_end_blanks}
+use Rattle.text_lines.proofs.Params.{param_of_line, sep_equals, equals_trim, trim_front_blanks, trim_end_blanks}
 use Rattle.text_lines.proofs.Spelt.{plain_unaccented, respell_plain}
 use Rattle.text_lines.proofs.Steps.{lines_step}
 use Rattle.text_lines.specs.Entries.{entries, column}
-use Rattle.text_lines.specs.Lines.{Param, param, allowed_upto, push, line_step, lines, text_of, texts, is_sep, param_of, respelt, param_in}
+use Rattle.text_lines.specs.Lines.{Param, param, allowed_upto, push, line_step, lines, text_of, texts, is_sep, respelt, param_in}
 use Rattle.text_lines.specs.Spellings.{begins_line, is_accented, respell}
 use Rattle.value_name.specs.declared.MessageType.{MessageType}
 use Rattle.value_name.specs.declared.MessageType.TheVariants.{Cb, Rc, Mg, Eb, Lb, Sr, Vq, Ri, Qr}
-use borrow.Author.Tests.{eqb-true, ne_eqb, ltb-false, not-false}
+use borrow.Author.Tests.{eqb-true, ne_eqb, ltb-false}
 use lib.Dec.{ltb}
 use lib.ListN.{length, length-append}
-use mathlib.Core.Bool.{Bool, true, false, not, false≢true}
+use mathlib.Core.Bool.{true, false, false≢true}
 use mathlib.Core.List.{List, [], ◌∷◌, ◌++◌, map, append_assoc}
 use mathlib.Core.Option.{some}
 use mathlib.Core.Path.{◌≡◌, refl, sym, ap, ap₂, ◌∙◌, subst}

@@ -12,7 +12,6 @@ use Rattle.report_brief.proofs as report_brief
 use Rattle.saved.proofs as saved
 use Rattle.times.proofs as times
 use Rattle.transfer.proofs as transfer
-use Rattle.transfer_unit.proofs as transfer_unit
 use Rattle.value.proofs as value
 use Rattle.value_date.proofs as value_date
 use Rattle.value_fits.proofs as value_fits

@@ -1,6 +1,6 @@
 -- Request A1 of document 02, "Accented labels and the short VMAX", sentence by sentence, over the definitions that the contracts name.
 -- Bytes: 10 LF, 61 '=', 224 E0.
-use Rattle.std.specs.Prelude.{ℕ, ◌+◌, ◌≤◌, ◌<◌, length, get_or, take, Bool, true, false, List, [], ◌∷◌, ◌++◌, ◌↔◌, ◌≡◌}
+use Rattle.std.specs.Prelude.{ℕ, ◌+◌, ◌≤◌, ◌<◌, length, get_or, take, true, false, List, [], ◌∷◌, ◌++◌, ◌↔◌, ◌≡◌}
 use Rattle.demands.specs.Demand2.{type_at, layout_at}
 use Rattle.layout.specs.Rows.{row_of}
 use Rattle.reader.specs.Messages.{given, row_in}

@@ -1,5 +1,5 @@
 -- Each turn passes a byte.
-use Rattle.std.proofs.Common.{◌-◌, ◌≡◌, ℕ, ◌+◌, ◌*◌, ◌<◌, ◌≤◌, length}
+use Rattle.std.proofs.Common.{◌-◌, ◌≡◌, length}
 use Rattle.cases.proofs.move_down.Given as goal
 
 abbrev pub invariant-loop-j : goal.invariant-loop-j

@@ -1,5 +1,5 @@
 -- Each turn fills a byte or more; the buffer keeps its length.
-use Rattle.std.proofs.Common.{◌-◌, ◌≡◌, ℕ, ◌+◌, ◌*◌, ◌<◌, ◌≤◌, length}
+use Rattle.std.proofs.Common.{◌-◌, ◌≡◌, length}
 use Rattle.cases.proofs.read_more.Given as goal
 
 abbrev pub invariant-loop-full : goal.invariant-loop-full

@@ -1,5 +1,5 @@
 -- A line lies in the bytes before `to`.
-use Rattle.std.proofs.Common.{◌+◌, ◌≤◌, length, length-drop, length-take, ap}
+use Rattle.std.proofs.Common.{length, length-drop, length-take, ap}
 use Rattle.cases.proofs.run_lines.Goals as goal
 use Rattle.text.proofs.Cuts.{upto_length}
 use Rattle.text.specs.Bytes.{is}

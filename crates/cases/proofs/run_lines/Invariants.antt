@@ -1,5 +1,5 @@
 -- Each turn passes a line and its end, which lie before `to`.
-use Rattle.std.proofs.Common.{◌-◌, ◌≡◌, ℕ, ◌+◌, ◌*◌, ◌<◌, ◌≤◌, length}
+use Rattle.std.proofs.Common.{◌-◌, ◌≡◌, length}
 use Rattle.cases.proofs.run_lines.Given as goal
 
 abbrev pub invariant-loop-at : goal.invariant-loop-at

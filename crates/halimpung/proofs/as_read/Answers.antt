@@ -1,5 +1,4 @@
 use Rattle.halimpung.proofs.Longest.{a_plan, no_plan}
-use borrow.Author.Rules.{rules}
 use Rattle.halimpung.proofs.as_read.Goals as goal
 
 -- The plan, or none of it.

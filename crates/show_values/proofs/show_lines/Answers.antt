@@ -1,5 +1,5 @@
 -- A line lies in the rest of the text.
-use Rattle.std.proofs.Common.{◌+◌, ◌≤◌, length, length-drop, ap}
+use Rattle.std.proofs.Common.{length, length-drop, ap}
 use Rattle.show_values.proofs.show_lines.Goals as goal
 use Rattle.text.proofs.Cuts.{upto_length}
 use Rattle.text.specs.Bytes.{is}

@@ -1,5 +1,5 @@
 -- Each turn passes a line and its end, so the place stays within one past the text.
-use Rattle.std.proofs.Common.{◌-◌, ℕ, ◌+◌, ◌≤◌, length}
+use Rattle.std.proofs.Common.{◌-◌, ◌+◌, ◌≤◌, length}
 use Rattle.show_values.proofs.show_lines.Given as goal
 
 abbrev pub invariant-loop-at : goal.invariant-loop-at

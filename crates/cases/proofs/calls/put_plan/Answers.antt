@@ -1,4 +1,3 @@
-use borrow.Author.Rules.{rules}
 use lib.ListN.{length, length-take}
 use mathlib.Core.Path.{ap}
 use native.Mathlib.Omega.{arith}

@@ -1,5 +1,5 @@
 -- Two digits for each of at most 2,048 bytes fit into 4,096.
-use Rattle.std.proofs.Common.{◌-◌, ◌≡◌, ℕ, ◌+◌, ◌*◌, ◌<◌, ◌≤◌, length}
+use Rattle.std.proofs.Common.{◌-◌, ◌≡◌, ◌≤◌, length}
 use Rattle.cases.proofs.said.say_chunk.Given as goal
 
 abbrev pub invariant-loop-i : goal.invariant-loop-i

@@ -1,5 +1,5 @@
 -- Each turn passes a chunk that lies in the bytes whole.
-use Rattle.std.proofs.Common.{◌-◌, ◌≡◌, ℕ, ◌+◌, ◌*◌, ◌<◌, ◌≤◌, length}
+use Rattle.std.proofs.Common.{◌-◌, ◌≤◌, length}
 use Rattle.cases.proofs.said.say_hex.Given as goal
 
 abbrev pub invariant-loop-at : goal.invariant-loop-at

@@ -1,5 +1,5 @@
 -- Each turn looks at a byte.
-use Rattle.std.proofs.Common.{◌-◌, ◌≡◌, ℕ, ◌+◌, ◌*◌, ◌<◌, ◌≤◌, length}
+use Rattle.std.proofs.Common.{◌-◌, ◌≤◌, length}
 use Rattle.cases.proofs.request.hex.are_digits.Given as goal
 
 abbrev pub invariant-loop-i : goal.invariant-loop-i

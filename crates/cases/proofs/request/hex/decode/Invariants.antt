@@ -1,5 +1,5 @@
 -- The digits lie in the line, which keeps its length, and each pair becomes one byte at or before it.
-use Rattle.std.proofs.Common.{◌-◌, ◌≡◌, ℕ, ◌+◌, ◌*◌, ◌<◌, ◌≤◌, length}
+use Rattle.std.proofs.Common.{◌-◌, ◌≡◌, ◌+◌, ◌*◌, ◌≤◌, length}
 use Rattle.cases.proofs.request.hex.decode.Given as goal
 
 abbrev pub invariant-loop-i : goal.invariant-loop-i

@@ -1,5 +1,5 @@
 -- A field ends within the line.
-use Rattle.std.proofs.Common.{◌+◌, ◌≤◌, length, length-drop, ap}
+use Rattle.std.proofs.Common.{length, length-drop, ap}
 use Rattle.cases.proofs.request.parts.cut.Goals as goal
 use Rattle.text.proofs.Cuts.{upto_length}
 use Rattle.text.specs.Bytes.{is}

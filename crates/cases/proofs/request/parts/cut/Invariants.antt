@@ -1,5 +1,5 @@
 -- A field begins within the line.
-use Rattle.std.proofs.Common.{◌-◌, ◌≡◌, ℕ, ◌+◌, ◌*◌, ◌<◌, ◌≤◌, length}
+use Rattle.std.proofs.Common.{◌-◌, ◌≡◌, ◌≤◌, length}
 use Rattle.cases.proofs.request.parts.cut.Given as goal
 
 abbrev pub invariant-loop-k : goal.invariant-loop-k
