@@ -3,9 +3,10 @@
 
 ghost use Rattle.std.specs.Prelude.{◌<◌};
 
-use book::{Book, InForce};
+use book::Book;
 use book_order::Order;
 use record::{Cell, Record, at};
+use refusal::Refusal;
 use std::num;
 use text::scan;
 use value::Value;
@@ -23,21 +24,25 @@ fn wrapped(n: u64) -> u32
     (n % 65536) as u32
 }
 
-fn said_in_force(answer: InForce) -> u32 {
+fn said_in_force(answer: Result<Option<u64>, Refusal>) -> u32 {
     match answer {
-        InForce::Refused(number, _) => number as u32,
-        InForce::Nothing => 0,
-        InForce::Number(n) => wrapped(n),
+        Err(refusal) => refusal.number() as u32,
+        Ok(None) => 0,
+        Ok(Some(n)) => wrapped(n),
     }
 }
 
 // An order of the book that a call handed back counts too: else nobody would look at that book, and it need not be made.
-fn said(number: u8, o: Order) -> u32 {
+fn said(answer: Result<(), Refusal>, o: Order) -> u32 {
+    let number = match answer {
+        Err(refusal) => refusal.number() as u32,
+        Ok(()) => 0,
+    };
     let c = o.struck[0];
     if c.to != 0 {
-        return number as u32 + 1;
+        return number + 1;
     }
-    number as u32 + wrapped(o.number)
+    number + wrapped(o.number)
 }
 
 // The book for the command's unit, with the command under the numbers 2, 4, and so on.
@@ -47,13 +52,11 @@ fn filled(command: Record, held: u32) -> Book {
     let fresh = book::fresh(scan::front(&unit, told.size));
     let mut b = fresh.book;
     let mut r = command;
-    let mut i: u32 = 0;
-    while i < held {
+    for i in 0..held {
         let c = id(2 * i as u64 + 2);
         r.cells[at::IDENTIFIER] = c;
         let o = b.command(r);
         b = o.book;
-        i += 1;
     }
     b
 }
@@ -65,14 +68,12 @@ fn ask(held: Book, rounds: u32) -> u32 {
     let first = held.orders[0];
     let mut b = held;
     let mut sum: u32 = 0;
-    let mut i: u32 = 0;
-    while i < rounds {
+    for i in 0..rounds {
         b.floor = i % 1024;
         let asked = b.in_force(num::wrapping_add_u32(first.start, i % 1024));
         let answer = asked.answer;
         sum = num::wrapping_add_u32(sum, said_in_force(answer));
         b = asked.book;
-        i += 1;
     }
     sum
 }
@@ -81,13 +82,11 @@ fn ask(held: Book, rounds: u32) -> u32 {
 fn close(held: Book, rounds: u32) -> u32 {
     let mut b = held;
     let mut sum: u32 = 0;
-    let mut i: u32 = 0;
-    while i < rounds {
+    for i in 0..rounds {
         b.floor = i % 1024;
         let o = b.close(i % 1024);
         b = o.book;
-        sum = num::wrapping_add_u32(sum, said(o.number, b.orders[(i % 96) as usize]));
-        i += 1;
+        sum = num::wrapping_add_u32(sum, said(o.answer, b.orders[(i % 96) as usize]));
     }
     sum
 }
@@ -106,15 +105,13 @@ fn give(held: Book, order: Record, rounds: u32, is_held: bool) -> u32 {
     let mut b = held;
     let mut r = order;
     let mut sum: u32 = 0;
-    let mut i: u32 = 0;
-    while i < rounds {
+    for i in 0..rounds {
         let c = id(number(i, is_held));
         r.cells[at::IDENTIFIER] = c;
         b.floor = i % 1024;
         let o = b.command(r);
         let next = o.book;
-        sum = num::wrapping_add_u32(sum, said(o.number, next.orders[(i % 96) as usize]));
-        i += 1;
+        sum = num::wrapping_add_u32(sum, said(o.answer, next.orders[(i % 96) as usize]));
     }
     sum
 }
@@ -124,8 +121,7 @@ fn revoke(held: Book, revocation: Record, rounds: u32) -> u32 {
     let mut b = held;
     let mut r = revocation;
     let mut sum: u32 = 0;
-    let mut i: u32 = 0;
-    while i < rounds {
+    for i in 0..rounds {
         let c = Cell {
             value: Value::Count((i % 96) as u64 * 2 + 2),
         };
@@ -133,14 +129,13 @@ fn revoke(held: Book, revocation: Record, rounds: u32) -> u32 {
         b.floor = i % 1024;
         let o = b.revoke(r);
         let next = o.book;
-        sum = num::wrapping_add_u32(sum, said(o.number, next.orders[(i % 96) as usize]));
-        i += 1;
+        sum = num::wrapping_add_u32(sum, said(o.answer, next.orders[(i % 96) as usize]));
     }
     sum
 }
 
 // Calls of one kind on a book with so many orders, read from a command's file at 7, 300 and a revocation's at 7, 301; the sum of what they answered.
-// (A file that is refused gives the zero record, and that a book whose calls are all refused.)
+// (A file that is refused counts as the zero record, and a book whose calls are all refused.)
 #[unsafe(no_mangle)]
 pub extern "C" fn halimpung_pace(
     call: u32,
@@ -152,10 +147,8 @@ pub extern "C" fn halimpung_pace(
 ) -> u32
     ensures { result < 65536 }
 {
-    let ordered = reader::read(7, 300, plan, command);
-    let revoked = reader::read(7, 301, plan, revocation);
-    let order = ordered.content;
-    let strike = revoked.content;
+    let order = reader::read(7, 300, plan, command).unwrap_or(record::zero());
+    let strike = reader::read(7, 301, plan, revocation).unwrap_or(record::zero());
     let b = filled(order, held);
     let sum = match call {
         0 => ask(b, rounds),

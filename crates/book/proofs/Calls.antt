@@ -1,32 +1,26 @@
 -- Every way out of a call on a book, from what its code knows there to the answer that is defined. Assumes nothing.
+use Rattle.std.specs.Prelude.{None, Option, Result, Err}
 use Prim.Native.Nat.{ℕ, ◌+◌, ◌≤◌, ◌<◌}
 use Rattle.book.proofs.Formed.{malformed, refused, by_deed, with_book, deed_malformed, deed_refused, deed_done}
 use Rattle.book.proofs.Formed.{asked_malformed, asked_refused, asked_done}
 use Rattle.book.proofs.Holding.{Holding, holds_none}
-use Rattle.book.specs.contracts.Tally.{the_type}
-use Rattle.book.specs.Answers.{outcome, outcome_of, deed_outcome_of, found, asked_of, shown_of}
+use Rattle.book.specs.Answers.{outcome, outcome_by, outcome_of, deed_outcome_of, InForce, Refused, found, asked_of, Unshown, Shows, shown_of}
 use Rattle.book.specs.Places.{with_orders, book_of, shelf, tally_of, unfit_in}
 use Rattle.book.specs.declared.Book.{Book}
-use Rattle.book.specs.declared.InForce.{InForce}
-use Rattle.book.specs.declared.InForce.TheVariants.{Refused}
-use Rattle.book.specs.declared.Panel.TheVariants.{Refused as Unshown, Shows}
-use Rattle.book.specs.declared.Tally.{Tally}
 use Rattle.book_ledger.specs.Calls.{Call, command, revoke, close, Deed, hold, strike, shut, unfit, could_ask}
 use Rattle.book_ledger.specs.Ledger.{effect, rungs_of, is_full}
 use Rattle.book_lists.proofs.Least.{least_insert, least_map}
 use Rattle.book_lists.proofs.Sorting.{length_insert}
 use Rattle.book_lists.specs.Keyed.{keep, insert, greatest, sooner, Ascending}
 use Rattle.book_order.specs.Messages.{order_of, strike_of}
-use Rattle.book_order.specs.Orders.{Strike, number, name_of, named, live, past_end, next_end, strike_for, could_strike, strike_refusals, struck_by, strike_at}
+use Rattle.book_order.specs.Orders.{Strike, Struck, number, name_of, named, live, past_end, next_end, strike_for, could_strike, strike_refusals, struck_by, strike_at}
 use Rattle.book_order.specs.Orders.{outside, already, crowded, is_brought}
 use Rattle.book_order.specs.declared.Order.{Order}
-use Rattle.book_order.specs.declared.Struck.{Struck}
 use Rattle.book_places.proofs.Seats.{held_seat, any_seat, put_seat, change_seat}
 use Rattle.book_places.proofs.Seats as seats
 use Rattle.book_places.proofs.Staying.{kept_all}
-use Rattle.book_places.specs.Places.{packed, order_at, seat_in, kept_of}
+use Rattle.book_places.specs.Places.{packed, order_at, Seat, seat_in, kept_of}
 use Rattle.book_places.specs.declared.Kept.{Kept}
-use Rattle.book_places.specs.declared.Seat.{Seat}
 use Rattle.book_shelf.proofs.Ranks.{ascending_rising}
 use Rattle.book_shelf.proofs.Replacing.{replace_set}
 use Rattle.book_shelf.specs.Shelf.{put_in, replaced}
@@ -37,13 +31,15 @@ use Rattle.layout.specs.Layouts.{is_command, is_revocation}
 use Rattle.layout.specs.declared.Layout.{Layout}
 use Rattle.record.specs.declared.Record.{Record}
 use Rattle.record_check.specs.Validity.{is_valid}
+use Rattle.refusal.specs.Numbers.{number_of}
+use Rattle.refusal.specs.Results.{detail_in}
+use Rattle.refusal.specs.declared.Refusal.{Refusal as Reason}
 use Rattle.report_brief.specs.Brief.{unit_of, start_of, end_of}
 use Rattle.text.proofs.Tests.{by_test}
 use Rattle.text.specs.Bytes.{any, all, same}
 use Rattle.text.specs.Refusals.{Refusal, refusal as row, first_number}
 use Rattle.value_ask.specs.Values.{instant_in}
 use borrow.Author.Tests.{le-leb, lt-leb, lt-ltb, le-ltb, ne_eqb, eqb-false}
-use denote.Enum.Declared.{tag_of}
 use lib.Dec.{eqb, leb}
 use lib.ListN.{length, take, set, length-map}
 use lib.Seq.{length-take-le, take-append_seam}
@@ -51,23 +47,28 @@ use mathlib.Core.Bool.{Bool, true, false, not}
 use mathlib.Core.List.{List, [], ◌∷◌, map}
 use mathlib.Core.Path.{◌≡◌, refl, sym, ap, ◌∙◌}
 use native.Mathlib.Omega.{arith}
-use types.Run.{OneOf}
 
 -- ---- 20
 
-pub call_malformed : (k : Call) (b : Book) (y : Tally) → y ≡ tally_of b → OneOf (0 ∷ []) (tag_of the_type y) → outcome 20 b ≡ outcome_of k b
+pub call_malformed : (k : Call) (b : Book) (y : Option ℕ) → y ≡ tally_of b → y ≡ None → outcome 20 b ≡ outcome_of k b
 call_malformed k b y e h = malformed k b (holds_none b y e h)
 
-pub undone_malformed : (d : Deed) (b : Book) (y : Tally) → y ≡ tally_of b → OneOf (0 ∷ []) (tag_of the_type y) → outcome 20 b ≡ deed_outcome_of d b
+pub undone_malformed : (d : Deed) (b : Book) (y : Option ℕ) → y ≡ tally_of b → y ≡ None → outcome 20 b ≡ deed_outcome_of d b
 undone_malformed d b y e h = deed_malformed d b (holds_none b y e h)
 
-pub question_malformed : (t : ℕ) (b : Book) (y : Tally) → y ≡ tally_of b → OneOf (0 ∷ []) (tag_of the_type y)
+pub question_malformed : (t : ℕ) (b : Book) (y : Option ℕ) → y ≡ tally_of b → y ≡ None
     → record { answer = Refused 20 0; book = b } ≡ asked_of t b
 question_malformed t b y e h = asked_malformed t b (holds_none b y e h)
 
-pub panel_malformed : (b : Book) (y : Tally) → y ≡ tally_of b → OneOf (0 ∷ []) (tag_of the_type y) → record { answer = Unshown 20 0; book = b } ≡ shown_of b
+pub panel_malformed : (b : Book) (y : Option ℕ) → y ≡ tally_of b → y ≡ None → record { answer = Unshown 20 0; book = b } ≡ shown_of b
 unfolding shown_of
 panel_malformed b y e h = rw (holds_none b y e h)
+
+-- ---- a refusal of a part, which tells nothing beside its number
+
+pub plain : {A : Type 0} (x : Result A Reason) (e : Reason) → x ≡ Err e → detail_in x ≡ 0 → (b : Book)
+    → outcome_by (record { answer = Err e; book = b }) ≡ outcome (number_of e) b
+plain x e is d b = λ i. record { number = number_of e; detail = (ap detail_in (sym is) ∙ d) i; book = b }
 
 -- ---- what is refused for the message alone stands before all else
 

@@ -1,9 +1,8 @@
 -- A book that is not malformed is the one that holds its ledger; and what a call answers by that. Assumes nothing.
 use Prim.Native.Nat.{ℕ, zero, suc}
-use Rattle.book.specs.Answers.{outcome, call_number, next_of, outcome_of, deed_number, deed_next, deed_outcome_of, found, asked_of}
+use Rattle.book.specs.Answers.{outcome, call_number, next_of, outcome_of, deed_number, deed_next, deed_outcome_of, Refused, found, asked_of}
 use Rattle.book.specs.Places.{with_orders, book_of, shelf, formed_unit, true_panel, formed_book}
 use Rattle.book.specs.declared.Book.{Book}
-use Rattle.book.specs.declared.InForce.TheVariants.{Refused}
 use Rattle.book_ledger.specs.Calls.{Call, ask, Deed, deed_of, could_ask}
 use Rattle.book_ledger.specs.Ledger.{rungs_of, is_full, answer, effect, in_force}
 use Rattle.book_order.specs.Orders.{next_end}

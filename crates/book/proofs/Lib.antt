@@ -5,3 +5,4 @@ pub mod Holding
 pub mod Calls
 pub mod Asking
 pub mod Unique
+pub mod Told

@@ -1,21 +1,27 @@
 -- What a call on a book answers, and the book that it hands back: 20 first, and then as the ledger's call.
-use Rattle.std.specs.Prelude.{ℕ, zero, suc, eqb, not, cond, List, [], ◌∷◌}
+use Rattle.std.specs.Prelude.{ℕ, zero, suc, eqb, not, cond, List, [], ◌∷◌, None, Option, Some, Result, Ok, Err}
 use Rattle.book.specs.Places.{book_of, shelf, zero_book, formed_book}
-use Rattle.book.specs.declared.Asked.{Asked}
+use Rattle.book.specs.declared.Answered.{Answered}
 use Rattle.book.specs.declared.Book.{Book}
-use Rattle.book.specs.declared.InForce.{InForce}
-use Rattle.book.specs.declared.InForce.TheVariants.{Refused, Nothing, Number}
-use Rattle.book.specs.declared.Outcome.{Outcome}
-use Rattle.book.specs.declared.Panel.{Panel}
-use Rattle.book.specs.declared.Panel.TheVariants.{Refused as Unshown, Shows}
-use Rattle.book.specs.declared.Shown.{Shown}
-use Rattle.book.specs.declared.Tally.{Tally}
-use Rattle.book.specs.declared.Tally.TheVariants.{Malformed, Holds}
+use Rattle.book.specs.declared.Panel.{Panel as TwoNumbers}
 use Rattle.book_ledger.specs.Calls.{Call, ask, Deed, could_ask}
 use Rattle.book_ledger.specs.Ledger.{fresh, rungs_of, is_full, answer, effect, step, in_force}
+use Rattle.refusal.specs.Numbers.{number_of, detail_of}
+use Rattle.refusal.specs.Results.{number_in, detail_in}
+use Rattle.refusal.specs.declared.Refusal.{Refusal}
 use Rattle.value_name.specs.Names.{is_unit}
 use Rattle.text.specs.Refusals.{refusal, first_number}
 use Rattle.text.specs.Said.{Said, said}
+
+-- what a command, a revocation or a close answers, the number 0 or a refusal's and its detail, and the book that it hands back
+pub record Outcome : Type 0 where
+  pub number : ℕ
+  pub detail : ℕ
+  pub book : Book
+
+-- what an answer says
+abbrev pub outcome_by : Answered Unit → Outcome
+outcome_by x = record { number = number_in x.answer; detail = detail_in x.answer; book = x.book }
 
 -- a call's answer is its number and detail, and all details are 0
 abbrev pub outcome : ℕ → Book → Outcome
@@ -55,11 +61,34 @@ fresh_of unit = cond (is_unit unit) (outcome 0 (book_of (fresh unit))) (outcome 
 
 -- ---- how many orders a book holds: 20, or their count
 
-abbrev pub of_tally : Tally → Said
-of_tally Malformed = said 20 0 []
-of_tally (Holds n) = said 0 0 (n ∷ [])
+abbrev pub of_tally : Option ℕ → Said
+of_tally None = said 20 0 []
+of_tally (Some n) = said 0 0 (n ∷ [])
 
 -- ---- the question which order is in force
+
+-- which order is in force: a refusal's number and detail, none, or the order's number
+pub data InForce : Type 0 where
+  Refused : ℕ → ℕ → InForce
+  Nothing : InForce
+  Number : ℕ → InForce
+
+-- the answer to that question, and the same book
+pub record Asked : Type 0 where
+  pub answer : InForce
+  pub book : Book
+
+-- what an answer says
+abbrev pub in_force_by : Option ℕ → InForce
+in_force_by None = Nothing
+in_force_by (Some n) = Number n
+
+abbrev pub told_in_force : Result (Option ℕ) Refusal → InForce
+told_in_force (Ok x) = in_force_by x
+told_in_force (Err e) = Refused (number_of e) (detail_of e)
+
+abbrev pub asked_by : Answered (Option ℕ) → Asked
+asked_by x = record { answer = told_in_force x.answer; book = x.book }
 
 -- one more than its number, or 0 for none
 abbrev pub found : ℕ → InForce
@@ -87,6 +116,24 @@ unfoldable pub asked_of : ℕ → Book → Asked
 asked_of t b = record { answer = asked_as (call_number (ask t) b) (in_force t (shelf b)); book = b }
 
 -- ---- the panel. Document 02, A7: "The panel shows how many orders are held and when the next one ends"
+
+-- what the panel shows: a refusal's number and detail, or how many orders are held and when the next of them ends
+pub data Panel : Type 0 where
+  Unshown : ℕ → ℕ → Panel
+  Shows : ℕ → ℕ → Panel
+
+-- the panel, and the same book
+pub record Shown : Type 0 where
+  pub answer : Panel
+  pub book : Book
+
+-- what an answer says
+abbrev pub told_panel : Result TwoNumbers Refusal → Panel
+told_panel (Ok x) = Shows x.held x.next
+told_panel (Err e) = Unshown (number_of e) (detail_of e)
+
+abbrev pub shown_by : Answered TwoNumbers → Shown
+shown_by x = record { answer = told_panel x.answer; book = x.book }
 
 -- 20, the book is malformed; else the two stored numbers
 abbrev pub panel_of : Book → Panel

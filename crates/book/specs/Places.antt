@@ -1,9 +1,7 @@
 -- The book of one unit, and the ledger that its 96 places hold. Document 01, "The book of commands": held orders fill the first places by ascending
 -- number; all other places are zero; and which books are malformed.
-use Rattle.std.specs.Prelude.{ℕ, eqb, leb, length, take, drop, replicate, Bool, ◌&&◌, cond, List, []}
+use Rattle.std.specs.Prelude.{ℕ, eqb, leb, length, take, drop, replicate, Bool, ◌&&◌, cond, List, [], None, Option, Some}
 use Rattle.book.specs.declared.Book.{Book}
-use Rattle.book.specs.declared.Tally.{Tally}
-use Rattle.book.specs.declared.Tally.TheVariants.{Malformed, Holds}
 use Rattle.book_ledger.specs.Calls.{unfit}
 use Rattle.book_ledger.specs.Ledger.{Ledger}
 use Rattle.book_lists.specs.Keyed.{keep}
@@ -58,8 +56,8 @@ unfoldable pub formed_book : Book → Bool
 formed_book b = formed_unit b.size b.unit && (formed_from b.floor 0 b.orders && true_panel b)
 
 -- how many orders a book holds, unless it is malformed
-unfoldable pub tally_of : Book → Tally
-tally_of b = cond (formed_book b) (Holds (length (shelf b).orders)) Malformed
+unfoldable pub tally_of : Book → Option ℕ
+tally_of b = cond (formed_book b) (Some (length (shelf b).orders)) None
 
 -- ---- what is refused for the message alone, with the layout's test as the call found it: 0 where nothing is
 

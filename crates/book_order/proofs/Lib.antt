@@ -4,3 +4,4 @@ pub mod Others
 pub mod Strikes
 pub mod Tested
 pub mod Untimely
+pub mod Told

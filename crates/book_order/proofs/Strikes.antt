@@ -1,8 +1,7 @@
 -- What a strike answers, test by test: 31, 26, 32, or the order with the stretch joined to those that it has. Assumes nothing.
 use Prim.Native.Nat.{ℕ, ◌≤◌, ◌<◌}
-use Rattle.book_order.specs.Orders.{time_of, struck_by}
+use Rattle.book_order.specs.Orders.{time_of, Struck, struck_by}
 use Rattle.book_order.specs.declared.Order.{Order}
-use Rattle.book_order.specs.declared.Struck.{Struck}
 use Rattle.book_stretch.proofs.Joins.{four_whole}
 use Rattle.book_stretch.specs.Stretches.{lies, used_in, joined, joined_in}
 use Rattle.book_stretch.specs.declared.Joined.{Joined}

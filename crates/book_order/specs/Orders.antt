@@ -1,11 +1,12 @@
 -- What an order is to the book. Document 01, "The book of commands". What an order carries, how it is struck and by what it is named is said here alone.
-use Rattle.std.specs.Prelude.{ℕ, ◌-◌, eqb, leb, ltb, ℤ, pos, nat_abs, length, Bool, false, not, ◌&&◌, cond, List, [], ◌∷◌}
+use Rattle.std.specs.Prelude.{ℕ, ◌-◌, eqb, leb, ltb, ℤ, pos, nat_abs, length, Bool, false, not, ◌&&◌, cond, List, [], ◌∷◌, Result, Ok, Err}
 use Rattle.book_lists.specs.Keyed.{least_of}
 use Rattle.layout.specs.Layouts.{is_market}
 use Rattle.layout.specs.declared.Layout.{Layout}
 use Rattle.layout.specs.declared.Layout.TheVariants.{Market, Mfrr, Revocation, Generic, Exclusion, Limitation, Secondary, VoltVar, Rejection, Reserve}
 use Rattle.book_order.specs.declared.Order.{Order}
-use Rattle.book_order.specs.declared.Struck.{Struck}
+use Rattle.refusal.specs.Numbers.{number_of}
+use Rattle.refusal.specs.declared.Refusal.{Refusal as Reason}
 use Rattle.book_stretch.specs.Stretches.{stretch, covers, lies, in_four, used_in, are_none, formed_in, joined}
 use Rattle.book_stretch.specs.declared.Stretch.{Stretch}
 use Rattle.text.specs.Bytes.{any}
@@ -94,6 +95,11 @@ makes_five c o = ltb 4 (length (joined c (used_in o.struck)))
 abbrev pub strike_refusals : Stretch → Order → List Refusal
 strike_refusals c o = refusal 31 0 (sticks_out c o) ∷ refusal 26 0 (is_struck c o) ∷ refusal 32 0 (makes_five c o) ∷ []
 
+-- what a strike answers on the order that it names, 0 or a refusal's number, and the order then
+pub record Struck : Type 0 where
+  pub number : ℕ
+  pub order : Order
+
 -- THE DEFINITION: what it answers there, and the order then
 unfoldable pub struck_by : Stretch → Order → Struck
 struck_by c o =
@@ -101,6 +107,11 @@ struck_by c o =
       number = first_number (strike_refusals c o);
       order = cond (eqb (first_number (strike_refusals c o)) 0) (struck_out c o) o;
     }
+
+-- what an answer says of the order o
+abbrev pub struck_as : Order → Result Order Reason → Struck
+struck_as o (Ok s) = record { number = 0; order = s }
+struck_as o (Err e) = record { number = number_of e; order = o }
 
 -- the same of any order: one that has that name
 abbrev pub outside : Strike → Order → Bool

@@ -5,12 +5,14 @@ ghost use Rattle.std.specs.Prelude.{◌≤◌, ◌≡◌};
 ghost use Rattle.value_ask.specs.Values.{instant_in};
 ghost use Rattle.report_brief.specs.Brief.{start_of, end_of};
 ghost use Rattle.book_order.specs.Messages.{first_variation, second_variation, order_of, strike_of};
-ghost use Rattle.book_order.specs.Orders.{time_of, live, strike_for, could_strike, struck_by, is_whole, is_partial, is_empty, fits_layout, could_come};
+ghost use Rattle.book_order.specs.Orders.{time_of, live, strike_for, could_strike, struck_as, struck_by, is_whole, is_partial, is_empty, fits_layout, could_come};
 ghost use Rattle.book_order.specs.Orders.{is_brought, could_hold};
+ghost use Rattle.refusal.specs.Results.{detail_in};
 
 use book_stretch::Stretch;
 use layout::{Layout, fields};
 use record::{Cell, Record};
+use refusal::Refusal;
 
 // Start and end are instants, the variations thousandths of a megawatt. Of mFRR: TINI1 and TFIN2, its one variation and 0. What is struck of it are up to
 // four stretches of its time.
@@ -23,13 +25,6 @@ pub struct Order {
     pub second: i32,
     pub layout: Layout,
     pub struck: [Stretch; 4],
-}
-
-// What a strike answers on the order that it names, and the order then.
-#[derive(Clone, Copy)]
-pub struct Struck {
-    pub number: u8,
-    pub order: Order,
 }
 
 // An empty place. It is known by its end: an order may have the number 0.
@@ -125,31 +120,25 @@ fn time_of(o: Order) -> Stretch
     }
 }
 
-fn answered(number: u8, order: Order) -> Struck
-    ensures { result ≡ record { number = number; order = order } }
-{
-    Struck { number, order }
-}
-
 // The order with a stretch of it struck. 31: the stretch is not inside the order. 26: it is struck already. 32: it would be a fifth.
-pub fn strike(o: Order, over: Stretch) -> Struck
-    ensures { result ≡ struck_by over o }
+pub fn strike(o: Order, over: Stretch) -> Result<Order, Refusal>
+    ensures { (struck_as o result ≡ struck_by over o) × (detail_in result ≡ 0) }
 {
     if !book_stretch::lies(over, time_of(o)) {
-        return answered(31, o);
+        return Err(Refusal::OutsideItsOrder);
     }
     let struck = o.struck;
     if book_stretch::any_holds(struck, over) {
-        return answered(26, o);
+        return Err(Refusal::StruckAlready);
     }
     let joined = book_stretch::join(struck, over);
     if 4 < joined.count {
-        return answered(32, o);
+        return Err(Refusal::FifthStretch);
     }
     let list = joined.list;
     let mut s = o;
     s.struck = list;
-    answered(0, s)
+    Ok(s)
 }
 
 // Whether all of an order is struck.

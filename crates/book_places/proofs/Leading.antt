@@ -1,17 +1,18 @@
 -- The orders in the first places: how many they are, that they rise by number, and what is left after them. Assumes nothing.
-use Prim.Native.Nat.{ℕ, suc, ◌+◌, ◌≤◌, ◌<◌}
+use Rattle.std.specs.Prelude.{None}
+use Prim.Native.Nat.{ℕ, suc, ◌+◌, ◌-◌, ◌≤◌, ◌<◌}
 use Rattle.value_bounds.specs.Bounds.{most_number}
 use Rattle.book_lists.specs.Keyed.{keep, Ascending}
 use Rattle.book_order.proofs.Joined.{three}
 use Rattle.book_order.specs.Orders.{number, past_end, next_end, empty_order, time_of, is_empty, could_come, could_hold}
 use Rattle.book_order.specs.declared.Order.{Order}
 use Rattle.book_places.proofs.Empty.{empty_is, empty_end, empty_dropped}
-use Rattle.book_places.specs.Places.{packed, past_order, order_at, fits_after, formed_from, leading, count_in}
-use Rattle.book_places.specs.declared.Count.TheVariants.{Malformed, Holds}
+use Rattle.book_places.specs.Places.{packed, past_order, order_at, fits_after, formed_from, leading, counted, count_in}
 use Rattle.book_shelf.proofs.Packing.{all_packed}
 use Rattle.book_shelf.proofs.Ranks.{ascending_rising}
 use Rattle.book_shelf.specs.Shelf.{Rising}
 use Rattle.book_stretch.specs.Stretches.{formed_in}
+use Rattle.text.proofs.Cuts.{tail}
 use Rattle.text.proofs.Tests.{by_test, and_parts}
 use Rattle.text.specs.Bytes.{all}
 use borrow.Author.Tests.{le-leb, leb-true, ltb-true, lt-ltb, le-ltb}
@@ -122,7 +123,7 @@ rising_leading f lo (o ∷ l) =
 pub ascending_leading : (f lo : ℕ) (l : List Order) → Ascending number (take (leading f lo l) l)
 ascending_leading f lo l = ascending_rising number lo (take (leading f lo l) l) (rising_leading f lo l)
 
--- ---- the loops of count_held
+-- ---- the loop of count_leading, and count_held
 
 -- what is counted, with what leads from here on, is what leads
 module _ (f lo i n : ℕ) (l : List Order) (so_far : i + leading f lo (drop i l) ≡ n) where
@@ -144,15 +145,19 @@ module _ (f lo i n : ℕ) (l : List Order) (so_far : i + leading f lo (drop i l)
 pub counted_none : (f : ℕ) (l : List Order) → 0 + leading f 0 (drop 0 l) ≡ leading f 0 l
 counted_none f l = omega arith
 
+-- a test of those after the counted ones
+pub rest_empty : (count : ℕ) (l : List Order) → length l ≡ 96 → (rest : Bool) → rest ≡ all is_empty (take (96 - count) (drop count l)) → rest ≡ all is_empty (drop count l)
+rest_empty count l h rest e = e ∙ ap (λ (m : List Order). all is_empty m) (rw h at (tail l count))
+
 -- the answers: those after the counted ones are empty, or not all of them are
 module _ (f count : ℕ) (l : List Order) (c : count ≡ leading f 0 l) where
   formed_rest : formed_from f 0 l ≡ all is_empty (drop count l)
   formed_rest = formed_leading f 0 l ∙ ap (λ (k : ℕ). all is_empty (drop k l)) (sym c)
 
-  pub held_malformed : all is_empty (drop count l) ≡ false → Malformed ≡ count_in f l
+  pub held_malformed : all is_empty (drop count l) ≡ false → None ≡ count_in f l
   unfolding count_in
   held_malformed e = rw (formed_rest ∙ e)
 
-  pub held_count : (next : ℕ) → next ≡ next_end (take count l) → all is_empty (drop count l) ≡ true → Holds count next ≡ count_in f l
+  pub held_count : (next : ℕ) → next ≡ next_end (take count l) → all is_empty (drop count l) ≡ true → counted count next ≡ count_in f l
   unfolding count_in
   held_count next n e = rw (formed_rest ∙ e, n, c)

@@ -1,17 +1,17 @@
 -- The seat of a number: found one by one, and what it tells of rising orders. Assumes nothing.
+use Rattle.std.specs.Prelude.{Ok, Err}
 use Prim.Native.Nat.{ℕ, ◌+◌, ◌≤◌, ◌<◌}
 use Rattle.book_lists.specs.Keyed.{insert}
 use Rattle.book_order.specs.Orders.{Name, number, named, empty_order}
 use Rattle.book_order.specs.declared.Order.{Order}
-use Rattle.book_places.specs.Places.{packed, past_order, order_at, seat_in}
-use Rattle.book_places.specs.declared.Seat.{Seat}
+use Rattle.book_places.specs.Places.{packed, past_order, order_at, Seat, seat_by, seat_in}
 use Rattle.book_shelf.proofs.Placing.{put_packed}
 use Rattle.book_shelf.proofs.Ranks.{held_short, seat_within as rank_within, seat_inside as rank_inside}
 use Rattle.book_shelf.proofs.Ranks.{ranked_here, held_here, ranked_all, held_none, any_ranked, held_ranked}
 use Rattle.book_shelf.proofs.Replacing.{change_packed}
 use Rattle.book_shelf.specs.Shelf.{between, put_in, replaced, Rising, rank_of, is_held_at}
 use Rattle.text.specs.Bytes.{any}
-use borrow.Author.Tests.{lt-ltb}
+use borrow.Author.Tests.{lt-ltb, eq-eqb, ne_eqb}
 use lib.Dec.{eqb}
 use lib.ListN.{length, take, length-take}
 use lib.Seq.{get_or-take}
@@ -23,13 +23,19 @@ use native.Mathlib.Omega.{arith}
 -- ---- the answers of seat_of
 
 module _ (n from to i : ℕ) (l : List Order) (so_far : i + rank_of number n (between i to l) ≡ from + rank_of number n (between from to l)) where
-  pub seat_here : to ≤ length l → i < to → n ≤ (order_at i l).number → record { at = i; held = eqb (order_at i l).number n } ≡ seat_in n from to l
+  seat_here : to ≤ length l → i < to → n ≤ (order_at i l).number → record { at = i; held = eqb (order_at i l).number n } ≡ seat_in n from to l
   unfolding seat_in
   seat_here c h e j =
       record {
         at = ranked_here number past_order n from to l i so_far c h e j;
         held = held_here number past_order n from to l i so_far c h e j;
       }
+
+  pub seat_held : to ≤ length l → i < to → n ≤ (order_at i l).number → (order_at i l).number ≡ n → seat_by (Ok i) ≡ seat_in n from to l
+  seat_held c h e q = rw (eq-eqb (order_at i l).number n q) at (seat_here c h e)
+
+  pub seat_free : to ≤ length l → i < to → n ≤ (order_at i l).number → ((order_at i l).number ≡ n → ⊥) → seat_by (Err i) ≡ seat_in n from to l
+  seat_free c h e q = rw (ne_eqb (order_at i l).number n q) at (seat_here c h e)
 
   pub seat_none : to ≤ i → record { at = i; held = false } ≡ seat_in n from to l
   unfolding seat_in

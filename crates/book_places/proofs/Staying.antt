@@ -1,10 +1,10 @@
 -- The orders that a close leaves, and the place of the last one in force. Assumes nothing.
+use Rattle.std.specs.Prelude.{None, Some}
 use Prim.Native.Nat.{ℕ, zero, suc, ◌≤◌, ◌<◌}
 use Rattle.book_lists.specs.Keyed.{keep, greatest, Ascending}
 use Rattle.book_order.specs.Orders.{number, live, past_end, empty_order}
 use Rattle.book_order.specs.declared.Order.{Order}
 use Rattle.book_places.specs.Places.{packed, past_order, stays, kept_in, kept_of, place_of}
-use Rattle.book_places.specs.declared.Place.TheVariants.{At, Nothing}
 use Rattle.book_shelf.proofs.Keeping.{keep_at_first, Passed}
 use Rattle.book_shelf.proofs.Lasting.{last_most, greatest_last, key_taken}
 use Rattle.book_shelf.specs.Shelf.{between, keep_at, last_at, key_of}
@@ -41,16 +41,16 @@ live_last t count l s =
     greatest_last (live t) number past_order (take count l) s
     ∙ key_taken number past_order (last_at (live t) 0 (take count l)) count l (omega (arith, last_most (live t) 0 (take count l), length-take count l))
 
-pub place_at : (n i : ℕ) → At i ≡ place_of n → n ≡ suc i
+pub place_at : (n i : ℕ) → Some i ≡ place_of n → n ≡ suc i
 place_at zero i e = let z : ◌≡◌ {A = ℕ} 0 1 = cc in absurd (omega arith)
 place_at (suc n) i e = cc
 
-pub place_none : (n : ℕ) → Nothing ≡ place_of n → n ≡ 0
+pub place_none : (n : ℕ) → None ≡ place_of n → n ≡ 0
 place_none zero e = cc
 place_none (suc n) e = let z : ◌≡◌ {A = ℕ} 0 1 = cc in absurd (omega arith)
 
 -- and its place is one of those looked at
-pub place_inside : (t from to i : ℕ) (l : List Order) → from ≤ to → At i ≡ place_of (last_at (live t) from (between from to l)) → i < to
+pub place_inside : (t from to i : ℕ) (l : List Order) → from ≤ to → Some i ≡ place_of (last_at (live t) from (between from to l)) → i < to
 place_inside t from to i l h e =
     omega (
       arith,

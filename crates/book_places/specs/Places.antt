@@ -1,14 +1,10 @@
 -- The 96 places of a book of commands. Document 01, "The book of commands": held orders fill the first places by ascending number; all other places are
 -- zero. Which orders may stand there, where a number stands, and what is left after a close.
-use Rattle.std.specs.Prelude.{ℕ, zero, suc, ◌+◌, leb, ltb, pos, length, take, Bool, true, ◌&&◌, ◌||◌, cond, List, [], ◌∷◌}
+use Rattle.std.specs.Prelude.{ℕ, zero, suc, ◌+◌, leb, ltb, pos, length, take, Bool, true, false, ◌&&◌, ◌||◌, cond, List, [], ◌∷◌, None, Option, Some, Result, Ok, Err}
 use Rattle.book_order.specs.Orders.{number, past_end, next_end, empty_order, is_empty, could_hold}
 use Rattle.book_order.specs.declared.Order.{Order}
 use Rattle.book_places.specs.declared.Count.{Count}
-use Rattle.book_places.specs.declared.Count.TheVariants.{Malformed, Holds}
 use Rattle.book_places.specs.declared.Kept.{Kept}
-use Rattle.book_places.specs.declared.Place.{Place}
-use Rattle.book_places.specs.declared.Place.TheVariants.{At, Nothing}
-use Rattle.book_places.specs.declared.Seat.{Seat}
 use Rattle.book_shelf.specs.Shelf.{packed as packed_in, thing, between, rank_of, is_held_at, keep_at}
 use Rattle.layout.specs.declared.Layout.TheVariants.{Market}
 use Rattle.text.specs.Bytes.{all}
@@ -43,16 +39,28 @@ leading f lo [] = 0
 leading f lo (o ∷ l) = cond (fits_after f lo o) (suc (leading f (suc o.number) l)) 0
 
 -- how many orders the places of a book with the floor f hold, and when the next of them ends, unless they are malformed
-unfoldable pub count_in : ℕ → List Order → Count
-count_in f l = cond (formed_from f 0 l) (Holds (leading f 0 l) (next_end (take (leading f 0 l) l))) Malformed
+abbrev pub counted : ℕ → ℕ → Option Count
+counted n next = Some (record { held = n; next = next })
+
+unfoldable pub count_in : ℕ → List Order → Option Count
+count_in f l = cond (formed_from f 0 l) (counted (leading f 0 l) (next_end (take (leading f 0 l) l))) None
 
 -- ---- the seat of the number n among the places from..to: where it stands or would stand, and whether an order has it
+
+pub record Seat : Type 0 where
+  pub at : ℕ
+  pub held : Bool
 
 unfoldable pub seat_in : ℕ → ℕ → ℕ → List Order → Seat
 seat_in n from to l = record {
   at = from + rank_of number n (between from to l);
   held = is_held_at number past_order n (rank_of number n (between from to l)) (between from to l);
 }
+
+-- what an answer says
+abbrev pub seat_by : Result ℕ ℕ → Seat
+seat_by (Ok i) = record { at = i; held = true }
+seat_by (Err i) = record { at = i; held = false }
 
 -- ---- a close at t of the places from..to
 
@@ -69,6 +77,6 @@ kept_of from to count t l = record { orders = packed (kept_in from to count t l)
 
 -- ---- the place that `last_at` names
 
-abbrev pub place_of : ℕ → Place
-place_of zero = Nothing
-place_of (suc i) = At i
+abbrev pub place_of : ℕ → Option ℕ
+place_of zero = None
+place_of (suc i) = Some i

@@ -4,31 +4,18 @@
 
 ghost use Rattle.std.specs.Prelude.{◌≤◌, ◌<◌, take, ◌≡◌};
 ghost use Rattle.book_lists.specs.Keyed.{sooner};
-ghost use Rattle.book_order.specs.Orders.{live, next_end};
-ghost use Rattle.book_places.specs.Places.{fits_after, count_in, seat_in, kept_of, place_of};
+ghost use Rattle.book_order.specs.Orders.{live, next_end, is_empty};
+ghost use Rattle.book_places.specs.Places.{fits_after, leading, count_in, seat_by, seat_in, kept_of, place_of};
 ghost use Rattle.book_shelf.specs.Shelf.{between, put_in, last_at};
+ghost use Rattle.text.specs.Bytes.{all};
 
 use book_order::Order;
 
-// How many orders the places hold, and when the next of them ends, unless they are malformed.
+// How many orders the places hold, and when the next of them ends.
 #[derive(Clone, Copy)]
-pub enum Count {
-    Malformed,
-    Holds(usize, u32),
-}
-
-// Where a number stands among the orders looked at, or would stand, and whether an order has it.
-#[derive(Clone, Copy)]
-pub struct Seat {
-    pub at: usize,
-    pub held: bool,
-}
-
-// The place of an order, if there is one.
-#[derive(Clone, Copy)]
-pub enum Place {
-    At(usize),
-    Nothing,
+pub struct Count {
+    pub held: usize,
+    pub next: u32,
 }
 
 // The places that are left filled, and how many.
@@ -58,67 +45,61 @@ pub fn sooner(a: u32, b: u32) -> u32
     a
 }
 
-// How many of the places hold orders, by ascending number, that fit a book with this floor, if those after them are empty, and when the next of them ends.
-// One look at the places for all, since each look by a function of its own copies them.
-pub fn count_held(orders: [Order; 96], floor: u32) -> Count
-    ensures { result ≡ count_in floor orders }
+// How many of the first places hold orders, by ascending number, that fit a book with this floor, and when the next of them ends.
+fn count_leading(orders: &[Order; 96], floor: u32) -> (usize, u32)
+    ensures { (result.0 ≤ 96) × (result.0 ≡ leading floor 0 orders.now) × (result.1 ≡ next_end (take result.0 orders.now)) }
 {
     let mut least: u64 = 0;
     let mut next = 0;
-    let mut count = 0;
-    while count < 96 {
-        let o = orders[count];
-        if !fits_after(floor, least, o) {
-            break;
+    for (i, o) in orders.iter().enumerate() {
+        if !fits_after(floor, least, *o) {
+            return (i, next);
         }
         least = o.number + 1;
         next = sooner(next, o.end);
-        count += 1;
     }
-    let mut i = count;
-    while i < 96 {
-        if !book_order::is_empty(orders[i]) {
-            return Count::Malformed;
-        }
-        i += 1;
+    (96, next)
+}
+
+fn are_empty(orders: &[Order]) -> bool
+    ensures { result ≡ all is_empty orders.now }
+{
+    orders.iter().all(|o| book_order::is_empty(*o))
+}
+
+// How many of the places hold orders, by ascending number, that fit a book with this floor, if those after them are empty, and when the next of them ends.
+pub fn count_held(orders: [Order; 96], floor: u32) -> Option<Count>
+    ensures { result ≡ count_in floor orders }
+{
+    let (count, next) = count_leading(&orders, floor);
+    if !are_empty(&orders[count..]) {
+        return None;
     }
-    Count::Holds(count, next)
+    Some(Count { held: count, next })
 }
 
 // When the next of the first `count` orders ends.
 pub fn next_end(orders: [Order; 96], count: usize) -> u32
     ensures { result ≡ next_end (take count orders) }
 {
-    let mut next = 0;
-    let mut i = 0;
-    while i < 96 {
-        if i == count {
-            return next;
-        }
-        let o = orders[i];
-        next = sooner(next, o.end);
-        i += 1;
-    }
-    next
+    orders
+        .iter()
+        .take(count)
+        .fold(0, |next, o| sooner(next, o.end))
 }
 
-// The seat of a number among the orders from `from` up to `to`.
-pub fn seat_of(orders: [Order; 96], from: usize, to: usize, n: u64) -> Seat
+// Where a number stands among the orders from `from` up to `to`, or, as an error, where it would stand.
+pub fn seat_of(orders: [Order; 96], from: usize, to: usize, n: u64) -> Result<usize, usize>
     requires { (from ≤ to) × (to ≤ 96) }
-    ensures { result ≡ seat_in n from to orders }
+    ensures { seat_by result ≡ seat_in n from to orders }
 {
-    let mut i = from;
-    while i < to {
+    for i in from..to {
         let o = orders[i];
         if n <= o.number {
-            return Seat {
-                at: i,
-                held: o.number == n,
-            };
+            return if o.number == n { Ok(i) } else { Err(i) };
         }
-        i += 1;
     }
-    Seat { at: i, held: false }
+    Err(to)
 }
 
 // The places with one order more: those from `at` up to `count`, the first empty place, move up by one.
@@ -127,11 +108,7 @@ pub fn put_in(orders: [Order; 96], at: usize, count: usize, o: Order) -> [Order;
     ensures { result ≡ put_in at count o orders }
 {
     let mut next = orders;
-    let mut i = count;
-    while at < i {
-        next[i] = next[i - 1];
-        i -= 1;
-    }
+    next.copy_within(at..count, at + 1);
     next[at] = o;
     next
 }
@@ -143,14 +120,12 @@ pub fn keep_past(orders: [Order; 96], from: usize, to: usize, count: usize, t: u
 {
     let mut next = [book_order::EMPTY; 96];
     let mut kept = 0;
-    let mut i = 0;
-    while i < count {
+    for i in 0..count {
         let o = orders[i];
         if (i < from) | (to <= i) | (t < o.end) {
             next[kept] = o;
             kept += 1;
         }
-        i += 1;
     }
     Kept {
         orders: next,
@@ -159,16 +134,14 @@ pub fn keep_past(orders: [Order; 96], from: usize, to: usize, count: usize, t: u
 }
 
 // Of the orders from `from` up to `to` the last one that is in force at t.
-pub fn last_live(orders: [Order; 96], from: usize, to: usize, t: u32) -> Place
+pub fn last_live(orders: [Order; 96], from: usize, to: usize, t: u32) -> Option<usize>
     requires { (from ≤ to) × (to ≤ 96) }
     ensures { result ≡ place_of (last_at (live t) from (between from to orders)) }
 {
-    let mut i = to;
-    while from < i {
-        i -= 1;
+    for i in (from..to).rev() {
         if book_order::is_live(orders[i], t) {
-            return Place::At(i);
+            return Some(i);
         }
     }
-    Place::Nothing
+    None
 }

@@ -2,10 +2,10 @@
 use Rattle.book_shelf.specs.Shelf.{packed, thing}
 use Rattle.book_stretch.specs.Stretches.{no_stretch, is_none, are_none, in_four}
 use Rattle.book_stretch.specs.declared.Stretch.{Stretch}
-use Rattle.text.specs.Bytes.{any, all}
+use Rattle.text.specs.Bytes.{all}
 use borrow.Author.Tests.{eq-eqb}
 use lib.ListN.{length, take}
-use mathlib.Core.Bool.{Bool, ◌&&◌, ◌||◌, or_assoc, or-false, and_assoc, and-true}
+use mathlib.Core.Bool.{Bool, ◌&&◌, and_assoc, and-true}
 use mathlib.Core.List.{List, [], ◌∷◌}
 use mathlib.Core.Path.{◌≡◌, refl, sym, ap}
 use native.Mathlib.Omega.{arith}
@@ -33,10 +33,6 @@ four_packed (w ∷ x ∷ y ∷ z ∷ l) = refl
 module _ (p : Stretch → Bool) (l : List Stretch) (h : length l ≡ 4) (a b c d : Bool)
     (first : a ≡ p (thing no_stretch 0 l)) (second : b ≡ p (thing no_stretch 1 l))
     (third : c ≡ p (thing no_stretch 2 l)) (fourth : d ≡ p (thing no_stretch 3 l)) where
-  pub four_any : ((a || b) || c) || d ≡ any p l
-  unfolding any
-  four_any = rw (first, second, third, fourth) (simp or_assoc (sym (simp or-false at (ap (any p) (four_is l h)))))
-
   pub four_all : ((a && b) && c) && d ≡ all p l
   unfolding all
   four_all = rw (first, second, third, fourth) (simp and_assoc (sym (simp and-true at (ap (all p) (four_is l h)))))

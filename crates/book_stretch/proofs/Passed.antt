@@ -1,13 +1,13 @@
--- The two loops of `are_formed`: what is left to be seen answers for all of the list. Assumes nothing.
-use Prim.Native.Nat.{ℕ, ◌+◌, ◌≤◌, ◌<◌}
+-- The loop of `are_formed`: what is left to be seen answers for all of the list. Assumes nothing.
+use Prim.Native.Nat.{ℕ, ◌+◌, ◌-◌, ◌≤◌, ◌<◌}
 use Rattle.book_shelf.specs.Shelf.{thing}
 use Rattle.book_stretch.proofs.Formed.{none_formed}
 use Rattle.book_stretch.specs.Stretches.{no_stretch, is_none, are_none, fits_in, apart_from, formed_in}
 use Rattle.book_stretch.specs.declared.Stretch.{Stretch}
-use Rattle.text.proofs.Cuts.{all_here, all_on, all_end}
+use Rattle.text.proofs.Cuts.{tail}
 use Rattle.text.specs.Bytes.{all}
 use borrow.Author.Tests.{eq-eqb, not-true, not-false}
-use lib.ListN.{length, drop, drop_of_length-le}
+use lib.ListN.{length, take, drop, drop_of_length-le}
 use lib.Seq.{drop-cons}
 use mathlib.Core.Bool.{Bool, true, false, not}
 use mathlib.Core.List.{List}
@@ -23,7 +23,7 @@ pub apart_first : (time : Stretch) (l : List Stretch) → length l ≡ 4 → apa
 unfolding formed_in
 apart_first time l h = rw (eq-eqb (length l) 4 h)
 
--- ---- the first loop: i have passed, and the next may stand from `least` on
+-- ---- i have passed, and the next may stand from `least` on
 
 module _ (time : Stretch) (l : List Stretch) (least i : ℕ) (four : length l ≡ 4)
     (so_far : apart_from least time.to (drop i l) ≡ formed_in time l) where
@@ -32,9 +32,12 @@ module _ (time : Stretch) (l : List Stretch) (least i : ℕ) (four : length l �
     within : i < length l
     within = omega (arith, h, four)
 
-    pub none_here : empty ≡ true → formed_in time l ≡ all is_none (drop i l)
+    -- the next is unused: `rest` says whether all from it on are
+    pub none_here : empty ≡ true → (rest : Bool) → rest ≡ all is_none (take (4 - i) (drop i l)) → rest ≡ formed_in time l
     unfolding apart_from all
-    none_here n = sym so_far ∙ rw (drop-cons l i no_stretch within, sym tested ∙ n)
+    none_here n rest e =
+        let answers : formed_in time l ≡ all is_none (drop i l) = sym so_far ∙ rw (drop-cons l i no_stretch within, sym tested ∙ n) in
+        rw answers (rw (tail l i) at (rw (sym four) at e))
 
     module _ (n : empty ≡ false) (fit : Bool) (fitted : fit ≡ fits_in least time.to (thing no_stretch i l)) where
       pub fits_on : not fit ≡ false → apart_from ((thing no_stretch i l).to + 1) time.to (drop (i + 1) l) ≡ formed_in time l
@@ -47,22 +50,6 @@ module _ (time : Stretch) (l : List Stretch) (least i : ℕ) (four : length l �
       unfolding apart_from
       fits_not f = rw (drop-cons l i no_stretch within, sym tested ∙ n, sym fitted ∙ not-true fit f) at so_far
 
-  pub none_left : 4 ≤ i → formed_in time l ≡ all is_none (drop i l)
-  unfolding apart_from all
-  none_left h = sym so_far ∙ rw (drop_of_length-le l {i = i} (omega (arith, h, four)))
-
--- ---- the second loop: from k up to i all are unused
-
-module _ (l : List Stretch) (k i : ℕ) (four : length l ≡ 4) (so_far : all is_none (drop k l) ≡ all is_none (drop i l)) where
-  module _ (h : i < 4) (empty : Bool) (tested : empty ≡ is_none (thing no_stretch i l)) where
-    inside : i < length l
-    inside = omega (arith, h, four)
-
-    pub unused_on : not empty ≡ false → all is_none (drop k l) ≡ all is_none (drop (i + 1) l)
-    unused_on e = so_far ∙ all_on is_none no_stretch l i inside (sym tested ∙ not-false empty e)
-
-    pub unused_not : (time : Stretch) → formed_in time l ≡ all is_none (drop k l) → not empty ≡ true → false ≡ formed_in time l
-    unused_not time f e = sym (f ∙ so_far ∙ all_here is_none no_stretch l i inside (sym tested ∙ not-true empty e))
-
-  pub unused_all : (time : Stretch) → formed_in time l ≡ all is_none (drop k l) → 4 ≤ i → true ≡ formed_in time l
-  unused_all time f h = sym (f ∙ so_far ∙ all_end is_none l i (omega (arith, h, four)))
+  pub none_left : 4 ≤ i → true ≡ formed_in time l
+  unfolding apart_from
+  none_left h = rw (drop_of_length-le l {i = i} (omega (arith, h, four))) at so_far

@@ -14,6 +14,7 @@ use lib.Seq.{drop-cons, append_snoc, set_at}
 use mathlib.Core.Bool.{true, false, ◌||◌, cond}
 use mathlib.Core.List.{List, [], ◌∷◌, ◌++◌, append-nil}
 use mathlib.Core.Path.{◌≡◌, refl, sym, ap, ◌∙◌}
+use native.Mathlib.Numerals.{add-one}
 use native.Mathlib.Omega.{arith}
 
 -- ---- what stands in the room
@@ -131,7 +132,7 @@ module _ (s : Stretch) (l : List Stretch) where
   pub after_none : (j : Joining) → length l ≡ 4 → j ≡ starting s → After s l 0 j
   after_none j h e = record { four = h; came = came_first s (used_in l) j e }
 
-  pub after_one : (i : ℕ) (j k : Joining) → i < 4 → After s l i j → k ≡ turned (thing no_stretch i l) j → After s l (suc i) k
+  pub after_one : (i : ℕ) (j k : Joining) → i < 4 → After s l i j → k ≡ turned (thing no_stretch i l) j → After s l (i + 1) k
   after_one i j k few a e =
       let c : Stretch = thing no_stretch i l in
       let all = joined s (used_in l) in
@@ -139,7 +140,7 @@ module _ (s : Stretch) (l : List Stretch) where
       let p : Came all i (cond (is_used c) (c ∷ rest) rest) j = rw (drop-cons l i no_stretch (omega (arith, a.four, few))) at a.came in
       let q : Came all (suc i) rest (turned c j) =
       by_test (is_used c) (λ u. came_used all i c rest j few u (rw u at p)) (λ u. came_unused all i c rest j few u (rw u at p)) in
-      record { four = a.four; came = rw e q }
+      rw (add-one i) (record { four = a.four; came = rw e q })
 
   pub after_all : (j k : Joining) → After s l 4 j → k ≡ finished j → record { count = k.count; list = four_of k.room } ≡ joined_in s l
   unfolding joined_in

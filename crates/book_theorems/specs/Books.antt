@@ -3,7 +3,7 @@ use Rattle.std.specs.Prelude.{ℕ, ◌≤◌, true, List, map, ◌≡◌}
 use Rattle.book.specs.Answers.{call_number, next_of, fresh_of, found, asked_of}
 use Rattle.book.specs.Places.{formed_book}
 use Rattle.book.specs.declared.Book.{Book}
-use Rattle.book.specs.declared.InForce.{InForce}
+use Rattle.book.specs.Answers.{InForce}
 use Rattle.book_ledger.specs.Calls.{Call, command, revoke, Deed, deed_of}
 use Rattle.book_ledger.specs.History.{ledger_of}
 use Rattle.book_ledger.specs.Keepers.{Keeper, run, accepted}

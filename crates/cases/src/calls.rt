@@ -1,35 +1,87 @@
 // `book UNIT CALLS`: a fresh book for a unit, and calls on it one after another.
-use crate::answers::untouched;
-use crate::request::call::{Act, Call};
-use crate::request::parts::text_of;
-use crate::request::{Part, call};
-use crate::said;
-use book::{Book, InForce, Outcome, Panel};
-use reader::Answer;
+use crate::hex::{self, Hex};
+use crate::request::{cut, items_of, number_of};
+use crate::said::{say_code, say_unknown};
+use book::{Answered, Book, Panel};
 use record::Record;
-use said::{say, say_blank, say_code, say_hex, say_number, say_unknown};
-use saved::Saved;
-use std::io::{self, Write};
-use text::{put, scan};
+use refusal::Refusal;
+use std::io::{self, Cursor, Write};
+use text::scan;
 
-// What a call answered, and the book that it handed back.
-fn handed<W: Write>(reply: &mut W, o: Outcome) -> io::Result<Book> {
-    say_code(reply, o.number, o.detail)?;
-    Ok(o.book)
+// An order by its type, its unit and its file.
+#[derive(Clone, Copy)]
+struct Order<'a> {
+    kind: &'a [u8],
+    unit: &'a [u8],
+    file: &'a [u8],
 }
 
-fn say_in_force<W: Write>(reply: &mut W, a: InForce) -> io::Result<()> {
-    match a {
-        InForce::Refused(number, detail) => say_code(reply, number, detail),
-        InForce::Nothing => say(reply, b"f:none"),
-        InForce::Number(n) => {
-            say(reply, b"f:")?;
-            say_number(reply, n)
-        }
+// What an order is given to.
+#[derive(Clone, Copy)]
+enum Act {
+    Command,
+    Revoke,
+}
+
+// `C:TYPE:UNIT:FILE` and `V:..`, `X:t`, `Q:t`, `S:ROOM`, `L:TEXT` and `P`.
+#[derive(Clone, Copy)]
+enum Call<'a> {
+    Give(Act, Order<'a>),
+    Close(u32),
+    Ask(u32),
+    Save(u32),
+    Load(&'a [u8]),
+    Panel,
+}
+
+// `TYPE:UNIT:FILE`
+fn order_in(text: &mut [u8]) -> Option<Order<'_>> {
+    let (kind, rest) = cut(text, b':');
+    let (unit, file) = cut(rest, b':');
+    Some(Order {
+        kind,
+        unit,
+        file: hex::decode(file)?,
+    })
+}
+
+fn call_in(text: &mut [u8]) -> Option<Call<'_>> {
+    let (letter, body) = cut(text, b':');
+    match &*letter {
+        b"C" => Some(Call::Give(Act::Command, order_in(body)?)),
+        b"V" => Some(Call::Give(Act::Revoke, order_in(body)?)),
+        b"X" => Some(Call::Close(number_of(body)?)),
+        b"Q" => Some(Call::Ask(number_of(body)?)),
+        b"S" => Some(Call::Save(number_of(body)?)),
+        b"L" => Some(Call::Load(hex::decode(body)?)),
+        b"P" => Some(Call::Panel),
+        _ => None,
     }
 }
 
-// `Q:t`
+// A refusal's number and detail.
+fn say_why<W: Write>(reply: &mut W, refusal: Refusal) -> io::Result<()> {
+    say_code(reply, refusal.number(), refusal.detail())
+}
+
+// What a call answered, and the book that it handed back.
+fn handed<W: Write>(reply: &mut W, o: Answered<()>) -> io::Result<Book> {
+    let answer = o.answer;
+    match answer {
+        Ok(()) => say_code(reply, 0, 0)?,
+        Err(refusal) => say_why(reply, refusal)?,
+    }
+    Ok(o.book)
+}
+
+fn say_in_force<W: Write>(reply: &mut W, a: Result<Option<u64>, Refusal>) -> io::Result<()> {
+    match a {
+        Ok(None) => write!(reply, "f:none"),
+        Ok(Some(n)) => write!(reply, "f:{n}"),
+        Err(refusal) => say_why(reply, refusal),
+    }
+}
+
 fn ask<W: Write>(reply: &mut W, b: Book, t: u32) -> io::Result<Book> {
     let asked = b.in_force(t);
     let answer = asked.answer;
@@ -37,19 +89,13 @@ fn ask<W: Write>(reply: &mut W, b: Book, t: u32) -> io::Result<Book> {
     Ok(asked.book)
 }
 
-fn say_panel<W: Write>(reply: &mut W, p: Panel) -> io::Result<()> {
+fn say_panel<W: Write>(reply: &mut W, p: Result<Panel, Refusal>) -> io::Result<()> {
     match p {
-        Panel::Refused(number, detail) => say_code(reply, number, detail),
-        Panel::Shows(held, next) => {
-            say(reply, b"p:")?;
-            say_number(reply, held as u64)?;
-            say(reply, b":")?;
-            say_number(reply, next as u64)
-        }
+        Ok(shows) => write!(reply, "p:{}:{}", shows.held, shows.next),
+        Err(refusal) => say_why(reply, refusal),
     }
 }
 
-// `P`
 fn show<W: Write>(reply: &mut W, b: Book) -> io::Result<Book> {
     let shown = b.panel();
     let answer = shown.answer;
@@ -57,147 +103,89 @@ fn show<W: Write>(reply: &mut W, b: Book) -> io::Result<Book> {
     Ok(shown.book)
 }
 
-// `X:t`
-fn close<W: Write>(reply: &mut W, b: Book, t: u32) -> io::Result<Book> {
-    handed(reply, b.close(t))
+// Reads an order's file by a plan of the one row ca=1, ioa=1, its unit and its type. (Of a unit and a type that are too long, as much as shows that.)
+fn read_order(o: Order) -> io::Result<Result<Record, Refusal>> {
+    let mut plan = Cursor::new([0u8; 64]);
+    plan.write_all(b"ca=1\nioa=1\nunit=")?;
+    plan.write_all(scan::front(o.unit, 17))?;
+    plan.write_all(b"\ntype=")?;
+    plan.write_all(scan::front(o.kind, 3))?;
+    plan.write_all(b"\n")?;
+    let size = plan.position() as usize;
+    Ok(reader::read(1, 1, scan::front(plan.get_ref(), size), o.file))
 }
 
-// A plan of the one row ca=1, ioa=1, the unit and the type; how long it is.
-fn put_plan(plan: &mut [u8; 64], kind: &[u8], unit: &[u8]) -> usize {
-    let a = put::put_text(plan, 0, b"ca=1\nioa=1\nunit=");
-    let b = put::put_text(plan, a, scan::front(unit, 17));
-    let c = put::put_text(plan, b, b"\ntype=");
-    let d = put::put_text(plan, c, scan::front(kind, 3));
-    put::put_byte(plan, d, b'\n')
+// The record of the file; None where it is refused.
+fn record_of(o: Order) -> io::Result<Option<Record>> {
+    let read = read_order(o)?;
+    Ok(read.ok())
 }
 
-fn give_record<W: Write>(reply: &mut W, b: Book, act: Act, r: Record) -> io::Result<Book> {
-    if let Act::Revoke = act {
-        return handed(reply, b.revoke(r));
-    }
-    handed(reply, b.command(r))
+fn give<W: Write>(reply: &mut W, b: Book, act: Act, o: Order) -> io::Result<Book> {
+    let Some(r) = record_of(o)? else {
+        write!(reply, "unread")?;
+        return Ok(b);
+    };
+    let outcome = match act {
+        Act::Command => b.command(r),
+        Act::Revoke => b.revoke(r),
+    };
+    handed(reply, outcome)
 }
 
-fn unread<W: Write>(reply: &mut W, b: Book) -> io::Result<Book> {
-    say(reply, b"unread")?;
-    Ok(b)
-}
-
-// The record of the file is given to the command or to the revocation.
-fn give_answer<W: Write>(reply: &mut W, b: Book, act: Act, read: Answer) -> io::Result<Book> {
-    if read.number != 0 {
-        return unread(reply, b);
-    }
-    let content = read.content;
-    give_record(reply, b, act, content)
-}
-
-fn give_read<W: Write>(
-    reply: &mut W,
-    b: Book,
-    act: Act,
-    plan: &[u8; 64],
-    n: usize,
-    file: &[u8],
-) -> io::Result<Book> {
-    give_answer(
-        reply,
-        b,
-        act,
-        reader::read(1, 1, scan::front(plan, n), file),
-    )
-}
-
-// `C:TYPE:UNIT:FILE` and `V:..`
-fn give<W: Write>(reply: &mut W, b: Book, act: Act, line: &[u8], c: Call) -> io::Result<Book> {
-    let mut plan = [0u8; 64];
-    let n = put_plan(&mut plan, text_of(line, c.kind), text_of(line, c.unit));
-    give_read(reply, b, act, &plan, n, text_of(line, c.file))
-}
-
-fn say_saved<W: Write>(reply: &mut W, s: Saved, out: &[u8]) -> io::Result<()> {
+fn say_saved<W: Write>(reply: &mut W, s: Result<usize, Refusal>, out: &[u8]) -> io::Result<()> {
     match s {
-        Saved::To(n) => {
-            say(reply, b"t:")?;
-            say_hex(reply, scan::front(out, n))
-        }
-        Saved::Refused(number, detail) => say_code(reply, number, detail),
+        Ok(n) => write!(reply, "t:{}", Hex(scan::front(out, n))),
+        Err(refusal) => say_why(reply, refusal),
     }
 }
 
-fn save_in<W: Write>(reply: &mut W, b: Book, out: &mut [u8]) -> io::Result<()> {
-    let s = saved::save(b, out);
-    say_saved(reply, s, out)
-}
-
-// `S:ROOM`: into a buffer of so many bytes, at most 65,536.
+// Into a buffer of so many bytes, at most 65,536.
 fn save<W: Write>(reply: &mut W, b: Book, room: u32) -> io::Result<Book> {
-    let size = room as usize;
-    if 65536 < size {
-        return not_called(reply, b);
-    }
-    let mut space = untouched();
-    save_in(reply, b, &mut space[..size])?;
+    let mut space = [0; 65536];
+    let Some(out) = space.get_mut(..room as usize) else {
+        say_unknown(reply)?;
+        return Ok(b);
+    };
+    let s = saved::save(b, out);
+    say_saved(reply, s, out)?;
     Ok(b)
 }
 
-// `L:TEXT`: the book read, or the all-zero book, is the book from then on.
-fn load<W: Write>(reply: &mut W, text: &[u8]) -> io::Result<Book> {
-    handed(reply, saved::read(text))
-}
-
-fn not_called<W: Write>(reply: &mut W, b: Book) -> io::Result<Book> {
-    say_unknown(reply)?;
-    Ok(b)
-}
-
-// One call.
-fn answer<W: Write>(reply: &mut W, b: Book, line: &[u8], c: Call) -> io::Result<Book> {
-    let act = c.act;
-    match act {
-        Act::Command | Act::Revoke => give(reply, b, act, line, c),
-        Act::Close => close(reply, b, c.t),
-        Act::Ask => ask(reply, b, c.t),
-        Act::Save => save(reply, b, c.t),
-        Act::Load => load(reply, text_of(line, c.file)),
-        Act::Panel => show(reply, b),
-        Act::Unknown => not_called(reply, b),
-    }
-}
-
-// Calls joined by commas; no part of a line has more of them than the line has bytes.
-fn answer_all<W: Write>(
-    reply: &mut W,
-    fresh: Book,
-    line: &mut [u8],
-    calls: Part,
-) -> io::Result<()> {
-    let mut b = fresh;
-    let mut rest = calls;
-    let mut turns = line.len();
-    while 0 < turns {
-        if rest.to <= rest.from {
-            return Ok(());
+// One call. After `L` the book read, or the all-zero book, is the book from then on.
+fn answer<W: Write>(reply: &mut W, b: Book, call: &mut [u8]) -> io::Result<Book> {
+    match call_in(call) {
+        Some(Call::Give(act, o)) => give(reply, b, act, o),
+        Some(Call::Close(t)) => handed(reply, b.close(t)),
+        Some(Call::Ask(t)) => ask(reply, b, t),
+        Some(Call::Save(room)) => save(reply, b, room),
+        Some(Call::Load(text)) => handed(reply, saved::read(text)),
+        Some(Call::Panel) => show(reply, b),
+        None => {
+            say_unknown(reply)?;
+            Ok(b)
         }
-        let c = call::next(line, rest);
-        say_blank(reply)?;
-        b = answer(reply, b, line, c)?;
-        rest = c.rest;
-        turns -= 1;
+    }
+}
+
+fn answer_calls<W: Write>(reply: &mut W, fresh: Book, calls: &mut [u8]) -> io::Result<()> {
+    let Some(calls) = items_of(calls) else {
+        return Ok(());
+    };
+    let mut b = fresh;
+    for call in calls.split_mut(|b| *b == b',') {
+        write!(reply, " ")?;
+        b = answer(reply, b, call)?;
     }
     Ok(())
 }
 
-fn fresh<W: Write>(reply: &mut W, unit: &[u8]) -> io::Result<Book> {
-    handed(reply, book::fresh(unit))
-}
-
-pub(crate) fn run<W: Write>(
-    reply: &mut W,
-    line: &mut [u8],
-    unit: Part,
-    calls: Part,
-) -> io::Result<()> {
-    let b = fresh(reply, text_of(line, unit))?;
-    answer_all(reply, b, line, calls)
+// The fields after the key.
+pub(crate) fn answer_all<W: Write>(reply: &mut W, fields: &mut [u8]) -> io::Result<()> {
+    let (unit, calls) = cut(fields, b' ');
+    let Some(unit) = hex::decode(unit) else {
+        return say_unknown(reply);
+    };
+    let fresh = handed(reply, book::fresh(unit))?;
+    answer_calls(reply, fresh, calls)
 }

@@ -1,31 +1,25 @@
 // `time a PLAN CA IOA FILE SHEET` and `time r ..`: where the start-up or the ramp time stands.
-use crate::said::{say, say_blank, say_number, say_refusal};
+use crate::request::Source;
+use crate::said::say_refusal;
+use refusal::Refusal;
 use std::io::{self, Write};
 use text::scan;
 use times::Time;
-use times_sheet::Which;
+use times_sheet::{Part, Which};
 
 // The part that the time's own call hands back.
-fn part<'a>(w: Which, ca: u32, ioa: u32, plan: &[u8], file: &'a [u8], sheet: &'a [u8]) -> &'a [u8] {
+fn part<'a>(w: Which, s: Source<'a>, sheet: &'a [u8]) -> &'a [u8] {
     match w {
-        Which::StartUp => times::start_up(ca, ioa, plan, file, sheet),
-        Which::Ramp => times::ramp(ca, ioa, plan, file, sheet),
+        Which::StartUp => times::start_up(s.ca, s.ioa, s.plan, s.file, sheet),
+        Which::Ramp => times::ramp(s.ca, s.ioa, s.plan, s.file, sheet),
     }
 }
 
 // A place, and whether the call's part is the bytes there.
-fn say_place<W: Write>(
-    reply: &mut W,
-    text: &[u8],
-    from: usize,
-    to: usize,
-    part: &[u8],
-) -> io::Result<()> {
-    say_number(reply, from as u64)?;
-    say_blank(reply)?;
-    say_number(reply, to as u64)?;
-    if !scan::same(scan::rest(scan::front(text, to), from), part) {
-        say(reply, b" and another part")?;
+fn say_place<W: Write>(reply: &mut W, text: &[u8], place: Part, part: &[u8]) -> io::Result<()> {
+    write!(reply, "{} {}", place.from, place.to)?;
+    if scan::rest(scan::front(text, place.to), place.from) != part {
+        write!(reply, " and another part")?;
     }
     Ok(())
 }
@@ -33,44 +27,29 @@ fn say_place<W: Write>(
 // The refusal, and whether the companion call and the empty part say so too.
 fn say_none<W: Write>(
     reply: &mut W,
-    number: u8,
-    detail: usize,
-    ca: u32,
-    ioa: u32,
-    plan: &[u8],
-    file: &[u8],
+    e: Refusal,
+    s: Source,
     sheet: &[u8],
     part: &[u8],
 ) -> io::Result<()> {
-    say_refusal(reply, number, detail)?;
-    let r = times::refusal_of(ca, ioa, plan, file, sheet);
-    if (r.number != number) | (r.detail != detail) | (part.len() != 0) {
-        say(reply, b" and another refusal")?;
+    say_refusal(reply, e)?;
+    if times::refusal_of(s.ca, s.ioa, s.plan, s.file, sheet) != Some(e) || !part.is_empty() {
+        write!(reply, " and another refusal")?;
     }
     Ok(())
 }
 
-pub(crate) fn answer<'a, W: Write>(
-    reply: &mut W,
-    w: Which,
-    ca: u32,
-    ioa: u32,
-    plan: &[u8],
-    file: &'a [u8],
-    sheet: &'a [u8],
-) -> io::Result<()> {
-    let p = part(w, ca, ioa, plan, file, sheet);
-    match times::locate(w, ca, ioa, plan, file, sheet) {
-        Time::File(from, to) => {
-            say(reply, b"P file ")?;
-            say_place(reply, file, from, to, p)
+pub(crate) fn answer<W: Write>(reply: &mut W, w: Which, s: Source, sheet: &[u8]) -> io::Result<()> {
+    let p = part(w, s, sheet);
+    match times::locate(w, s.ca, s.ioa, s.plan, s.file, sheet) {
+        Ok(Time::InFile(place)) => {
+            write!(reply, "P file ")?;
+            say_place(reply, s.file, place, p)
         }
-        Time::Sheet(from, to) => {
-            say(reply, b"P sheet ")?;
-            say_place(reply, sheet, from, to, p)
+        Ok(Time::InSheet(place)) => {
+            write!(reply, "P sheet ")?;
+            say_place(reply, sheet, place, p)
         }
-        Time::Refused(number, detail) => say_none(
-            reply, number, detail, ca, ioa, plan, file, sheet, p,
-        ),
+        Err(e) => say_none(reply, e, s, sheet, p),
     }
 }

@@ -1,99 +1,132 @@
-// A request line of the case runner: what it asks for (forms.rt), and its fields (parts.rt), with its bytes decoded where they stand (hex.rt). The calls of
-// a book are taken one by one (call.rt).
-pub(crate) mod call;
-pub(crate) mod forms;
-pub(crate) mod hex;
-pub(crate) mod parts;
+// A request line: its fields, which single blanks part, and the requests that ask one thing. (The calls on a book and the units of a transfer are taken
+// one by one: calls.rt, transfers.rt.) Bytes are decoded where they stand, so a line is lent to be written.
+use crate::hex;
+use text::digits;
+use times_sheet::Which;
 
-use crate::request::forms::Shape;
-use crate::request::hex::is_good;
-use crate::request::parts::{Fields, NOWHERE, cut, field, letter_of, word_of};
-
-// A part of a line, by its ends. (A line may have a MiB, and so its places need more than the 16 bits of a file's.)
-#[derive(Clone, Copy)]
-pub(crate) struct Part {
-    pub(crate) from: usize,
-    pub(crate) to: usize,
+// What stands before the first b, and what stands after it.
+pub(crate) fn cut(text: &mut [u8], b: u8) -> (&mut [u8], &mut [u8]) {
+    let size = text.iter().position(|x| *x == b).unwrap_or(text.len());
+    let (front, rest) = text.split_at_mut(size);
+    match rest.split_first_mut() {
+        Some((_, back)) => (front, back),
+        None => (front, &mut []),
+    }
 }
 
-// What a request asks for: a file's reading, the normaliser or one of the two entries on it, one of its two times, what the program prints, a book,
-// or a transfer. `Blind` is the program with a plan that cannot be read; `Unknown` is a line that is not of the form.
+// How many fields a line has, its key among them.
+pub(crate) fn field_count(line: &[u8]) -> usize {
+    line.split(|b| *b == b' ').count()
+}
+
+// A decimal number of 32 bits, in at most ten digits.
+pub(crate) fn number_of(field: &[u8]) -> Option<u32> {
+    let Some(n) = digits::read_digits(field, 10) else {
+        return None;
+    };
+    u32::try_from(n).ok()
+}
+
+// The items of a list, which commas join: None where there is none. A comma may also end it.
+pub(crate) fn items_of(list: &mut [u8]) -> Option<&mut [u8]> {
+    if matches!(list, [] | [b'-']) {
+        return None;
+    }
+    let size = list.len();
+    if list.ends_with(b",") {
+        return Some(&mut list[..size - 1]);
+    }
+    Some(list)
+}
+
+// A file at an address of a plan.
 #[derive(Clone, Copy)]
-pub(crate) enum Kind {
-    Read,
+pub(crate) struct Source<'a> {
+    pub(crate) ca: u32,
+    pub(crate) ioa: u32,
+    pub(crate) plan: &'a [u8],
+    pub(crate) file: &'a [u8],
+}
+
+// `PLAN CA IOA FILE`, and the fields after it.
+fn source_in(fields: &mut [u8]) -> Option<(Source<'_>, &mut [u8])> {
+    let (plan, fields) = cut(fields, b' ');
+    let (ca, fields) = cut(fields, b' ');
+    let (ioa, fields) = cut(fields, b' ');
+    let (file, fields) = cut(fields, b' ');
+    let source = Source {
+        ca: number_of(ca)?,
+        ioa: number_of(ioa)?,
+        plan: hex::decode(plan)?,
+        file: hex::decode(file)?,
+    };
+    Some((source, fields))
+}
+
+// The entries that are lent a buffer: the normaliser, and the gateway's two on it.
+#[derive(Clone, Copy)]
+pub(crate) enum Entry {
     Norm,
     Cread,
     Cnorm,
-    StartUp,
-    Ramp,
-    Prog,
-    Blind,
-    Book,
-    Collect,
-    Unknown,
 }
 
-// A request. What its kind has not is 0 or empty. A book's unit stands for its plan, and the program's input for its file.
+// A file's reading, an entry with a buffer of so many bytes, one of a file's two times by a sheet, or what the program prints.
 #[derive(Clone, Copy)]
-pub(crate) struct Request {
-    pub(crate) kind: Kind,
-    pub(crate) ca: u32,
-    pub(crate) ioa: u32,
-    pub(crate) room: u32,
-    pub(crate) plan: Part,
-    pub(crate) file: Part,
-    pub(crate) sheet: Part,
-    pub(crate) calls: Part,
+pub(crate) enum Request<'a> {
+    Read(Source<'a>),
+    Enter(Entry, Source<'a>, u32),
+    Time(Which, Source<'a>, &'a [u8]),
+    Program { plan: &'a [u8], input: &'a [u8] },
 }
 
-fn only_if(good: bool, kind: Kind) -> Kind {
-    if good {
-        return kind;
-    }
-    Kind::Unknown
+// `read PLAN CA IOA FILE`
+fn read_in(fields: &mut [u8]) -> Option<Request<'_>> {
+    let (source, _) = source_in(fields)?;
+    Some(Request::Read(source))
 }
 
-// `-` is no calls, and no units.
-fn calls_of(line: &[u8], p: Part) -> Part {
-    if letter_of(line, p) == b'-' {
-        return NOWHERE;
-    }
-    p
+// `norm PLAN CA IOA FILE ROOM`, `cread ..` and `cnorm ..`
+fn entry_in(entry: Entry, fields: &mut [u8]) -> Option<Request<'_>> {
+    let (source, room) = source_in(fields)?;
+    Some(Request::Enter(entry, source, number_of(room)?))
 }
 
-// A request of a kind, whose fields stand in the line as the shape says: unknown where one of them is not of the form.
-fn of_shape(line: &[u8], kind: Kind, f: Fields, s: Shape) -> Request {
-    let ca = word_of(line, field(f, s.ca));
-    let ioa = word_of(line, field(f, s.ioa));
-    let room = word_of(line, field(f, s.room));
-    let plan = hex::place_of(line, field(f, s.plan));
-    let file = hex::place_of(line, field(f, s.file));
-    let sheet = hex::place_of(line, field(f, s.sheet));
-    let good = is_good(plan) & is_good(file) & is_good(sheet);
-    Request {
-        kind: only_if(good & ca.good & ioa.good & room.good, kind),
-        ca: ca.n,
-        ioa: ioa.n,
-        room: room.n,
+// `time a PLAN CA IOA FILE SHEET` and `time r ..`
+fn time_in(fields: &mut [u8]) -> Option<Request<'_>> {
+    let (letter, fields) = cut(fields, b' ');
+    let which = match &*letter {
+        b"a" => Which::StartUp,
+        b"r" => Which::Ramp,
+        _ => return None,
+    };
+    let (source, sheet) = source_in(fields)?;
+    Some(Request::Time(which, source, hex::decode(sheet)?))
+}
+
+// `prog PLAN STDIN`; the plan `!` is one that cannot be read, and so an empty one.
+fn program_in(fields: &mut [u8]) -> Option<Request<'_>> {
+    let (plan, input) = cut(fields, b' ');
+    let plan = if matches!(plan, [b'!']) {
+        &[]
+    } else {
+        hex::decode(plan)?
+    };
+    Some(Request::Program {
         plan,
-        file,
-        sheet,
-        calls: calls_of(line, field(f, s.calls)),
+        input: hex::decode(input)?,
+    })
+}
+
+// The request by the key of its line, the count of the line's fields, and the fields after the key: None where it is not of the form.
+pub(crate) fn parse<'a>(key: &[u8], count: usize, fields: &'a mut [u8]) -> Option<Request<'a>> {
+    match (key, count) {
+        (b"read", 5) => read_in(fields),
+        (b"norm", 6) => entry_in(Entry::Norm, fields),
+        (b"cread", 6) => entry_in(Entry::Cread, fields),
+        (b"cnorm", 6) => entry_in(Entry::Cnorm, fields),
+        (b"time", 7) => time_in(fields),
+        (b"prog", 3) => program_in(fields),
+        _ => None,
     }
-}
-
-// With the places of its bytes, which are not yet decoded.
-fn raw(line: &[u8]) -> Request {
-    let f = cut(line);
-    let kind = forms::kind_of(line, f);
-    of_shape(line, kind, f, forms::shape_of(kind))
-}
-
-// The request on a line. No field reaches into another, and so the bytes of each are decoded by themselves.
-pub(crate) fn of_line(line: &mut [u8]) -> Request {
-    let r = raw(line);
-    hex::decode(line, r.plan);
-    hex::decode(line, r.file);
-    hex::decode(line, r.sheet);
-    r
 }

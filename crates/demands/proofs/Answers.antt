@@ -10,7 +10,7 @@ use Rattle.reader.proofs.Firsts.{given_first}
 use Rattle.reader.specs.Reader.{valued, labelled, reading, record_in, planned, answer_at, read_of}
 use Rattle.reader.specs.Refusals.{answer, IsFirst}
 use Rattle.text.specs.Refusals.{Refusal}
-use Rattle.reader.specs.declared.Answer.{Answer}
+use Rattle.reader.specs.Refusals.{Answer}
 use Rattle.reader_theorems.proofs.Validity.{read_valid}
 use Rattle.record.specs.Records.{zero_record}
 use Rattle.record.specs.declared.Record.{Record}
@@ -21,15 +21,15 @@ use Rattle.text.specs.Puts.{wrote_of, of_wrote, buffer_of}
 use Rattle.text.specs.Said.{Said, said}
 use Rattle.times.proofs.Theorems.{empty_when_refused}
 use Rattle.times.specs.Times.{time_of, part_in, time_refusal, of_time}
-use Rattle.times.specs.declared.Time.TheVariants.{File, Sheet, Refused as NoTime}
-use Rattle.times.specs.declared.Time.{Time}
+use Rattle.times.specs.Times.TimeSaid.{File, Sheet, Refused as NoTime}
+use Rattle.times.specs.Times.{TimeSaid}
 use Rattle.times_sheet.specs.declared.Which.{Which}
 use Rattle.record_valid.specs.Valid.{Valid}
 use Rattle.record_check.proofs.Decides.{valid_tells}
 use Rattle.record_check.specs.Validity.{is_sized, is_valid}
 use Rattle.writer.specs.Writer.{of_written, fitted, write_of, left_by, normalise_of, normal_left}
-use Rattle.writer.specs.declared.Written.TheVariants.{Length, Refused}
-use Rattle.writer.specs.declared.Written.{Written}
+use Rattle.writer.specs.Writer.Written.{Length, Refused}
+use Rattle.writer.specs.Writer.{Written}
 use Rattle.writer_form.specs.Written.{file_of}
 use borrow.Author.Tests.{eqb-true, leb-false, lt-leb}
 use lib.Dec.{eqb, leb}
@@ -124,7 +124,7 @@ refused_time w ca ioa plan file sheet =
     let q = empty_when_refused w ca ioa plan file sheet in
     said_empty (time_of w ca ioa plan file sheet) q.0 q.1
   where
-    said_empty : (t : Time) → ((time_refusal t).number ≡ 0 → 1 ≤ length (part_in t file sheet)) → (((time_refusal t).number ≡ 0 → ⊥) → part_in t file sheet ≡ [])
+    said_empty : (t : TimeSaid) → ((time_refusal t).number ≡ 0 → 1 ≤ length (part_in t file sheet)) → (((time_refusal t).number ≡ 0 → ⊥) → part_in t file sheet ≡ [])
         → ((of_time file sheet t).number ≡ 0 → ⊥) ↔ (of_time file sheet t).values ≡ []
     said_empty (File from to) f g = (g, λ e z. omega (arith, f z, ap length e))
     said_empty (Sheet from to) f g = (g, λ e z. omega (arith, f z, ap length e))

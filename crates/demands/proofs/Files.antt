@@ -1,16 +1,17 @@
 -- What demand 2 says of files, at any address of any plan. Assumes nothing.
+use Rattle.std.specs.Prelude.{None}
 use Prim.Native.Nat.{ℕ, ◌+◌, ◌≤◌}
 use Rattle.demands.specs.Demand2.{address, type_at, layout_at}
 use Rattle.text_lines.specs.Order.{Perm}
 use Rattle.text_lines.specs.Entries.{again}
 use Rattle.value_name.specs.declared.MessageType.{MessageType}
-use Rattle.plan.specs.declared.Sought.{Sought}
+use Rattle.plan.specs.Plans.{SoughtSaid}
 use Rattle.reader.proofs.Firsts.{none_given, accepted_none, numbers}
 use Rattle.reader.specs.Messages.{given, row_in, entries_in}
 use Rattle.reader.specs.Reader.{Sound, record_in, message_of, unit_in, planned, answer_at, read_of}
 use Rattle.reader.specs.Refusals.{refused, answer, accepted as taken}
 use Rattle.text.specs.Refusals.{Refusal, NoneHolds, none, next}
-use Rattle.reader.specs.declared.Answer.{Answer}
+use Rattle.reader.specs.Refusals.{Answer}
 use Rattle.reader_theorems.proofs.Agreed.{Accepted, accepted}
 use Rattle.reader_theorems.proofs.Alike.{reordered, same_reading}
 use Rattle.record.specs.declared.Record.{Record}
@@ -23,7 +24,7 @@ use Rattle.record_valid.specs.Valid.{Valid}
 use Rattle.record_check.proofs.Decides.{valid_tells}
 use Rattle.record_check.specs.Validity.{is_valid}
 use Rattle.writer.specs.Writer.{fitted, write_of, left_by}
-use Rattle.writer.specs.declared.Written.TheVariants.{Length, Refused}
+use Rattle.writer.specs.Writer.Written.{Length, Refused}
 use Rattle.writer_form.specs.Written.{file_of}
 use borrow.Author.Tests.{le-leb, leb-true}
 use lib.Dec.{eqb, leb}
@@ -32,7 +33,6 @@ use lib.Seq.{take-append_seam}
 use mathlib.Core.Bool.{false, cond}
 use mathlib.Core.List.{List, [], ◌∷◌}
 use mathlib.Core.Logic.{◌↔◌}
-use mathlib.Core.Option.{none as nothing}
 use mathlib.Core.Path.{◌≡◌, refl, sym, ap, ◌∙◌}
 use native.Mathlib.Omega.{arith}
 
@@ -69,11 +69,11 @@ module _ (ca ioa : ℕ) (plan file : List ℕ) where
 -- ---- what is so of a message is so at an address
 
 -- where the address is refused both answers are that refusal
-pub at_same : (s : Sought) (f g : List ℕ) → message_of s.message (unit_in s) f ≡ message_of s.message (unit_in s) g → answer_at s f ≡ answer_at s g
+pub at_same : (s : SoughtSaid) (f g : List ℕ) → message_of s.message (unit_in s) f ≡ message_of s.message (unit_in s) g → answer_at s f ≡ answer_at s g
 unfolding answer_at planned message_of answer
 at_same s f g e = ap (λ (a : Answer). cond (eqb s.number 13) (refused 13 s.detail) (cond (eqb s.number 1) (refused 1 0) a)) e
 
-accepted_at : (s : Sought) (file : List ℕ) → (answer_at s file).number ≡ 0 → NoneHolds (planned s file) → Accepted s.message (unit_in s) file
+accepted_at : (s : SoughtSaid) (file : List ℕ) → (answer_at s file).number ≡ 0 → NoneHolds (planned s file) → Accepted s.message (unit_in s) file
 unfolding planned
 accepted_at s file h (next e (next d n)) = accepted s.message (unit_in s) file (sym (ap (λ (a : Answer). a.number) (planned_back s file e d)) ∙ h)
 
@@ -91,7 +91,7 @@ sound_of a = record { some_bytes = a.some_bytes; not_long = a.not_long; clean = 
 pub ordered : (ca ioa : ℕ) (plan f g : List ℕ) → Sound (type_at ca ioa plan) f → Sound (type_at ca ioa plan) g
     → row_in f ≡ row_in g
     → Perm (given (type_at ca ioa plan) f) (given (type_at ca ioa plan) g)
-    → again [] (entries_in (type_at ca ioa plan) f) ≡ nothing
+    → again [] (entries_in (type_at ca ioa plan) f) ≡ None
     → read_of ca ioa plan f ≡ read_of ca ioa plan g
 unfolding read_of
 ordered ca ioa plan f g sf sg row lines once =

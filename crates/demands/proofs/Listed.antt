@@ -1,4 +1,6 @@
 -- Files that differ in blanks inside lists are answered alike: a list is read by its parts, trimmed. Assumes nothing.
+use Rattle.value.specs.declared.Value.{Value}
+use Rattle.std.specs.Prelude.{Option, Some}
 use Prim.Native.Nat.{ℕ, zero, suc, ◌+◌}
 use Rattle.demands.specs.Spaced.{Pairwise, none, next, parts, triples, SpacedList, same_text, profile, bands, gradients, SpacedEntry}
 use Rattle.layout.proofs.Labels.{kind_at_lem}
@@ -10,7 +12,7 @@ use Rattle.reader.specs.Messages.{given, row_in, layout_in, entries_in, values_o
 use Rattle.reader.specs.Reader.{Sound, is_there, number_or, valued, labelled, record_in, message_of}
 use Rattle.reader.specs.Refusals.{answer}
 use Rattle.text.specs.Refusals.{refusal}
-use Rattle.reader.specs.declared.Answer.{Answer}
+use Rattle.reader.specs.Refusals.{Answer}
 use Rattle.reader_theorems.proofs.Alike.{sound_reading}
 use Rattle.reader_theorems.proofs.Validity.{tidy_body}
 use Rattle.record.proofs.Places.{At, unit_at, reason_at, note_at, gradients_at}
@@ -25,14 +27,12 @@ use Rattle.text_lines.proofs.Order.{Alike, missing_same}
 use Rattle.text_lines.specs.Entries.{Entry, stands, again, value_at, column}
 use Rattle.text_room.specs.Rooms.{kept_in}
 use Rattle.value.specs.Kinds.{list_from, triples_from, shape_of, value_of}
-use Rattle.value.specs.declared.Got.TheVariants.{Read}
-use Rattle.value.specs.declared.Got.{Got}
 use Rattle.value.specs.declared.Kind.{Kind}
 use Rattle.value.specs.declared.Shape.TheVariants.{IsUnit, IsReason, IsNote, IsTriples}
 use Rattle.value.specs.declared.Shape.{Shape}
 use Rattle.value.specs.declared.Value.TheVariants.{Blank}
 use Rattle.value_list.proofs.Cuts.{cut_none, cut_some, cut_first}
-use Rattle.value_list.specs.Forms.{amount_of, listed, numbers_in, profile_of, bands_of, one_of, one_in, triple_is, triple_in, gradients_read, gradients_in}
+use Rattle.value_list.specs.Forms.{amount_of, listed, numbers_in, profile_of, bands_of, one_of, one_in, triple_is, triple_in, gradients_read, gradients_in, kept_triples}
 use Rattle.value_list.specs.Lists.{cut_at, cons_read, every_of, counted, some_of}
 use Rattle.value_list.specs.declared.Triple.{Triple}
 use Rattle.value_name.specs.declared.MessageType.{MessageType}
@@ -43,7 +43,6 @@ use lib.ListN.{length, get_or}
 use mathlib.Core.Bool.{Bool, true, ◌&&◌, ◌||◌, not, cond}
 use mathlib.Core.List.{List, [], ◌∷◌, map, map-map}
 use mathlib.Core.Logic.{◌⊎◌, inr, ⊎_elim}
-use mathlib.Core.Option.{Option, some}
 use mathlib.Core.Path.{◌≡◌, refl, sym, ap, ap₂, ◌∙◌, subst}
 use native.Mathlib.Omega.{arith}
 
@@ -51,7 +50,7 @@ use native.Mathlib.Omega.{arith}
 
 -- all that are read, or none where one cannot be
 abbrev read_each : {P A : Type 0} → (P → Option A) → List P → Option (List A)
-read_each read [] = some []
+read_each read [] = Some []
 read_each read (p ∷ ps) = cons_read (read p) (read_each read ps)
 
 each_map : {P Q A : Type 0} (f : P → Q) (read : Q → Option A) (ps : List P) → read_each (λ (p : P). read (f p)) ps ≡ read_each read (map f ps)
@@ -161,7 +160,7 @@ shape_alike (gradients {s} {t} e) = ap triples_from (gradients_alike s t e)
 
 value_alike : (k : Kind) (s t : List ℕ) → trim s ≡ s → trim t ≡ t → SpacedList k.shape s t → value_of k s ≡ value_of k t
 unfolding value_of
-value_alike k s t p q r = ap₂ (λ (b : Bool) (v : Got). cond (k.blank && b) (Read Blank) v) (blank_alike p q r) (shape_alike r)
+value_alike k s t p q r = ap₂ (λ (b : Bool) (v : Option Value). cond (k.blank && b) (Some Blank) v) (blank_alike p q r) (shape_alike r)
 
 data SpacedColumn : List Kind → List (List ℕ) → List (List ℕ) → Type 0 where
   last : {ds : List Kind} → SpacedColumn ds [] []
@@ -233,7 +232,7 @@ module _ (l : Layout) (ss ts : List (List ℕ)) (c : SpacedColumn (kinds_of l) s
           unit = kept_in 16 (unit_alike i);
           reason = kept_in 128 (plain_alike IsReason (reason_field l) plain_reason (reason_at l) i);
           note = kept_in 256 (plain_alike IsNote (note_field l) plain_note (note_at l) i);
-          gradients = (list_alike i).list.values;
+          gradients = kept_triples (list_alike i);
         }
 
 -- ---- the entries of a layout
@@ -251,7 +250,7 @@ module _ (l : Layout) where
       let f = r.same_field in
       let twice : stands x.at seen ≡ stands y.at above = h x.at ∙ ap (λ (n : ℕ). stands n above) f in
       let rest = again_alike (x ∷ seen) (y ∷ above) (λ k. ap₂ (λ (n : ℕ) (b : Bool). eqb k n || b) f (h k)) p in
-      λ i. cond (twice i) (some (f i)) (rest i)
+      λ i. cond (twice i) (Some (f i)) (rest i)
 
   value_spaced : (k : ℕ) {es gs : List Entry} → Pairwise (SpacedEntry l) es gs → SpacedList (kind_at l k).shape (value_at k es) (value_at k gs)
   unfolding value_at

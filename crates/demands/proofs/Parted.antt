@@ -1,5 +1,6 @@
 -- Files whose lines are separators alike and say the same parameters are answered alike, where a label stands twice too: so with other blanks about `=`.
 -- Assumes nothing.
+use Rattle.std.specs.Prelude.{None, Some}
 use Prim.Native.Nat.{ℕ, suc, ◌+◌}
 use Rattle.demands.specs.Spaced.{Pairwise, none, next, SpacedLine, same_line, same_param}
 use Rattle.layout.specs.Layouts.{labels_of}
@@ -7,7 +8,7 @@ use Rattle.reader.specs.Messages.{given, row_in, layout_in, entries_in, column_r
 use Rattle.reader.specs.Reader.{Clean, labelled, record_in, message_of}
 use Rattle.reader.specs.Refusals.{answer}
 use Rattle.text.specs.Refusals.{refusal}
-use Rattle.reader.specs.declared.Answer.{Answer}
+use Rattle.reader.specs.Refusals.{Answer}
 use Rattle.reader_accent.specs.Accents.{accents_of}
 use Rattle.reader_theorems.proofs.Alike.{clean_reading}
 use Rattle.text.proofs.Tests.{by_test}
@@ -22,14 +23,13 @@ use lib.Dec.{eqb}
 use lib.ListN.{length}
 use mathlib.Core.Bool.{Bool, true, ◌&&◌, not, cond}
 use mathlib.Core.List.{List, ◌∷◌}
-use mathlib.Core.Option.{none as nothing, some}
 use mathlib.Core.Path.{◌≡◌, refl, sym, ap, ap₂, ◌∙◌}
 
 -- ---- one line: it is a separator or not, and it says the same parameter
 
-has_equals : (t : List ℕ) (p : Param) → param_of t ≡ some p → any (is 61) t ≡ true
+has_equals : (t : List ℕ) (p : Param) → param_of t ≡ Some p → any (is 61) t ≡ true
 unfolding param_of
-has_equals t p e = by_test (any (is 61) t) (λ h. h) (λ h. let no : nothing ≡ some p = rw h at e in cc)
+has_equals t p e = by_test (any (is 61) t) (λ h. h) (λ h. let no : None ≡ Some p = rw h at e in cc)
 
 sep_alike : {s t : List ℕ} → SpacedLine s t → is_sep s ≡ is_sep t
 sep_alike (same_line s) = refl

@@ -5,7 +5,7 @@ use Rattle.demands.proofs.Respelt.{same_given, either}
 use Rattle.demands.specs.Demand2.{address}
 use Rattle.demands.specs.Request1.{SameSetting, NoSetting, Request1}
 use Rattle.reader.specs.Reader.{unit_in, read_of}
-use Rattle.reader.specs.declared.Answer.{Answer}
+use Rattle.reader.specs.Refusals.{Answer}
 use Rattle.reader_accent.specs.Accents.{accents_of}
 use Rattle.text.specs.Bytes.{same, starts, upto, past, any, all}
 use Rattle.text.specs.Digits.{number_from, digits_of}

@@ -8,10 +8,9 @@ use Rattle.text.specs.Refusals.{Refusal, First, NoneHolds}
 use Rattle.text.specs.Said.{Said, said}
 use Rattle.transfer.proofs.Comes.{fresh_after, whole_bounded}
 use Rattle.transfer.proofs.Rooms.{rest_stays, refused_room, unsaid}
-use Rattle.transfer.specs.Collect.{fresh, refusals_of, heard_of, onward, taken, dropped, taken_of, of_heard}
+use Rattle.transfer.specs.Collect.{fresh, refusals_of, heard_of, onward, taken, dropped, taken_of, of_heard, Taken}
 use Rattle.transfer.specs.States.{collector_in}
 use Rattle.transfer.specs.declared.Collector.{Collector}
-use Rattle.transfer.specs.declared.Taken.{Taken}
 use Rattle.transfer_theorems.proofs.Complete.{transfer_taken}
 use Rattle.transfer_theorems.proofs.Kept.{state_kept}
 use Rattle.transfer_theorems.proofs.Sound.{whole_is}

@@ -6,7 +6,7 @@ use Rattle.book_theorems.proofs.Lift.{formed_fits}
 use Rattle.book_theorems.proofs.Theorems.{kept}
 use Rattle.demands.specs.Request4.{Request4}
 use Rattle.saved.specs.Saved.{text_of, has_partial, save_refusals, save_of, of_saved}
-use Rattle.saved.specs.declared.Saved.TheVariants.{To, Refused}
+use Rattle.saved.specs.Saved.{To, Refused}
 use Rattle.saved_theorems.proofs.Exact.{one_order}
 use Rattle.saved_theorems.proofs.Judged.{judged_above}
 use Rattle.saved_theorems.proofs.Refused.{refused, refused_save}

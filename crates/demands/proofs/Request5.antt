@@ -1,4 +1,5 @@
 -- THE THEOREM: request A5. Assumes nothing.
+use Rattle.std.specs.Prelude.{None, Some}
 use Prim.Native.Nat.{ℕ, zero, suc, ◌+◌, ◌≤◌, ◌<◌}
 use Rattle.demands.specs.Request5.{parts_read, Request5}
 use Rattle.layout.specs.FieldNumbers.{h1_no}
@@ -22,7 +23,6 @@ use Rattle.value.specs.Texts.{Rooms, value_text}
 use Rattle.value.specs.Valid.{Fits, Holds}
 use Rattle.value.specs.Valid.Fits.{profile}
 use Rattle.value.specs.Valid.Holds.{blank, filled}
-use Rattle.value.specs.declared.Got.TheVariants.{Read, Bad}
 use Rattle.value.specs.declared.Kind.{Kind}
 use Rattle.value.specs.declared.Shape.{Shape}
 use Rattle.value.specs.declared.Shape.TheVariants.{IsProfile}
@@ -39,7 +39,6 @@ use lib.ListN.{length, get_or}
 use mathlib.Core.Bool.{Bool, true, false, true≢false, false≢true}
 use mathlib.Core.List.{List, [], ◌∷◌}
 use mathlib.Core.Logic.{◌↔◌}
-use mathlib.Core.Option.{none, some}
 use mathlib.Core.Path.{◌≡◌, refl, sym, subst, ◌∙◌}
 use native.Mathlib.Omega.{arith}
 
@@ -54,17 +53,17 @@ few_back (a ∷ b ∷ c ∷ []) h = refl
 few_back (a ∷ b ∷ c ∷ d ∷ []) h = refl
 few_back (a ∷ b ∷ c ∷ d ∷ e ∷ l) h = absurd (omega (arith, h))
 
-found : (s : List ℕ) (l : List ℤ) → parts_read s ≡ some l → 1 ≤ length l → length l ≤ 4
-    → (shape_of IsProfile s ≡ Read (Numbers (numbers_of l))) × (list_size (Numbers (numbers_of l)) ≡ length l) × (list_of (numbers_of l) ≡ l)
+found : (s : List ℕ) (l : List ℤ) → parts_read s ≡ Some l → 1 ≤ length l → length l ≤ 4
+    → (shape_of IsProfile s ≡ Some (Numbers (numbers_of l))) × (list_size (Numbers (numbers_of l)) ≡ length l) × (list_of (numbers_of l) ≡ l)
 unfolding shape_of numbers_in some_of counted numbers_of
 found s l e lo hi = (rw (e, le-leb 1 (length l) lo, le-leb (length l) 4 hi), refl, few_back l hi)
 
-five : (s : List ℕ) (l : List ℤ) → parts_read s ≡ some l → 5 ≤ length l → shape_of IsProfile s ≡ Bad
+five : (s : List ℕ) (l : List ℤ) → parts_read s ≡ Some l → 5 ≤ length l → shape_of IsProfile s ≡ None
 unfolding shape_of numbers_in some_of counted
 five s l e many =
     rw (e, le-leb 1 (length l) (omega (arith, many)), untold (leb_tells (length l) 4) (λ q. absurd (omega (arith, q, many))))
 
-no_number : (s : List ℕ) → parts_read s ≡ none → shape_of IsProfile s ≡ Bad
+no_number : (s : List ℕ) → parts_read s ≡ None → shape_of IsProfile s ≡ None
 unfolding shape_of numbers_in some_of counted
 no_number s e = rw e
 

@@ -1,4 +1,5 @@
 -- A file by either spelling of a label is answered alike, whatever the answer. Assumes nothing.
+use Rattle.std.specs.Prelude.{Some}
 use Prim.Native.Nat.{ℕ, ◌<◌}
 use Rattle.demands.proofs.Parted.{Alike, lines_same}
 use Rattle.demands.specs.Request1.{with_label}
@@ -7,7 +8,7 @@ use Rattle.layout.specs.Layouts.{labels_of}
 use Rattle.reader.specs.Messages.{given, row_in, layout_in, entries_in, column_record}
 use Rattle.reader.specs.Reader.{Clean, Sound, labelled, reading, record_in, message_of}
 use Rattle.reader.specs.Refusals.{refused, answer}
-use Rattle.reader.specs.declared.Answer.{Answer}
+use Rattle.reader.specs.Refusals.{Answer}
 use Rattle.reader_accent.proofs.Table.{accents_good}
 use Rattle.reader_accent.specs.Accents.{accents_of}
 use Rattle.reader_theorems.proofs.Alike.{sound_reading}
@@ -28,7 +29,6 @@ use lib.Dec.{ltb}
 use lib.ListN.{length, length-append}
 use mathlib.Core.Bool.{true, false, false≢true}
 use mathlib.Core.List.{List, [], ◌∷◌, ◌++◌, map, append_assoc}
-use mathlib.Core.Option.{some}
 use mathlib.Core.Path.{◌≡◌, refl, sym, ap, ap₂, ◌∙◌, subst}
 use native.Mathlib.Omega.{arith}
 
@@ -245,11 +245,11 @@ module _ (t : MessageType) (unit before a x b rest : List ℕ) (begins : begins_
       (texts_line (part label) rest (part_none 10 (λ q. omega (arith, q)) label f) (part_none 13 (λ q. omega (arith, q)) label r))
 
   line_param : (label : List ℕ) → any (is 61) label ≡ false → trim label ≡ label
-      → param_in (accents_of t) (trim (part label ++ 61 ∷ value)) ≡ some (param (respell (accents_of t) label) (trim value))
+      → param_in (accents_of t) (trim (part label ++ 61 ∷ value)) ≡ Some (param (respell (accents_of t) label) (trim value))
   unfolding param_in
   line_param label e h =
       ap (respelt (accents_of t)) (param_of_line (part label) value (part_none 61 (λ q. omega (arith, q)) label e))
-      ∙ ap (λ (l : List ℕ). some (param (respell (accents_of t) l) (trim value))) (part_trim label h)
+      ∙ ap (λ (l : List ℕ). Some (param (respell (accents_of t) l) (trim value))) (part_trim label h)
 
   line_sep : (label : List ℕ) → is_sep (trim (part label ++ 61 ∷ value)) ≡ false
   line_sep label = sep_equals (trim (part label ++ 61 ∷ value)) (equals_trim (part label ++ 61 ∷ value) ∙ any_seam (is 61) (part label) 61 value refl)
@@ -262,7 +262,7 @@ module _ (t : MessageType) (unit before a x b rest : List ℕ) (begins : begins_
       let one : Alike sp (trim (part x ++ 61 ∷ value)) (trim (part y ++ 61 ∷ value)) = (
         line_sep x ∙ sym (line_sep y),
         line_param x both.x_equals both.x_trim
-            ∙ sym (line_param y both.y_equals both.y_trim ∙ ap (λ (l : List ℕ). some (param l (trim value))) (respell_plain sp y (accents_good t) both.plain)),
+            ∙ sym (line_param y both.y_equals both.y_trim ∙ ap (λ (l : List ℕ). Some (param l (trim value))) (respell_plain sp y (accents_good t) both.plain)),
       ) in
       rw (file_texts x both.x_feed both.x_return, file_texts y y_feed y_return)
       (same_pairs {R = Alike sp} (λ s. (refl, refl)) (texts before) (next one (all_same (texts (past (is 10) rest)))))

@@ -8,7 +8,7 @@ use Rattle.plan_row.specs.Rows.{type_from, type_at, plan_row_of as row_at}
 use Rattle.reader.specs.Messages.{given, row_in, layout_in, entries_in, values_of, column_record}
 use Rattle.reader.specs.Reader.{valued, labelled, reading, record_in, planned, answer_at, read_of}
 use Rattle.reader.specs.Refusals.{answer}
-use Rattle.reader.specs.declared.Answer.{Answer}
+use Rattle.reader.specs.Refusals.{Answer}
 use Rattle.reader_accent.specs.Accents.{accents_of}
 use Rattle.record.specs.Records.{joined, typed, cells_of, field_of, record_of}
 use Rattle.record_rules.specs.Rules.{in_order, rules_of, lowest, broken_in}

@@ -1,6 +1,9 @@
 -- THE THEOREMS on contracts: two answers that satisfy one are equal, by the laws of text/proofs/Determined.antt, of each public function by name; what the
 -- contracts say; and that the code meets them. Assumes nothing.
 use Rattle.book.proofs as book
+use Rattle.book.proofs.Told.{one_outcome, one_asked, one_shown}
+use Rattle.book_order.proofs.Told.{one_strike}
+use Rattle.book_places.proofs.Told.{one_seat}
 use Rattle.book_stretch.proofs as book_stretch
 use Rattle.gateway.proofs as gateway
 use Rattle.plan.proofs as plan
@@ -10,6 +13,8 @@ use Rattle.record_rules.proofs as record_rules
 use Rattle.report.proofs as report
 use Rattle.report_brief.proofs as report_brief
 use Rattle.saved.proofs as saved
+use Rattle.saved.proofs.Told.{one_saved, one_order}
+use Rattle.saved_lines.proofs.Told.{one_item}
 use Rattle.times.proofs as times
 use Rattle.transfer.proofs as transfer
 use Rattle.value.proofs as value
@@ -23,9 +28,17 @@ use Rattle.value_word.proofs as value_word
 use Rattle.writer.proofs as writer
 use Rattle.demands.specs.Calls.{Calls, Meets}
 use Rattle.demands.specs.CallContracts.{Contracts}
+use Rattle.demands.proofs.Told.{told_equation, told_equations, sought_one, answer_one, reading_one, written_one, time_one, refusal_one}
 use Rattle.demands.specs.Within.{Within}
+use Rattle.plan.specs.Plans.{said_by}
+use Rattle.reader.specs.Said.{answer_by, reading_by}
+use Rattle.record_rules.proofs.Told.{broken_one}
+use Rattle.record_rules.specs.Broken.{broken_number}
+use Rattle.times.specs.Times.{time_by, refusal_by}
+use Rattle.writer.specs.Writer.{written_by}
 use Rattle.text.proofs.Determined.{equation, equations, three_equations, buffer_equation, text_equation}
 use Rattle.text.proofs.Numerals.{length_text}
+use Rattle.transfer.proofs.Told.{taken_equations}
 use lib.ListN.{length}
 use mathlib.Core.Path.{sym, ap, ◌∙◌}
 
@@ -35,34 +48,34 @@ calls =
       gateway_halimpung_read = (λ κs a. tt, λ κs a. equations _ _ _);
       gateway_halimpung_normalise = (λ κs a. tt, λ κs a. equations _ _ _);
       gateway_halimpung_collect = (λ κs a. tt, λ κs a. three_equations _ _ _ _ _);
-      reader_read = (λ κs a. tt, λ κs a. equation _);
-      writer_write = (λ κs a. tt, λ κs a. equations _ _ _);
-      writer_normalise = (λ κs a. tt, λ κs a. equations _ _ _);
+      reader_read = (λ κs a. tt, λ κs a. told_equation answer_by answer_one _);
+      writer_write = (λ κs a. tt, λ κs a. told_equations written_by written_one _ _ _);
+      writer_normalise = (λ κs a. tt, λ κs a. told_equations written_by written_one _ _ _);
       record_check_is_valid = (λ κs a. tt, λ κs a. equation _);
-      record_rules_lowest_broken = (λ κs a. tt, λ κs a. equation _);
+      record_rules_lowest_broken = (λ κs a. tt, λ κs a. told_equation broken_number broken_one _);
       report_brief_of_record = (λ κs a. tt, λ κs a. equation _);
       transfer_fresh = (λ κs a. tt, λ κs a. equation _);
-      transfer_take = (λ κs a. tt, λ κs a. equations _ _ _);
-      book_fresh = (λ κs a. tt, λ κs a. equation _);
-      book_command = (λ κs a. tt, λ κs a. equation _);
-      book_revoke = (λ κs a. tt, λ κs a. equation _);
-      book_close = (λ κs a. tt, λ κs a. equation _);
-      book_in_force = (λ κs a. tt, λ κs a. equation _);
-      book_panel = (λ κs a. tt, λ κs a. equation _);
+      transfer_take = (λ κs a. tt, λ κs a. taken_equations _ _ _);
+      book_fresh = (λ κs a. tt, λ κs a. told_equation _ one_outcome _);
+      book_command = (λ κs a. tt, λ κs a. told_equation _ one_outcome _);
+      book_revoke = (λ κs a. tt, λ κs a. told_equation _ one_outcome _);
+      book_close = (λ κs a. tt, λ κs a. told_equation _ one_outcome _);
+      book_in_force = (λ κs a. tt, λ κs a. told_equation _ one_asked _);
+      book_panel = (λ κs a. tt, λ κs a. told_equation _ one_shown _);
       book_with = (λ κs a. tt, λ κs a. equation _);
-      book_hold = (λ κs a. tt, λ κs a. equation _);
-      book_strike = (λ κs a. tt, λ κs a. equation _);
+      book_hold = (λ κs a. tt, λ κs a. told_equation _ one_outcome _);
+      book_strike = (λ κs a. tt, λ κs a. told_equation _ one_outcome _);
       book_tally = (λ κs a. tt, λ κs a. equation _);
       book_zero = (λ κs a. tt, λ κs a. equation _);
-      saved_save = (λ κs a. tt, λ κs a. equations _ _ _);
-      saved_read = (λ κs a. tt, λ κs a. equation _);
-      saved_read_order = (λ κs a. tt, λ κs a. equation _);
+      saved_save = (λ κs a. tt, λ κs a. told_equations _ one_saved _ _ _);
+      saved_read = (λ κs a. tt, λ κs a. told_equation _ one_outcome _);
+      saved_read_order = (λ κs a. tt, λ κs a. told_equation _ one_order _);
       times_start_up = (λ κs a. tt, λ κs a. text_equation _ _);
       times_ramp = (λ κs a. tt, λ κs a. text_equation _ _);
-      times_locate = (λ κs a. tt, λ κs a. equation _);
-      times_refusal_of = (λ κs a. tt, λ κs a. equation _);
-      plan_seek = (λ κs a. tt, λ κs a. equation _);
-      report_hear = (λ κs a. tt, λ κs a. equation _);
+      times_locate = (λ κs a. tt, λ κs a. told_equation time_by time_one _);
+      times_refusal_of = (λ κs a. tt, λ κs a. told_equation refusal_by refusal_one _);
+      plan_seek = (λ κs a. tt, λ κs a. told_equation said_by sought_one _);
+      report_hear = (λ κs a. tt, λ κs a. told_equation answer_by answer_one _);
       report_print = (λ κs a. tt, λ κs a. equations _ _ _);
       value_read_read = (λ κs a. tt, λ κs a. equation _);
       value_put_write_value = (λ κs a. tt, λ κs a. equations _ _ _);
@@ -90,6 +103,8 @@ within =
       transfer_unit_ioa_of = (λ κs a. tt, λ κs a. equation _);
       transfer_state_collector_in = (λ κs a. tt, λ κs a. equation _);
       transfer_state_state_of = (λ κs a. tt, λ κs a. equation _);
+      refusal_number = (λ κs a. tt, λ κs a. equation _);
+      refusal_detail = (λ κs a. tt, λ κs a. equation _);
       text_digits_is_digit = (λ κs a. tt, λ κs a. equation _);
       text_digits_read_digits = λ κs a. equation _;
       text_digits_pow10 = λ κs a. equation _;
@@ -100,6 +115,8 @@ within =
       text_put_put_text = λ κs a. equations _ _ _;
       text_put_put_digits = λ κs a. equations _ _ _;
       text_put_put_whole = λ κs a. equations _ _ _;
+      text_scan_run = λ t l g d κs a. equation _;
+      text_scan_IsByte_passes = (λ κs a. tt, λ κs a. equation _);
       text_scan_same = (λ κs a. tt, λ κs a. equation _);
       text_scan_starts = (λ κs a. tt, λ κs a. equation _);
       text_scan_first = (λ κs a. tt, λ κs a. equation _);
@@ -129,12 +146,12 @@ within =
       text_lines_break_at = λ κs a. equation _;
       text_lines_trim_span = λ κs a. equation _;
       text_lines_is_separator = (λ κs a. tt, λ κs a. equation _);
-      text_room_keep_unit = (λ κs a. tt, λ κs a. equation _);
-      text_room_keep_reason = (λ κs a. tt, λ κs a. equation _);
-      text_room_keep_note = (λ κs a. tt, λ κs a. equation _);
+      text_lines_Span_text = λ κs a. text_equation _ _;
+      text_room_keep = λ t n f κs a. equation _;
       value_list_few_read = λ κs a. equation _;
       value_list_few_put = λ κs a. equations _ _ _;
-      value_list_triples_none = (λ κs a. tt, λ κs a. equation _);
+      value_list_triples_kept = (λ κs a. tt, λ κs a. equation _);
+      value_list_triples_counted = (λ κs a. tt, λ κs a. equation _);
       value_list_triples_put = λ κs a. equations _ _ _;
       text_keyline_line_of = (λ κs a. tt, λ κs a. equation _);
       text_keyline_value = (λ κs a. tt, λ κs a. text_equation _ _);
@@ -144,7 +161,7 @@ within =
       text_keyline_unit_line = (λ κs a. tt, λ κs a. equation _);
       text_keyline_put_line = λ κs a. equations _ _ _;
       text_keyline_put_number = λ κs a. equations _ _ _;
-      saved_lines_read_item = (λ κs a. tt, λ κs a. equation _);
+      saved_lines_read_item = (λ κs a. tt, λ κs a. told_equation _ one_item _);
       saved_lines_put_item = λ κs a. equations _ _ _;
       plan_row_sought_key = (λ κs a. tt, λ κs a. equation _);
       plan_row_row_at = λ κs a. equation _;
@@ -200,19 +217,20 @@ within =
       reader_fill_value_in = λ κs a. equation _;
       reader_fill_record_of = λ κs a. equation _;
       record_voltvar_in_table = (λ κs a. tt, λ κs a. equation _);
-      record_rules_of_market = (λ κs a. tt, λ κs a. equation _);
-      record_rules_of_ramps = (λ κs a. tt, λ κs a. equation _);
-      record_rules_of_order = (λ κs a. tt, λ κs a. equation _);
-      record_rules_of_exclusion = (λ κs a. tt, λ κs a. equation _);
-      record_rules_of_limitation = (λ κs a. tt, λ κs a. equation _);
-      record_rules_of_secondary = (λ κs a. tt, λ κs a. equation _);
-      record_rules_of_volt_var = (λ κs a. tt, λ κs a. equation _);
-      record_rules_of_reserve = (λ κs a. tt, λ κs a. equation _);
-      record_rules_lowest_of = (λ κs a. tt, λ κs a. equation _);
+      record_rules_number = (λ κs a. tt, λ κs a. equation _);
+      record_rules_of_market = (λ κs a. tt, λ κs a. told_equation broken_number broken_one _);
+      record_rules_of_ramps = (λ κs a. tt, λ κs a. told_equation broken_number broken_one _);
+      record_rules_of_order = (λ κs a. tt, λ κs a. told_equation broken_number broken_one _);
+      record_rules_of_exclusion = (λ κs a. tt, λ κs a. told_equation broken_number broken_one _);
+      record_rules_of_limitation = (λ κs a. tt, λ κs a. told_equation broken_number broken_one _);
+      record_rules_of_secondary = (λ κs a. tt, λ κs a. told_equation broken_number broken_one _);
+      record_rules_of_volt_var = (λ κs a. tt, λ κs a. told_equation broken_number broken_one _);
+      record_rules_of_reserve = (λ κs a. tt, λ κs a. told_equation broken_number broken_one _);
+      record_rules_lowest_of = (λ κs a. tt, λ κs a. told_equation broken_number broken_one _);
       book_places_count_held = (λ κs a. tt, λ κs a. equation _);
       book_places_sooner = (λ κs a. tt, λ κs a. equation _);
       book_places_next_end = (λ κs a. tt, λ κs a. equation _);
-      book_places_seat_of = λ κs a. equation _;
+      book_places_seat_of = λ κs a. told_equation _ one_seat _;
       book_places_put_in = λ κs a. equation _;
       book_places_keep_past = λ κs a. equation _;
       book_places_last_live = λ κs a. equation _;
@@ -226,7 +244,7 @@ within =
       book_order_named_by = (λ κs a. tt, λ κs a. equation _);
       book_order_struck_by = λ κs a. equation _;
       book_order_could_strike = (λ κs a. tt, λ κs a. equation _);
-      book_order_strike = (λ κs a. tt, λ κs a. equation _);
+      book_order_strike = (λ κs a. tt, λ κs a x y p q. one_strike _ x y (p.1.0 ∙ sym q.1.0) (p.1.1 ∙ sym q.1.1));
       book_order_is_whole = (λ κs a. tt, λ κs a. equation _);
       book_order_is_partial = (λ κs a. tt, λ κs a. equation _);
       book_order_is_live = (λ κs a. tt, λ κs a. equation _);
@@ -234,8 +252,7 @@ within =
       book_order_could_come = (λ κs a. tt, λ κs a. equation _);
       book_order_is_brought = (λ κs a. tt, λ κs a. equation _);
       book_order_could_hold = (λ κs a. tt, λ κs a. equation _);
-      reader_refuse = (λ κs a. tt, λ κs a. equation _);
-      reader_judged = (λ κs a. tt, λ κs a. equation _);
+      reader_judged = (λ κs a. tt, λ κs a. told_equation reading_by reading_one _);
       report_put_record = λ κs a. equations _ _ _;
       report_put_refusal = λ κs a. equations _ _ _;
       report_put_answer = λ κs a. equations _ _ _;

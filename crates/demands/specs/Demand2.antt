@@ -1,6 +1,6 @@
 -- Demand 2, sentence by sentence, over the definitions that the contracts name. (`Clean`, allowed size and bytes, `Sound`, separators too, and `body_column`,
 -- the body's values, are in reader/specs/Reader.antt; `Perm`, another order, in text_lines/specs/Order.antt; other blanks in Spaced.antt)
-use Rattle.std.specs.Prelude.{ℕ, ◌≤◌, length, take, Bool, true, false, List, [], ◌∷◌, ◌↔◌, ◌≡◌}
+use Rattle.std.specs.Prelude.{ℕ, ◌≤◌, length, take, Bool, true, false, List, [], ◌∷◌, ◌↔◌, ◌≡◌, None}
 use Rattle.demands.specs.Spaced.{Pairwise, SpacedLine, SpacedEntry, parts, triples}
 use Rattle.layout.specs.Rows.{row_of}
 use Rattle.layout.specs.declared.Layout.{Layout}
@@ -9,7 +9,7 @@ use Rattle.text_lines.specs.Order.{Perm}
 use Rattle.text_lines.specs.Entries.{again}
 use Rattle.text_lines.specs.Lines.{texts}
 use Rattle.plan.specs.Plans.{plan_of, sought_of}
-use Rattle.plan.specs.declared.Sought.{Sought}
+use Rattle.plan.specs.Plans.{SoughtSaid}
 use Rattle.reader.specs.Messages.{given, row_in, layout_in, entries_in}
 use Rattle.reader.specs.Reader.{Clean, Sound, body_column, record_in, planned, read_of}
 use Rattle.reader.specs.Refusals.{accepted}
@@ -23,10 +23,9 @@ use Rattle.record_check.specs.Validity.{is_valid}
 use Rattle.value_list.specs.Forms.{profile_of, bands_of, gradients_in}
 use Rattle.writer.specs.Writer.{of_written, write_of, left_by}
 use Rattle.writer_form.specs.Written.{file_of}
-use Rattle.std.proofs.Math.Option.{none}
 
 -- what a plan gives to an address: its type is the `message`
-abbrev pub address : ℕ → ℕ → List ℕ → Sought
+abbrev pub address : ℕ → ℕ → List ℕ → SoughtSaid
 address ca ioa plan = sought_of ca ioa (plan_of plan)
 
 -- that type, and the layout of a file of it
@@ -70,7 +69,7 @@ pub record Demand2 : Type 0 where
   pub ordered_alike : (ca ioa : ℕ) (plan f g : List ℕ) → Sound (type_at ca ioa plan) f → Sound (type_at ca ioa plan) g
       → row_in f ≡ row_in g
       → Perm (given (type_at ca ioa plan) f) (given (type_at ca ioa plan) g)
-      → again [] (entries_in (type_at ca ioa plan) f) ≡ none
+      → again [] (entries_in (type_at ca ioa plan) f) ≡ None
       → read_of ca ioa plan f ≡ read_of ca ioa plan g
   -- with other blanks at the ends of its lines and other line ends
   pub spaced_alike : (ca ioa : ℕ) (plan f g : List ℕ) → Clean (type_at ca ioa plan) f → Clean (type_at ca ioa plan) g → texts f ≡ texts g

@@ -1,6 +1,6 @@
 -- Request A1 of document 02, "Accented labels and the short VMAX", sentence by sentence, over the definitions that the contracts name.
 -- Bytes: 10 LF, 61 '=', 224 E0.
-use Rattle.std.specs.Prelude.{ℕ, ◌+◌, ◌≤◌, ◌<◌, length, get_or, take, true, false, List, [], ◌∷◌, ◌++◌, ◌↔◌, ◌≡◌}
+use Rattle.std.specs.Prelude.{ℕ, ◌+◌, ◌≤◌, ◌<◌, length, get_or, take, true, false, List, [], ◌∷◌, ◌++◌, ◌↔◌, ◌≡◌, None}
 use Rattle.demands.specs.Demand2.{type_at, layout_at}
 use Rattle.layout.specs.Rows.{row_of}
 use Rattle.reader.specs.Messages.{given, row_in}
@@ -12,7 +12,6 @@ use Rattle.text.specs.Bytes.{all, any, bytes, first_of, is, is_blank, upto}
 use Rattle.text_lines.specs.Lines.{allowed_upto}
 use Rattle.text_lines.specs.Spellings.{begins_line, is_accented, respell, opens}
 use Rattle.value.specs.Kinds.{shape_of}
-use Rattle.value.specs.declared.Got.TheVariants.{Bad}
 use Rattle.value.specs.declared.Shape.{Shape}
 use Rattle.value.specs.declared.Shape.TheVariants.{IsVoltage, IsRegulator, IsChange, IsReactive}
 use Rattle.value_name.specs.declared.MessageType.{MessageType}
@@ -28,7 +27,7 @@ abbrev pub SameSetting : Shape → Type 0
 SameSetting k = (shape_of k (bytes "VMAX") ≡ shape_of k (bytes "V MAX")) × (shape_of k (bytes "VMIN") ≡ shape_of k (bytes "V MIN"))
 
 abbrev pub NoSetting : Shape → Type 0
-NoSetting k = (shape_of k (bytes "VMAX") ≡ Bad) × (shape_of k (bytes "VMIN") ≡ Bad)
+NoSetting k = (shape_of k (bytes "VMAX") ≡ None) × (shape_of k (bytes "VMIN") ≡ None)
 
 pub record Request1 : Type 0 where
   -- "Byte E0 is to be allowed as the accented letter of those labels only", and "E0 stays 3 except inside the trimmed part before its line's first `=`, where

@@ -3,10 +3,9 @@ use Rattle.std.specs.Prelude.{ℕ, ◌+◌, ◌≤◌, length, take, drop, repli
 use Rattle.reader.specs.Reader.{read_of}
 use Rattle.text.specs.Refusals.{Refusal, First}
 use Rattle.text.specs.Said.{Said, said}
-use Rattle.transfer.specs.Collect.{is_more, fresh, refusals_of, taken_of, room_after, of_heard}
+use Rattle.transfer.specs.Collect.{is_more, fresh, refusals_of, taken_of, room_after, of_heard, Whole}
 use Rattle.transfer.specs.States.{collector_in, state_of}
 use Rattle.transfer.specs.declared.Collector.{Collector}
-use Rattle.transfer.specs.declared.Heard.TheVariants.{Whole}
 use Rattle.transfer_theorems.specs.Transfers.{start_of, after_all, Transfer, TakenWhole, WholeOf, AllOctets}
 use Rattle.transfer_unit.specs.Units.{two, told_by, octets_of}
 use Rattle.transfer_unit.specs.declared.Told.TheVariants.{Other}

@@ -12,7 +12,7 @@ use Rattle.book_theorems.specs.Books.{book_for, after, Kept}
 use Rattle.record.specs.declared.Record.{Record}
 use Rattle.saved.specs.Orders.{values_of}
 use Rattle.saved.specs.Saved.{read_order, order_read_of, of_order_read, order_text, read_of, text_of, save_refusals, save_of, of_saved, saved_in}
-use Rattle.saved.specs.declared.Saved.TheVariants.{To, Refused}
+use Rattle.saved.specs.Saved.{To, Refused}
 use Rattle.saved_theorems.specs.Restart.{Sized, Agree, Turn, restarting, calls_of, turn_names, timely}
 use Rattle.text.specs.Bytes.{all}
 use Rattle.text.specs.Refusals.{first_holding}

@@ -1,6 +1,6 @@
 -- Request A5 of document 02, "Profiles with fewer than 24 values", sentence by sentence, over the definitions that the contracts name. `Profile`, what A.34
 -- says of the six h lines, and `HLists`, that each filled one is a list of one to four, are in record_rules/specs/Profiles.antt. Bytes: 59 ';'.
-use Rattle.std.specs.Prelude.{ℕ, ◌≤◌, ◌<◌, ℤ, length, true, List, ◌↔◌, ◌≡◌}
+use Rattle.std.specs.Prelude.{ℕ, ◌≤◌, ◌<◌, ℤ, length, true, List, ◌↔◌, ◌≡◌, None, Option, Some}
 use Rattle.layout.specs.declared.Layout.TheVariants.{Market}
 use Rattle.reader.specs.Reader.{read_of}
 use Rattle.record.specs.declared.Cell.{Cell}
@@ -10,7 +10,6 @@ use Rattle.record_rules.specs.Rules.{in_order, updated, profiled, broken_in}
 use Rattle.record_valid.specs.Valid.{Valid}
 use Rattle.value.specs.Kinds.{shape_of}
 use Rattle.value.specs.Texts.{Rooms, value_text}
-use Rattle.value.specs.declared.Got.TheVariants.{Read, Bad}
 use Rattle.value.specs.declared.Shape.TheVariants.{IsProfile}
 use Rattle.value.specs.declared.Value.TheVariants.{List as Numbers}
 use Rattle.value_ask.specs.Values.{list_size}
@@ -19,7 +18,6 @@ use Rattle.value_list.specs.Lists.{cut_at, every_of, list_text}
 use Rattle.value_list.specs.declared.Numbers.{Numbers as Few}
 use Rattle.value_name.specs.declared.MessageType.{MessageType}
 use Rattle.value_number.specs.Number.{number_text}
-use Rattle.std.proofs.Math.Option.{Option, none, some}
 
 -- the numbers of an h line: none where a part between ';' is no number
 abbrev pub parts_read : List ℕ → Option (List ℤ)
@@ -27,11 +25,11 @@ parts_read s = every_of amount_of (cut_at 59 s)
 
 pub record Request5 : Type 0 where
   -- "Reading a list must now say how many numbers it found": one to four numbers are read as these, with how many they are
-  pub found : (s : List ℕ) (l : List ℤ) → parts_read s ≡ some l → 1 ≤ length l → length l ≤ 4
-      → (shape_of IsProfile s ≡ Read (Numbers (numbers_of l))) × (list_size (Numbers (numbers_of l)) ≡ length l) × (list_of (numbers_of l) ≡ l)
+  pub found : (s : List ℕ) (l : List ℤ) → parts_read s ≡ Some l → 1 ≤ length l → length l ≤ 4
+      → (shape_of IsProfile s ≡ Some (Numbers (numbers_of l))) × (list_size (Numbers (numbers_of l)) ≡ length l) × (list_of (numbers_of l) ≡ l)
   -- "five are 7": five or more, as a part that is no number, are no value, which is 7 at the line's field
-  pub five : (s : List ℕ) (l : List ℤ) → parts_read s ≡ some l → 5 ≤ length l → shape_of IsProfile s ≡ Bad
-  pub no_number : (s : List ℕ) → parts_read s ≡ none → shape_of IsProfile s ≡ Bad
+  pub five : (s : List ℕ) (l : List ℤ) → parts_read s ≡ Some l → 5 ≤ length l → shape_of IsProfile s ≡ None
+  pub no_number : (s : List ℕ) → parts_read s ≡ None → shape_of IsProfile s ≡ None
   -- "the first filled line may hold one to four, and only later lines must hold four": rule 3 says this of lines that are lists of one to four
   pub profile_exactly : (cells : List Cell) → HLists cells → profiled cells ≡ true ↔ Profile cells
   -- "one to three values in a line that isn't the first filled is rule 3": where 1 and 2 hold, it is told exactly where the lines are no profile

@@ -19,7 +19,7 @@ use Rattle.book_theorems.specs.Books.{books, book_for, after, history}
 use Rattle.record.specs.declared.Record.{Record}
 use Rattle.report_brief.specs.Brief.{start_of, end_of}
 use Rattle.saved.specs.Saved.{save_of}
-use Rattle.saved.specs.declared.Saved.TheVariants.{Refused}
+use Rattle.saved.specs.Saved.{Refused}
 use Rattle.text.specs.Bytes.{all, any}
 use Rattle.text.specs.Refusals.{Refusal}
 use Rattle.value_ask.specs.Values.{instant_in}

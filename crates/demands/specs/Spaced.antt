@@ -1,5 +1,5 @@
 -- Files that differ in blanks. Document 01, "Lines of a message": label and value are trimmed; "Rules across fields": parts of a list are trimmed.
-use Rattle.std.specs.Prelude.{ℕ, List, [], ◌∷◌, map, ◌≡◌}
+use Rattle.std.specs.Prelude.{ℕ, List, [], ◌∷◌, map, ◌≡◌, Some}
 use Rattle.layout.specs.Layouts.{kind_at}
 use Rattle.layout.specs.declared.Layout.{Layout}
 use Rattle.text.specs.Bytes.{trim}
@@ -8,7 +8,6 @@ use Rattle.text_lines.specs.Lines.{Param, param_of}
 use Rattle.value.specs.declared.Shape.{Shape}
 use Rattle.value.specs.declared.Shape.TheVariants.{IsProfile, IsBands, IsTriples}
 use Rattle.value_list.specs.Lists.{cut_at}
-use Rattle.std.proofs.Math.Option.{some}
 
 -- one by one
 pub data Pairwise {A : Type 0} (R : A → A → Type 0) : List A → List A → Type 0 where
@@ -20,7 +19,7 @@ pub data Pairwise {A : Type 0} (R : A → A → Type 0) : List A → List A → 
 -- the same line, or a parameter line with the same label and value
 pub data SpacedLine : List ℕ → List ℕ → Type 0 where
   same_line : (s : List ℕ) → SpacedLine s s
-  same_param : {s t : List ℕ} (p : Param) → param_of s ≡ some p → param_of t ≡ some p → SpacedLine s t
+  same_param : {s t : List ℕ} (p : Param) → param_of s ≡ Some p → param_of t ≡ Some p → SpacedLine s t
 
 -- ---- blanks inside a list
 

@@ -1,5 +1,12 @@
 -- The functions that are public because crates above or files beside them call them: one answer at most satisfies the contract of each. What some ask is
 -- in docs/DESIGN.md, D10; the others ask nothing (`Answers`, `Writes`, `Lends`).
+use Rattle.std.specs.Prelude.{ℕ}
+use Rattle.refusal.specs.contracts as refusal_contracts
+use Rattle.refusal.proofs as refusal
+use denote.RattleType.{RattleType}
+use denote.Param.Laws.{Laws}
+use mir.Val.{Fits}
+use mir.Syntax.{w64}
 use Rattle.plan_row.specs.contracts as plan_row_contracts
 use Rattle.plan_row.proofs as plan_row
 use Rattle.value_ask.specs.contracts as value_ask_contracts
@@ -82,7 +89,7 @@ use Rattle.value_word.proofs as value_word
 use Rattle.book.proofs as book
 use Rattle.record_check.proofs as record_check
 
-pub record Within : Type 0 where
+pub record Within : Type 2 where
   -- transfer
   pub transfer_unit_told_by : Answers transfer_unit_contracts.told_by.ended transfer_unit.told_by.Reads.Asked transfer_unit.told_by.Reads.Learnt
   pub transfer_unit_ca_of : Answers transfer_unit_contracts.ca_of.ended transfer_unit.ca_of.Reads.Asked transfer_unit.ca_of.Reads.Learnt
@@ -90,6 +97,9 @@ pub record Within : Type 0 where
   pub transfer_state_collector_in :
       Answers transfer_contracts.state.collector_in.ended transfer.state.collector_in.Reads.Asked transfer.state.collector_in.Reads.Learnt
   pub transfer_state_state_of : Answers transfer_contracts.state.state_of.ended transfer.state.state_of.Reads.Asked transfer.state.state_of.Reads.Learnt
+  -- refusal
+  pub refusal_number : Answers refusal_contracts.Refusal.number.ended refusal.Refusal.number.Reads.Asked refusal.Refusal.number.Reads.Learnt
+  pub refusal_detail : Answers refusal_contracts.Refusal.detail.ended refusal.Refusal.detail.Reads.Asked refusal.Refusal.detail.Reads.Learnt
   -- text
   pub text_digits_is_digit : Answers text_contracts.digits.is_digit.ended text.digits.is_digit.Reads.Asked text.digits.is_digit.Reads.Learnt
   pub text_digits_read_digits : OneResult text_contracts.digits.read_digits.ended text.digits.read_digits.Reads.Learnt
@@ -100,6 +110,11 @@ pub record Within : Type 0 where
   pub text_put_put_text : OneOutput text_contracts.put.put_text.ended (λ κs e. e.0.now) text.put.put_text.Reads.Learnt
   pub text_put_put_digits : OneOutput text_contracts.put.put_digits.ended (λ κs e. e.0.now) text.put.put_digits.Reads.Learnt
   pub text_put_put_whole : OneOutput text_contracts.put.put_whole.ended (λ κs e. e.0.now) text.put.put_whole.Reads.Learnt
+  -- a run by any test
+  pub text_scan_run :
+      (t : RattleType) (l : Laws t) (g : _) (d : _) → OneResult (text_contracts.scan.run.ended t g d) (text.scan.run.Reads.Learnt t l g d)
+  pub text_scan_IsByte_passes :
+      Answers text_contracts.scan.IsByteByteTest.passes.ended text.scan.IsByteByteTest.passes.Reads.Asked text.scan.IsByteByteTest.passes.Reads.Learnt
   pub text_scan_same : Answers text_contracts.scan.same.ended text.scan.same.Reads.Asked text.scan.same.Reads.Learnt
   pub text_scan_starts : Answers text_contracts.scan.starts.ended text.scan.starts.Reads.Asked text.scan.starts.Reads.Learnt
   pub text_scan_first : Answers text_contracts.scan.first.ended text.scan.first.Reads.Asked text.scan.first.Reads.Learnt
@@ -134,14 +149,15 @@ pub record Within : Type 0 where
   pub text_lines_break_at : OneResult text_lines_contracts.break_at.ended text_lines.break_at.Reads.Learnt
   pub text_lines_trim_span : OneResult text_lines_contracts.trim_span.ended text_lines.trim_span.Reads.Learnt
   pub text_lines_is_separator : Answers text_lines_contracts.is_separator.ended text_lines.is_separator.Reads.Asked text_lines.is_separator.Reads.Learnt
-  -- text_room
-  pub text_room_keep_unit : Answers text_room_contracts.keep_unit.ended text_room.keep_unit.Reads.Asked text_room.keep_unit.Reads.Learnt
-  pub text_room_keep_reason : Answers text_room_contracts.keep_reason.ended text_room.keep_reason.Reads.Asked text_room.keep_reason.Reads.Learnt
-  pub text_room_keep_note : Answers text_room_contracts.keep_note.ended text_room.keep_note.Reads.Asked text_room.keep_note.Reads.Learnt
+  pub text_lines_Span_text : OneText text_lines_contracts.Span.text.ended (λ κs z. z.now) text_lines.Span.text.Reads.Learnt
+  -- text_room: a room of any size
+  pub text_room_keep : (t : RattleType) (n : ℕ) (f : Fits w64 n) → OneResult (text_room_contracts.keep.ended t) (text_room.keep.Reads.Learnt n f)
   -- value_list
   pub value_list_few_read : OneResult value_list_contracts.few.read.ended value_list.few.read.Reads.Learnt
   pub value_list_few_put : OneOutput value_list_contracts.few.put.ended (λ κs e. e.0.now) value_list.few.put.Reads.Learnt
-  pub value_list_triples_none : Answers value_list_contracts.triples.none.ended value_list.triples.none.Reads.Asked value_list.triples.none.Reads.Learnt
+  pub value_list_triples_kept : Answers value_list_contracts.triples.kept.ended value_list.triples.kept.Reads.Asked value_list.triples.kept.Reads.Learnt
+  pub value_list_triples_counted :
+      Answers value_list_contracts.triples.counted.ended value_list.triples.counted.Reads.Asked value_list.triples.counted.Reads.Learnt
   pub value_list_triples_put : OneOutput value_list_contracts.triples.put.ended (λ κs e. e.0.now) value_list.triples.put.Reads.Learnt
   -- text_keyline
   pub text_keyline_line_of : Answers text_keyline_contracts.line_of.ended text_keyline.line_of.Reads.Asked text_keyline.line_of.Reads.Learnt
@@ -227,6 +243,7 @@ pub record Within : Type 0 where
   -- record_voltvar
   pub record_voltvar_in_table : Answers record_voltvar_contracts.in_table.ended record_voltvar.in_table.Reads.Asked record_voltvar.in_table.Reads.Learnt
   -- record_rules
+  pub record_rules_number : Answers record_rules_contracts.Rule.number.ended record_rules.Rule.number.Reads.Asked record_rules.Rule.number.Reads.Learnt
   pub record_rules_of_market : Answers record_rules_contracts.of_market.ended record_rules.of_market.Reads.Asked record_rules.of_market.Reads.Learnt
   pub record_rules_of_ramps : Answers record_rules_contracts.of_ramps.ended record_rules.of_ramps.Reads.Asked record_rules.of_ramps.Reads.Learnt
   pub record_rules_of_order : Answers record_rules_contracts.of_order.ended record_rules.of_order.Reads.Asked record_rules.of_order.Reads.Learnt
@@ -264,7 +281,6 @@ pub record Within : Type 0 where
   pub book_order_is_brought : Answers book_order_contracts.is_brought.ended book_order.is_brought.Reads.Asked book_order.is_brought.Reads.Learnt
   pub book_order_could_hold : Answers book_order_contracts.could_hold.ended book_order.could_hold.Reads.Asked book_order.could_hold.Reads.Learnt
   -- reader
-  pub reader_refuse : Answers reader_contracts.refuse.ended reader.refuse.Reads.Asked reader.refuse.Reads.Learnt
   pub reader_judged : Answers reader_contracts.judged.ended reader.judged.Reads.Asked reader.judged.Reads.Learnt
   -- report
   pub report_put_record : OneOutput report_contracts.put_record.ended (λ κs e. e.0.now) report.put_record.Reads.Learnt

@@ -1,12 +1,9 @@
 -- Document 01, "Both sides of each line": the cases marked P, as one table of texts and what each has to read as.
-use Rattle.std.specs.Prelude.{ℕ, ℤ, pos, negsuc, List, [], ◌∷◌}
+use Rattle.value_date.specs.declared.Date.{Date}
+use Rattle.std.specs.Prelude.{ℕ, ℤ, pos, negsuc, List, [], ◌∷◌, None, Option, Some}
 use Prim.Native.String.{String}
 use Rattle.value_date.specs.Date.{date_of, instant_of}
-use Rattle.value_date.specs.declared.Dated.{Dated}
-use Rattle.value_date.specs.declared.Dated.TheVariants.{Is as IsDate, Bad as NoDate}
 use Rattle.value_number.specs.Number.{number_of}
-use Rattle.value_number.specs.declared.Number.{Number}
-use Rattle.value_number.specs.declared.Number.TheVariants.{Is as IsNumber, Bad as NoNumber}
 
 pub data Answer : Type 0 where
   instant : ℕ → Answer
@@ -18,13 +15,13 @@ pub data Sort : Type 0 where
   date : Sort
   number : Sort
 
-abbrev pub from_date : Dated → Answer
-from_date (IsDate d) = instant (instant_of d)
-from_date NoDate = refused
+abbrev pub from_date : Option Date → Answer
+from_date (Some d) = instant (instant_of d)
+from_date None = refused
 
-abbrev pub from_number : Number → Answer
-from_number (IsNumber v) = thousandths v
-from_number NoNumber = refused
+abbrev pub from_number : Option ℤ → Answer
+from_number (Some v) = thousandths v
+from_number None = refused
 
 unfoldable pub case_answer : Sort → List ℕ → Answer
 case_answer date s = from_date (date_of s)

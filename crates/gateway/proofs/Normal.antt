@@ -1,14 +1,16 @@
 -- The normalising entry answers what the normaliser says, as one number. Assumes nothing.
+use Rattle.std.specs.Prelude.{Result, Ok, Err}
+use Rattle.refusal.specs.declared.Refusal.{Refusal}
 use Prim.Native.Nat.{ℕ, ◌+◌, ◌*◌, ◌≤◌, ◌<◌}
-use Rattle.gateway.specs.Entry.{length_or11, entry_code, out_of}
+use Rattle.gateway.specs.Entry.{code_by, length_or11, entry_code, out_of}
 use Rattle.reader.specs.Reader.{read_of}
-use Rattle.reader.specs.declared.Answer.{Answer}
+use Rattle.reader.specs.Refusals.{Answer}
 use Rattle.reader_theorems.proofs.Small.{detail_small, number_small}
 use Rattle.text.proofs.Tests.{by_test}
 use Rattle.writer.proofs.Held.{read_held, held_small}
-use Rattle.writer.specs.Writer.{fitted, normalise_of, normal_left}
-use Rattle.writer.specs.declared.Written.{Written}
-use Rattle.writer.specs.declared.Written.TheVariants.{Length, Refused}
+use Rattle.writer.specs.Writer.{fitted, written_by, normalise_of, normal_left}
+use Rattle.writer.specs.Writer.{Written}
+use Rattle.writer.specs.Writer.Written.{Length, Refused}
 use Rattle.writer_form.specs.Written.{file_of}
 use borrow.Author.Tests.{eqb-true}
 use lib.Dec.{eqb, leb}
@@ -50,32 +52,25 @@ fair ca ioa plan file room =
     (λ e. rw e (fitted_fair (file_of a.content) room (held_small a.content (read_held a ca ioa plan file refl (eqb-true a.number 0 e)))))
     (λ e. rw e (number_small ca ioa plan file, detail_small ca ioa plan file))
 
--- ---- the two ends
+-- ---- the entry's answer
 
-module _ (ca ioa : ℕ) (plan file out m : List ℕ) (w : Written)
-    (told : (w ≡ normalise_of (read_of ca ioa plan file) (length out)) × (m ≡ normal_left (read_of ca ioa plan file) out)) where
-  abbrev answer : Answer
-  answer = read_of ca ioa plan file
+code_said : (r : Result ℕ Refusal) → code_by r ≡ answered (written_by r)
+unfolding answered
+code_said (Ok n) = refl
+code_said (Err e) = omega arith
 
-  w_fair : Fair w
-  w_fair = subst Fair (sym told.0) (fair ca ioa plan file (length out))
+fair_small : (w : Written) → Fair w → answered w < 4294967296
+unfolding Fair answered
+fair_small (Length n) h = omega arith
+fair_small (Refused k d) h = omega (arith, h.0, h.1)
 
-  pub length_fair : (n : ℕ) → w ≡ Length n → n ≤ 8192
-  unfolding Fair
-  length_fair n e = subst Fair e w_fair
+module _ (ca ioa : ℕ) (plan file out m : List ℕ) (r : Result ℕ Refusal)
+    (told : (written_by r ≡ normalise_of (read_of ca ioa plan file) (length out)) × (m ≡ normal_left (read_of ca ioa plan file) out)) where
+  pub small : code_by r < 4294967296
+  small =
+      let h = fair_small (written_by r) (subst Fair (sym told.0) (fair ca ioa plan file (length out))) in
+      omega (arith, h, code_said r)
 
-  pub refused_fair : (k d : ℕ) → w ≡ Refused k d → (k ≤ 13) × (d < 65536)
-  unfolding Fair
-  refused_fair k d e = subst Fair e w_fair
-
-  left_is : m ≡ out_of file_of answer out
+  pub told_as : (code_by r ≡ entry_code file_of (read_of ca ioa plan file) (length out)) × (m ≡ out_of file_of (read_of ca ioa plan file) out)
   unfolding normal_left out_of
-  left_is = told.1
-
-  pub length_end : (n : ℕ) → w ≡ Length n → (n ≡ entry_code file_of answer (length out)) × (m ≡ out_of file_of answer out)
-  unfolding answered
-  length_end n e = (ap answered (sym e ∙ told.0) ∙ code_is answer (length out), left_is)
-
-  pub refused_end : (k d : ℕ) → w ≡ Refused k d → (k * 65536 + d ≡ entry_code file_of answer (length out)) × (m ≡ out_of file_of answer out)
-  unfolding answered
-  refused_end k d e = (ap answered (sym e ∙ told.0) ∙ code_is answer (length out), left_is)
+  told_as = (code_said r ∙ ap answered told.0 ∙ code_is (read_of ca ioa plan file) (length out), told.1)

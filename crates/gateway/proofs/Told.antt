@@ -1,4 +1,6 @@
 -- What is told of what was read: its refusal, or what is told of its record. Assumes nothing.
+use Rattle.std.specs.Prelude.{Result, Ok, Err}
+use Rattle.refusal.specs.declared.Refusal.{Refusal}
 use Prim.Native.Nat.{ℕ, ◌+◌, ◌-◌, ◌*◌, ◌≤◌, ◌<◌}
 use Rattle.report_brief.proofs.Fields.{value_at, brief_is}
 use Rattle.report_brief.proofs.Sizes.{six_length}
@@ -6,7 +8,8 @@ use Rattle.report_brief.specs.Brief.{told_of, brief_of, six_of, six_lines}
 use Rattle.report_brief.specs.declared.Brief.{Brief}
 use Rattle.reader_fill.proofs.Stored.{kept_in_room}
 use Rattle.reader_fill.specs.Filled.{record_with}
-use Rattle.gateway.proofs.Entries.{answered, Fair, wrote_fair, Ends, refused_end, wrote_end}
+use Rattle.gateway.proofs.Entries.{Fair, wrote_fair, Ends, refused_end, wrote_end}
+use Rattle.gateway.specs.Entry.{code, code_by}
 use Rattle.layout.specs.FieldNumbers.{unit_no, end_field}
 use Rattle.layout.specs.Rows.{text_at}
 use Rattle.reader.proofs.Concluding.{concluded_no, concluded_yes}
@@ -14,20 +17,18 @@ use Rattle.reader.specs.Reader.{read_of}
 use Rattle.reader.specs.Refusals.{refused}
 use Rattle.reader.specs.Readings.{reading_of}
 use Rattle.reader.specs.State.{column_at}
-use Rattle.reader.specs.declared.Answer.{Answer}
-use Rattle.reader.specs.declared.Reading.{Reading}
+use Rattle.reader.specs.Refusals.{Answer}
+use Rattle.reader.specs.Readings.{ReadingSaid}
 use Rattle.reader_theorems.proofs.Readings.{Reads, reads_of}
 use Rattle.reader_theorems.proofs.Small.{detail_small, number_small}
 use Rattle.record.specs.declared.Record.{Record}
 use Rattle.text.specs.Puts.{wrote_of, buffer_of}
-use Rattle.text.specs.declared.put.Wrote.TheVariants.{To, NoRoom}
-use Rattle.text.specs.declared.put.Wrote.{Wrote}
 use Rattle.text_room.specs.Rooms.{kept_in}
 use mathlib.Core.List.{List}
 use mathlib.Core.Path.{◌≡◌, sym, ap, ◌∙◌, subst}
 use native.Mathlib.Omega.{arith}
 
-module _ (ca ioa : ℕ) (plan file : List ℕ) (x : Reading) (is : x ≡ reading_of ca ioa plan file) where
+module _ (ca ioa : ℕ) (plan file : List ℕ) (x : ReadingSaid) (is : x ≡ reading_of ca ioa plan file) where
   reads : Reads ca ioa plan file x
   reads = reads_of ca ioa plan file x is
 
@@ -46,8 +47,8 @@ module _ (ca ioa : ℕ) (plan file : List ℕ) (x : Reading) (is : x ≡ reading
       omega (arith, number_small ca ioa plan file, ap (λ (a : Answer). a.number) refused_as),
     )
 
-    pub refused_told : (out : List ℕ) → Ends out answer (x.number * 65536 + x.detail) out
-    refused_told out = subst (λ (a : Answer). Ends out a (x.number * 65536 + x.detail) out) refused_as (refused_end out x.number x.detail no)
+    pub refused_told : (out : List ℕ) → Ends out answer (code x.number x.detail) out
+    refused_told out = subst (λ (a : Answer). Ends out a (code x.number x.detail) out) refused_as (refused_end out x.number x.detail no)
 
   -- ---- accepted
 
@@ -63,7 +64,7 @@ module _ (ca ioa : ℕ) (plan file : List ℕ) (x : Reading) (is : x ≡ reading
   unfolding record_with
   told_as b u room k f g e t = brief_is body b k e (t ∙ rw (g ∙ ap (kept_in 16) f))
 
-  module _ (b : Brief) (told : b ≡ brief_of body) (out out₂ : List ℕ) (w : Wrote)
+  module _ (b : Brief) (told : b ≡ brief_of body) (out out₂ : List ℕ) (w : Result ℕ Refusal)
       (wrote : (w ≡ wrote_of out 0 (six_of b)) × (out₂ ≡ buffer_of out 0 (six_of b))) where
     -- of the record's own lines
     its_own : (w ≡ wrote_of out 0 (six_lines body)) × (out₂ ≡ buffer_of out 0 (six_lines body))
@@ -75,23 +76,14 @@ module _ (ca ioa : ℕ) (plan file : List ℕ) (x : Reading) (is : x ≡ reading
     few =
         subst (Fair 89) (sym its_own.0) (wrote_fair out (six_lines body) 89 (six_length body (kept_in_room 16 (text_at column unit_no)).sized))
 
-    pub few_written : (n : ℕ) → w ≡ To n → n ≤ 89
+    pub few_told : code_by w < 4294967296
     unfolding Fair
-    few_written n e = subst (Fair 89) e few
+    few_told = small w few
+      where
+        small : (z : Result ℕ Refusal) → Fair 89 z → code_by z < 4294967296
+        small (Ok n) h = omega arith
+        small (Err e) h = omega (arith, h.0, h.1)
 
-    pub few_refused : (n : ℕ) → w ≡ NoRoom n → n ≤ 89
-    unfolding Fair
-    few_refused n e = subst (Fair 89) e few
-
-    module _ (yes : x.number ≡ 0) where
-      ends : Ends out answer (answered w) out₂
-      ends =
-          subst (λ (a : Answer). Ends out a (answered w) out₂) (concluded_yes file x yes ∙ reads.answers) (wrote_end out body w out₂ its_own)
-
-      pub written_told : (n : ℕ) → w ≡ To n → Ends out answer n out₂
-      unfolding answered
-      written_told n e = rw e at ends
-
-      pub no_room_told : (n : ℕ) → w ≡ NoRoom n → Ends out answer (11 * 65536 + n) out₂
-      unfolding answered
-      no_room_told n e = rw e at ends
+    pub written_told : x.number ≡ 0 → Ends out answer (code_by w) out₂
+    written_told e =
+        subst (λ (a : Answer). Ends out a (code_by w) out₂) (concluded_yes file x e ∙ reads.answers) (wrote_end out body w out₂ its_own)

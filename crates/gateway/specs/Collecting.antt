@@ -2,8 +2,7 @@
 -- length of a file that is whole, else 65,536 times the refusal's number (details are 0).
 use Rattle.std.specs.Prelude.{ℕ}
 use Rattle.gateway.specs.Entry.{code}
-use Rattle.transfer.specs.declared.Heard.{Heard}
-use Rattle.transfer.specs.declared.Heard.TheVariants.{More, Whole, Refused}
+use Rattle.transfer.specs.Collect.{Heard, More, Whole, Refused}
 
 abbrev pub collect_code : Heard → ℕ
 collect_code More = 0

@@ -1,7 +1,11 @@
--- What is printed has its room; the plan as it is taken. Assumes nothing.
+-- What is printed has its room. Assumes nothing.
+use Rattle.std.specs.Prelude.{Result, Ok, Err}
+use Rattle.reader.specs.Said.{answer_by}
+use Rattle.record.specs.Records.{zero_record}
+use Rattle.record.specs.declared.Record.{Record}
+use Rattle.refusal.specs.declared.Refusal.{Refusal}
 use Prim.Native.Nat.{ℕ, ◌+◌, ◌≤◌}
-use Rattle.halimpung.specs.Plan.{as_read}
-use Rattle.reader.specs.declared.Answer.{Answer}
+use Rattle.reader.specs.Refusals.{Answer}
 use Rattle.report.specs.Program.{heard_of, printed_of}
 use Rattle.report.specs.Report.{two_lines, report_of}
 use Rattle.report_brief.proofs.Sizes.{number_length, six_length}
@@ -14,7 +18,7 @@ use lib.ListN.{length, length-append, take, drop}
 use lib.Seq.{sets, sets-eq, take-append_seam}
 use mathlib.Core.Bool.{Bool, true, false, cond}
 use mathlib.Core.List.{List}
-use mathlib.Core.Path.{◌≡◌, sym, ap, ap₂, ◌∙◌}
+use mathlib.Core.Path.{◌≡◌, refl, ap, ap₂, ◌∙◌}
 use native.Mathlib.Omega.{arith}
 
 two_length : (number detail : ℕ) → length (two_lines number detail) ≤ 89
@@ -39,19 +43,19 @@ longest a h =
     (six_length a.content h)
     (two_length a.number a.detail)
 
+-- a record's unit has its room, and so has that of a refusal
+room_of_unit : (x : Result Record Refusal) → ((r : Record) → x ≡ Ok r → length r.unit ≡ 16) → length (answer_by x).content.unit ≡ 16
+unfolding zero_record
+room_of_unit (Ok r) h = h r refl
+room_of_unit (Err e) h = refl
+
 -- put into a room of as many bytes
-pub all_printed : (plan input : List ℕ) (a : Answer) (n : ℕ) (l room : List ℕ) → length a.content.unit ≡ 16 → a ≡ heard_of plan input
-    → (n ≡ 0 + length (report_of a)) × (room ≡ sets l 0 (report_of a)) → length l ≡ 89 → take n room ≡ printed_of plan input
+pub all_printed : (plan input : List ℕ) (x : Result Record Refusal) (n : ℕ) (l room : List ℕ)
+    → ((r : Record) → x ≡ Ok r → length r.unit ≡ 16) → answer_by x ≡ heard_of plan input
+    → (n ≡ 0 + length (report_of (answer_by x))) × (room ≡ sets l 0 (report_of (answer_by x))) → length l ≡ 89 → take n room ≡ printed_of plan input
 unfolding printed_of
-all_printed plan input a n l room u h p w =
-    let t = report_of a in
+all_printed plan input x n l room u h p w =
+    let t = report_of (answer_by x) in
     let k : n ≡ length t = omega (arith, p.0) in
-    let z : 0 + length t ≤ length l = omega (arith, longest a u, w) in
+    let z : 0 + length t ≤ length l = omega (arith, longest (answer_by x) (room_of_unit x u), w) in
     ap₂ (λ (i : ℕ) (x : List ℕ). take i x) k (p.1 ∙ sets-eq t l 0 z) ∙ take-append_seam t (drop (0 + length t) l) ∙ ap report_of h
-
--- the plan as it was read
-pub a_plan : (readable : Bool) (plan : List ℕ) → readable ≡ true → plan ≡ as_read readable plan
-a_plan readable plan e = ap (λ (b : Bool). as_read b plan) (sym e)
-
-pub no_plan : (readable : Bool) (plan part : List ℕ) → readable ≡ false → part ≡ take 0 plan → part ≡ as_read readable plan
-no_plan readable plan part e p = p ∙ ap (λ (b : Bool). as_read b plan) (sym e)

@@ -3,7 +3,7 @@
 
 ghost use Rattle.halimpung.specs.Plan.{as_read};
 ghost use Rattle.report.specs.Program.{printed_of};
-ghost use Rattle.std.specs.Prelude.{take, ◌≡◌};
+ghost use Rattle.std.specs.Prelude.{◌≡◌};
 
 use std::fs::File;
 use std::io::{self, ErrorKind, Read};
@@ -32,26 +32,16 @@ fn read_plan<R: Files>(files: &R, plan: &mut Vec<u8>) -> io::Result<bool> {
 fn as_read(readable: bool, plan: &[u8]) -> &[u8]
     ensures { result.now ≡ as_read readable plan.now }
 {
-    if readable {
-        return plan;
-    }
-    scan::front(plan, 0)
+    if readable { plan } else { &[] }
 }
 
-// What is printed, and how long it is: all of it stands in the room.
-#[derive(Clone, Copy)]
-struct Output {
-    room: [u8; ROOM],
-    size: usize,
-}
-
-fn printed(readable: bool, plan: &[u8], input: &[u8]) -> Output
-    ensures { take result.size result.room ≡ printed_of (as_read readable plan.now) input.now }
+// What is printed, which stands at the front of the room.
+fn printed<'a>(room: &'a mut [u8; ROOM], readable: bool, plan: &[u8], input: &[u8]) -> &'a [u8]
+    ensures { result.now ≡ printed_of (as_read readable plan.now) input.now }
 {
     let answer = report::hear(as_read(readable, plan), input);
-    let mut room = [0u8; ROOM];
-    let size = report::put_answer(&mut room, 0, answer);
-    Output { room, size }
+    let size = report::put_answer(room, 0, answer);
+    scan::front(room, size)
 }
 
 fn main(rt: HostRuntime) -> io::Result<()> {
@@ -59,7 +49,6 @@ fn main(rt: HostRuntime) -> io::Result<()> {
     let readable = read_plan(&rt, &mut plan)?;
     let mut input = Vec::new(rt.alloc());
     rt.stdin().take(MOST).read_to_end(&mut input)?;
-    let p = printed(readable, &plan, &input);
-    let room = p.room;
-    rt.write_all(scan::front(&room, p.size))
+    let mut room = [0; ROOM];
+    rt.write_all(printed(&mut room, readable, &plan, &input))
 }

@@ -58,6 +58,19 @@ first_field VoltVar = refl
 first_field Rejection = refl
 first_field Reserve = refl
 
+-- only SR has half-bands
+pub no_bands : (l : Layout) (col : List (List ℕ)) → (l ≡ Secondary → ⊥) → bands_in l col ≡ []
+no_bands Market col n = refl
+no_bands Mfrr col n = refl
+no_bands Revocation col n = refl
+no_bands Generic col n = refl
+no_bands Exclusion col n = refl
+no_bands Limitation col n = refl
+no_bands Secondary col n = absurd (n refl)
+no_bands VoltVar col n = refl
+no_bands Rejection col n = refl
+no_bands Reserve col n = refl
+
 -- ---- they are fields of the layout
 
 all_fields : (l : Layout) → all (within 1 (size_of l)) (row_fields l) ≡ true

@@ -100,16 +100,8 @@ pub fn end_field(l: Layout) -> usize
     ensures { result ≡ end_field l }
 {
     match l {
-        Layout::Market => END,
         Layout::Mfrr => TFIN2,
-        Layout::Revocation => END,
-        Layout::Generic => END,
-        Layout::Exclusion => END,
-        Layout::Limitation => END,
-        Layout::Secondary => END,
-        Layout::VoltVar => END,
-        Layout::Rejection => END,
-        Layout::Reserve => END,
+        _ => END,
     }
 }
 
@@ -118,16 +110,11 @@ pub fn reason_field(l: Layout) -> usize
     ensures { result ≡ reason_field l }
 {
     match l {
-        Layout::Market => 0,
-        Layout::Mfrr => 0,
-        Layout::Revocation => 0,
-        Layout::Generic => 5,
         Layout::Exclusion => EB_REASON,
         Layout::Limitation => LB_REASON,
         Layout::Secondary => 7,
-        Layout::VoltVar => 0,
-        Layout::Rejection => 5,
-        Layout::Reserve => 0,
+        Layout::Generic | Layout::Rejection => 5,
+        _ => 0,
     }
 }
 
@@ -136,16 +123,10 @@ pub fn note_field(l: Layout) -> usize
     ensures { result ≡ note_field l }
 {
     match l {
-        Layout::Market => 0,
-        Layout::Mfrr => 0,
-        Layout::Revocation => 0,
-        Layout::Generic => 6,
-        Layout::Exclusion => 6,
-        Layout::Limitation => 8,
-        Layout::Secondary => 8,
+        Layout::Generic | Layout::Exclusion | Layout::Rejection => 6,
+        Layout::Limitation | Layout::Secondary | Layout::Reserve => 8,
         Layout::VoltVar => 12,
-        Layout::Rejection => 6,
-        Layout::Reserve => 8,
+        _ => 0,
     }
 }
 
@@ -155,14 +136,6 @@ pub fn gradients_field(l: Layout) -> usize
 {
     match l {
         Layout::Market => GRADIENTS,
-        Layout::Mfrr => 0,
-        Layout::Revocation => 0,
-        Layout::Generic => 0,
-        Layout::Exclusion => 0,
-        Layout::Limitation => 0,
-        Layout::Secondary => 0,
-        Layout::VoltVar => 0,
-        Layout::Rejection => 0,
-        Layout::Reserve => 0,
+        _ => 0,
     }
 }

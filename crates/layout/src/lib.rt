@@ -11,7 +11,7 @@ ghost use Rattle.std.specs.Prelude.{◌≡◌};
 use value_name::MessageType;
 
 // The type CB has two layouts, every other type has one.
-#[derive(Clone, Copy)]
+#[derive(Clone, Copy, PartialEq, Eq, Debug)]
 pub enum Layout {
     Market,
     Mfrr,
@@ -64,54 +64,21 @@ pub fn of_type(t: MessageType) -> Layout
 pub fn is_market(l: Layout) -> bool
     ensures { result ≡ is_market l }
 {
-    match l {
-        Layout::Market => true,
-        Layout::Mfrr => false,
-        Layout::Revocation => false,
-        Layout::Generic => false,
-        Layout::Exclusion => false,
-        Layout::Limitation => false,
-        Layout::Secondary => false,
-        Layout::VoltVar => false,
-        Layout::Rejection => false,
-        Layout::Reserve => false,
-    }
+    matches!(l, Layout::Market)
 }
 
 // A CB of either layout.
 pub fn is_command(l: Layout) -> bool
     ensures { result ≡ is_command l }
 {
-    match l {
-        Layout::Market => true,
-        Layout::Mfrr => true,
-        Layout::Revocation => false,
-        Layout::Generic => false,
-        Layout::Exclusion => false,
-        Layout::Limitation => false,
-        Layout::Secondary => false,
-        Layout::VoltVar => false,
-        Layout::Rejection => false,
-        Layout::Reserve => false,
-    }
+    matches!(l, Layout::Market | Layout::Mfrr)
 }
 
 // An RC.
 pub fn is_revocation(l: Layout) -> bool
     ensures { result ≡ is_revocation l }
 {
-    match l {
-        Layout::Market => false,
-        Layout::Mfrr => false,
-        Layout::Revocation => true,
-        Layout::Generic => false,
-        Layout::Exclusion => false,
-        Layout::Limitation => false,
-        Layout::Secondary => false,
-        Layout::VoltVar => false,
-        Layout::Rejection => false,
-        Layout::Reserve => false,
-    }
+    matches!(l, Layout::Revocation)
 }
 
 // How many fields it has.

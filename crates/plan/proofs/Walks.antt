@@ -1,5 +1,6 @@
 -- The plan row by row: what is read so far, and what the rest gives below it, is the plan.
 -- Assumes nothing.
+use Rattle.std.specs.Prelude.{Err, None, Ok, Option, Result, Some}
 use Prim.Native.Nat.{ℕ, zero, suc, ◌+◌, ◌-◌, ◌*◌, ◌≤◌, ◌<◌}
 use Rattle.plan_row.proofs.Addresses.{row_of_key, any_kept, key_place, key_sought}
 use Rattle.plan_row.proofs.Codes.{type_told}
@@ -7,27 +8,24 @@ use Rattle.plan_row.proofs.Readers.{At, at_length, next_line, second_line}
 use Rattle.plan_row.specs.Kept.{sought_key, rows_of, third_of, kept_row, row_at_of}
 use Rattle.plan_row.specs.Rows.{Row, row, ca_at, ioa_at, type_at, is_at, RowRead, good, bad, row_named, begun, plan_row_of}
 use Rattle.plan_row.specs.declared.Entry.{Entry}
-use Rattle.plan_row.specs.declared.RowAt.TheVariants.{Good, Bad}
-use Rattle.plan_row.specs.declared.RowAt.{RowAt}
 use Rattle.text_keyline.proofs.Lines.{unit_told}
 use Rattle.text_keyline.proofs.Values.{number_told}
 use Rattle.text_keyline.specs.Keylines.{value_in, below, unit_at}
 use Rattle.value_name.specs.declared.MessageType.{MessageType}
 use Rattle.plan.specs.Kept.{found_in}
-use Rattle.plan.specs.Plans.{rows, wrong, onward, plan_from, plan_of, sought_refused, look_up, sought_of}
+use Rattle.plan.specs.Plans.{rows, wrong, onward, plan_from, plan_of, sought_refused, look_up, sought_of, said_by}
 use Rattle.plan.specs.declared.Sought.{Sought}
+use Rattle.refusal.specs.declared.Refusal.{Refusal}
+use Rattle.refusal.specs.declared.Refusal.TheVariants.{UnknownAddress}
 use Rattle.text_room.specs.Rooms.{kept_in}
 use Rattle.text.proofs.Cuts.{tail, part_from, upto_take}
 use Rattle.text.specs.Bytes.{bytes, part, is, any, first_of}
-use Rattle.text.specs.declared.digits.Digits.TheVariants.{Are, Not}
-use Rattle.text.specs.declared.digits.Digits.{Digits}
 use borrow.Author.Tests.{eq-eqb, ne_eqb}
 use lib.Dec.{eqb, ltb}
 use lib.ListN.{length, take, drop, set}
 use mathlib.Core.Bool.{Bool, true, false, ◌||◌, cond}
 use mathlib.Core.List.{List, [], ◌∷◌}
 use mathlib.Core.Logic.{◌⊎◌, inl, inr}
-use mathlib.Core.Option.{Option, none, some}
 use mathlib.Core.Path.{◌≡◌, refl, sym, ap, ap₂, ◌∙◌}
 use native.Mathlib.Nat.{sub-zero}
 use native.Mathlib.Omega.{arith}
@@ -35,7 +33,7 @@ use native.Mathlib.Omega.{arith}
 -- ---- what a row with the address gives
 
 pub found_here : (s : List ℕ) (e : Entry) (kept : List ℕ) → kept ≡ kept_in 16 (part e.from e.to s)
-    → record { number = 0; detail = 0; message = e.message; size = length (part e.from e.to s); unit = kept } ≡ found_in s e
+    → record { message = e.message; size = length (part e.from e.to s); unit = kept } ≡ found_in s e
 found_here s e kept q = rw q
 
 -- ---- a row is judged by the addresses above it, and by nothing else of them
@@ -44,17 +42,17 @@ row_any : (up vs : List Row) (s : List ℕ) → ((c i : ℕ) → any (is_at c i)
 unfolding plan_row_of
 row_any up vs s h = go (ca_at s) (ioa_at (below s)) (unit_at (below (below s))) (type_at (below (below (below s))))
   where
-    go : (d e : Digits) (o : Option (List ℕ)) (p : Option MessageType) → begun up d e o p ≡ begun vs d e o p
-    go Not e o p = refl
-    go (Are c) Not o p = refl
-    go (Are c) (Are i) o p = rw (h c i)
+    go : (d e : Option ℕ) (o : Option (List ℕ)) (p : Option MessageType) → begun up d e o p ≡ begun vs d e o p
+    go None e o p = refl
+    go (Some c) None o p = refl
+    go (Some c) (Some i) o p = rw (h c i)
 
 -- what the answer for a row tells of it
-is_bad : (s : List ℕ) (x : RowRead) (k : ℕ) → row_at_of s x ≡ Bad k → x ≡ bad k
+is_bad : (s : List ℕ) (x : RowRead) (k : ℕ) → row_at_of s x ≡ Err k → x ≡ bad k
 is_bad s (bad j) k e = let n : j ≡ k = cc in rw n
 is_bad s (good r) k e = let z : ◌≡◌ {A = ℕ} 0 1 = cc in absurd (omega arith)
 
-is_good : (s : List ℕ) (x : RowRead) (e : Entry) → row_at_of s x ≡ Good e → (r : Row) × ((x ≡ good r) × (kept_row s r ≡ e))
+is_good : (s : List ℕ) (x : RowRead) (e : Entry) → row_at_of s x ≡ Ok e → (r : Row) × ((x ≡ good r) × (kept_row s r ≡ e))
 is_good s (bad j) e h = let z : ◌≡◌ {A = ℕ} 0 1 = cc in absurd (omega arith)
 is_good s (good r) e h = (r, (refl, cc))
 
@@ -65,8 +63,8 @@ bad_is_good e = let z : ◌≡◌ {A = ℕ} 0 1 = cc in absurd (omega arith)
 
 abbrev Four : List ℕ → Row → Type 0
 Four s r =
-    (ca_at s ≡ Are r.ca) × (ioa_at (below s) ≡ Are r.ioa) × (unit_at (below (below s)) ≡ some r.unit)
-    × (type_at (below (below (below s))) ≡ some r.message)
+    (ca_at s ≡ Some r.ca) × (ioa_at (below s) ≡ Some r.ioa) × (unit_at (below (below s)) ≡ Some r.unit)
+    × (type_at (below (below (below s))) ≡ Some r.message)
 
 four_lines : (up : List Row) (s : List ℕ) (r : Row) → plan_row_of up s ≡ good r → Four s r
 unfolding plan_row_of
@@ -74,23 +72,23 @@ four_lines up s r e =
     at_first (ca_at s) (ioa_at (below s)) (unit_at (below (below s))) (type_at (below (below (below s)))) e
   where
     at_third : (c i : ℕ) (o : Option (List ℕ)) (p : Option MessageType) → row_named c i o p ≡ good r
-        → (Are c ≡ Are r.ca) × (Are i ≡ Are r.ioa) × (o ≡ some r.unit) × (p ≡ some r.message)
-    at_third c i none p e = bad_is_good e
-    at_third c i (some u) none e = bad_is_good e
-    at_third c i (some u) (some t) e =
+        → (Some c ≡ Some r.ca) × (Some i ≡ Some r.ioa) × (o ≡ Some r.unit) × (p ≡ Some r.message)
+    at_third c i None p e = bad_is_good e
+    at_third c i (Some u) None e = bad_is_good e
+    at_third c i (Some u) (Some t) e =
         let n : row c i u t ≡ r = cc in
-        (ap (λ (x : Row). Are x.ca) n, ap (λ (x : Row). Are x.ioa) n, ap (λ (x : Row). some x.unit) n, ap (λ (x : Row). some x.message) n)
+        (ap (λ (x : Row). Some x.ca) n, ap (λ (x : Row). Some x.ioa) n, ap (λ (x : Row). Some x.unit) n, ap (λ (x : Row). Some x.message) n)
 
     at_second : (t : Bool) (c i : ℕ) (o : Option (List ℕ)) (p : Option MessageType) → cond t (bad 1) (row_named c i o p) ≡ good r
-        → (Are c ≡ Are r.ca) × (Are i ≡ Are r.ioa) × (o ≡ some r.unit) × (p ≡ some r.message)
+        → (Some c ≡ Some r.ca) × (Some i ≡ Some r.ioa) × (o ≡ Some r.unit) × (p ≡ Some r.message)
     at_second true c i o p e = bad_is_good e
     at_second false c i o p e = at_third c i o p e
 
-    at_first : (d f : Digits) (o : Option (List ℕ)) (p : Option MessageType) → begun up d f o p ≡ good r
-        → (d ≡ Are r.ca) × (f ≡ Are r.ioa) × (o ≡ some r.unit) × (p ≡ some r.message)
-    at_first Not f o p e = bad_is_good e
-    at_first (Are c) Not o p e = bad_is_good e
-    at_first (Are c) (Are i) o p e = at_second (any (is_at c i) up) c i o p e
+    at_first : (d f : Option ℕ) (o : Option (List ℕ)) (p : Option MessageType) → begun up d f o p ≡ good r
+        → (d ≡ Some r.ca) × (f ≡ Some r.ioa) × (o ≡ Some r.unit) × (p ≡ Some r.message)
+    at_first None f o p e = bad_is_good e
+    at_first (Some c) None o p e = bad_is_good e
+    at_first (Some c) (Some i) o p e = at_second (any (is_at c i) up) c i o p e
 
 -- a place that a text is left from, by its length
 placed : {s : List ℕ} {p : ℕ} {x : List ℕ} → At s p x → At s (length s - length x) x
@@ -147,36 +145,36 @@ pub none_there : (keys : List ℕ) (count greatest : ℕ) → any (ltb greatest)
 none_there keys count greatest n = ap (λ (k : ℕ). any (ltb greatest) (take k keys)) (sub-zero count) ∙ n
 
 -- THE INVARIANT of the one loop over the rows: `rest` is what was not read yet, and `up` the rows that were, last first
-pub record Sofar (plan : List ℕ) (ca ioa : ℕ) (keys : List ℕ) (count : ℕ) (found : Sought) (rest : List ℕ) : Type 0 where
+pub record Sofar (plan : List ℕ) (ca ioa : ℕ) (keys : List ℕ) (count : ℕ) (found : Result Sought Refusal) (rest : List ℕ) : Type 0 where
   pub few : count ≤ 64
   pub up : List Row
   pub kept : (c i : ℕ) → any (is_at c i) (rows_of (take count keys)) ≡ any (is_at c i) up
   pub all : plan_of plan ≡ plan_from (64 - count) (4 * count + 1) up rest
-  pub hand : found ≡ look_up ca ioa up
+  pub hand : said_by found ≡ look_up ca ioa up
 
 module _ (plan : List ℕ) (ca ioa : ℕ) where
-  pub empty : (r : Sought) → length plan ≡ 0 → r ≡ sought_refused 13 0 → r ≡ sought_of ca ioa (plan_of plan)
+  pub empty : length plan ≡ 0 → sought_refused 13 0 ≡ sought_of ca ioa (plan_of plan)
   unfolding plan_of sought_of
-  empty r e g = g ∙ rw (eq-eqb _ _ e)
+  empty e = rw (eq-eqb _ _ e)
 
-  pub begin : (keys : List ℕ) (found : Sought) → (length plan ≡ 0 → ⊥) → found ≡ sought_refused 1 0 → Sofar plan ca ioa keys 0 found plan
+  pub begin : (keys : List ℕ) → (length plan ≡ 0 → ⊥) → Sofar plan ca ioa keys 0 (Err UnknownAddress) plan
   unfolding plan_of look_up
-  begin keys found n e =
-      record { few = omega arith; up = []; kept = λ c i. refl; all = rw (ne_eqb _ _ n); hand = e }
+  begin keys n =
+      record { few = omega arith; up = []; kept = λ c i. refl; all = rw (ne_eqb _ _ n); hand = refl }
 
-  module _ (keys : List ℕ) (count : ℕ) (found : Sought) (rest : List ℕ) (f : Sofar plan ca ioa keys count found rest) where
-    pub finish : length rest ≤ 0 → found ≡ sought_of ca ioa (plan_of plan)
+  module _ (keys : List ℕ) (count : ℕ) (found : Result Sought Refusal) (rest : List ℕ) (f : Sofar plan ca ioa keys count found rest) where
+    pub finish : length rest ≤ 0 → said_by found ≡ sought_of ca ioa (plan_of plan)
     unfolding sought_of
     finish h = f.hand ∙ rw (f.all, plan_end (64 - count) (4 * count + 1) f.up rest h)
 
     module _ (more : 0 < length rest) where
-      pub too_many : (r : Sought) → count ≡ 64 → r ≡ sought_refused 13 (4 * count + 1) → r ≡ sought_of ca ioa (plan_of plan)
+      pub too_many : count ≡ 64 → sought_refused 13 (4 * count + 1) ≡ sought_of ca ioa (plan_of plan)
       unfolding sought_of
-      too_many r e g =
+      too_many e =
           let m : 64 - count ≡ 0 = omega arith in
-          g ∙ rw (f.all, m, plan_over (4 * count + 1) f.up rest more)
+          rw (f.all, m, plan_over (4 * count + 1) f.up rest more)
 
-      module _ (x : RowAt) (fits : count ≡ 64 → ⊥) (told : x ≡ row_at_of rest (plan_row_of (rows_of (take (count - 0) keys)) rest)) where
+      module _ (x : Result Entry ℕ) (fits : count ≡ 64 → ⊥) (told : x ≡ row_at_of rest (plan_row_of (rows_of (take (count - 0) keys)) rest)) where
         judged : row_at_of rest (plan_row_of f.up rest) ≡ x
         judged =
             sym (told ∙ ap (λ (n : ℕ). row_at_of rest (plan_row_of (rows_of (take n keys)) rest)) (sub-zero count)
@@ -191,11 +189,11 @@ module _ (plan : List ℕ) (ca ioa : ℕ) where
             let m : 64 - count ≡ suc (64 - (count + 1)) = omega arith in
             f.all ∙ ap (λ (k : ℕ). plan_from k (4 * count + 1) f.up rest) m ∙ plan_row (64 - (count + 1)) (4 * count + 1) f.up rest more
 
-        pub bad_line : (k : ℕ) (r : Sought) → x ≡ Bad k → r ≡ sought_refused 13 (4 * count + 1 + k) → r ≡ sought_of ca ioa (plan_of plan)
+        pub bad_line : (k : ℕ) → x ≡ Err k → sought_refused 13 (4 * count + 1 + k) ≡ sought_of ca ioa (plan_of plan)
         unfolding sought_of
-        bad_line k r e g = g ∙ rw (one_more, is_bad rest (plan_row_of f.up rest) k (judged ∙ e))
+        bad_line k e = rw (one_more, is_bad rest (plan_row_of f.up rest) k (judged ∙ e))
 
-        module _ (e : Entry) (y : x ≡ Good e) where
+        module _ (e : Entry) (y : x ≡ Ok e) where
           this : (r : Row) × ((plan_row_of f.up rest ≡ good r) × (kept_row rest r ≡ e))
           this = is_good rest (plan_row_of f.up rest) e (judged ∙ y)
 
@@ -224,22 +222,22 @@ module _ (plan : List ℕ) (ca ioa : ℕ) where
               ap (λ (n : Entry). eqb n.key (sought_key ca ioa)) (sym this.1.1)
               ∙ key_sought r.ca r.ioa ca ioa (ca_is rest r lines).0 (ioa_is rest r lines).1
 
-          found_is : found_in rest e ≡ record { number = 0; detail = 0; message = r.message; size = length r.unit; unit = kept_in 16 r.unit }
+          found_is : said_by (Ok (found_in rest e)) ≡ record { number = 0; detail = 0; message = r.message; size = length r.unit; unit = kept_in 16 r.unit }
           found_is =
-              ap (found_in rest) (sym this.1.1)
+              ap (λ (n : Entry). said_by (Ok (found_in rest n))) (sym this.1.1)
               ∙ ap (λ (v : List ℕ). record { number = 0; detail = 0; message = r.message; size = length v; unit = kept_in 16 v }) (unit_part rest r lines)
 
           -- what was found so far, with this row
-          handed : (sought : ℕ) (found₂ : Sought) → sought ≡ sought_key ca ioa
-              → ((e.key ≡ sought) × (found₂ ≡ found_in rest e)) ⊎ ((e.key ≡ sought → ⊥) × (found₂ ≡ found)) → found₂ ≡ look_up ca ioa (r ∷ f.up)
+          handed : (sought : ℕ) (found₂ : Result Sought Refusal) → sought ≡ sought_key ca ioa
+              → ((e.key ≡ sought) × (found₂ ≡ Ok (found_in rest e))) ⊎ ((e.key ≡ sought → ⊥) × (found₂ ≡ found)) → said_by found₂ ≡ look_up ca ioa (r ∷ f.up)
           unfolding look_up
-          handed sought found₂ asked (inl w) = let a = sym sought_is ∙ eq-eqb _ _ (w.0 ∙ asked) in w.1 ∙ found_is ∙ rw a
+          handed sought found₂ asked (inl w) = let a = sym sought_is ∙ eq-eqb _ _ (w.0 ∙ asked) in ap said_by w.1 ∙ found_is ∙ rw a
           handed sought found₂ asked (inr w) =
               let a = sym sought_is ∙ ne_eqb _ _ (λ k. w.0 (k ∙ sym asked)) in
-              w.1 ∙ f.hand ∙ rw a
+              ap said_by w.1 ∙ f.hand ∙ rw a
 
-          pub next_row : (sought : ℕ) (found₂ : Sought) → sought ≡ sought_key ca ioa
-              → ((e.key ≡ sought) × (found₂ ≡ found_in rest e)) ⊎ ((e.key ≡ sought → ⊥) × (found₂ ≡ found)) → count < length keys
+          pub next_row : (sought : ℕ) (found₂ : Result Sought Refusal) → sought ≡ sought_key ca ioa
+              → ((e.key ≡ sought) × (found₂ ≡ Ok (found_in rest e))) ⊎ ((e.key ≡ sought → ⊥) × (found₂ ≡ found)) → count < length keys
               → Sofar plan ca ioa (set keys count e.key) (count + 1) found₂ (take (length rest - e.end) (drop e.end rest))
           unfolding any
           next_row sought found₂ asked w h =

@@ -7,4 +7,4 @@ use Rattle.text.specs.Bytes.{part}
 
 -- what a row with the address gives
 abbrev pub found_in : List ℕ → Entry → Sought
-found_in s e = record { number = 0; detail = 0; message = e.message; size = length (part e.from e.to s); unit = kept_in 16 (part e.from e.to s) }
+found_in s e = record { message = e.message; size = length (part e.from e.to s); unit = kept_in 16 (part e.from e.to s) }

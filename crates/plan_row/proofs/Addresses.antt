@@ -9,15 +9,18 @@ use Rattle.text.proofs.Tests.{by_le, same_if, eqb_tells, ◌and◌, or_parts}
 use Rattle.text.specs.Bytes.{is, any}
 use borrow.Author.Tests.{eq-eqb, ne_eqb, le-leb, lt-leb, le-ltb, ltb-false}
 use lib.Dec.{eqb, ltb}
-use lib.ListN.{length, get_or, take, drop, set}
-use lib.Seq.{take-suc-set}
+use lib.ListN.{length, get_or, take, drop, set, length-append}
+use lib.Seq.{take-suc-set, drop-append-add}
 use mathlib.Core.Bool.{Bool, true, false, ◌&&◌, ◌||◌}
 use mathlib.Core.List.{List, [], ◌∷◌, ◌++◌}
-use mathlib.Core.Path.{◌≡◌, refl, ◌∙◌}
+use mathlib.Core.Path.{◌≡◌, refl, ap, ◌∙◌}
 use native.Mathlib.Numerals.{add-one}
 use native.Mathlib.Omega.{arith}
 
--- ---- one of the numbers from a place on, four at a time and one by one
+-- ---- one of the numbers, four at a time and one by one
+
+abbrev one_of : ℕ → List ℕ → Bool
+one_of key x = eqb (get_or x 0 0) key || eqb (get_or x 1 0) key || eqb (get_or x 2 0) key || eqb (get_or x 3 0) key
 
 joined : (p q r s t : Bool) → (p || (q || (r || (s || t)))) ≡ (p || q || r || s || t)
 joined true q r s t = refl
@@ -26,39 +29,38 @@ joined false false true s t = refl
 joined false false false true t = refl
 joined false false false false t = refl
 
-module _ (l : List ℕ) (key k : ℕ) where
-  abbrev at : ℕ → Bool
-  at j = eqb (get_or l j 0) key
+four_steps : (key : ℕ) (x l : List ℕ) → length x ≡ 4 → any (is key) (x ++ l) ≡ (one_of key x || any (is key) l)
+unfolding any
+four_steps key (a ∷ b ∷ c ∷ d ∷ []) l h = joined (eqb a key) (eqb b key) (eqb c key) (eqb d key) (any (is key) l)
+four_steps key [] l h = absurd (omega arith)
+four_steps key (a ∷ []) l h = absurd (omega arith)
+four_steps key (a ∷ b ∷ []) l h = absurd (omega arith)
+four_steps key (a ∷ b ∷ c ∷ []) l h = absurd (omega arith)
+four_steps key (a ∷ b ∷ c ∷ d ∷ e ∷ x) l h = absurd (omega arith)
 
-  abbrev from : ℕ → Bool
-  from j = any (is key) (drop j l)
+pub four_here : (key : ℕ) (x l m : List ℕ) → l ≡ x ++ m → length x ≡ 4 → one_of key x ≡ true → any (is key) l ≡ true
+four_here key x l m e h y = rw (e, four_steps key x m h, y)
 
-  abbrev one_of : Bool
-  one_of = at k || at (k + 1) || at (k + 2) || at (k + 3)
+pub four_on : (key : ℕ) (x l m : List ℕ) → l ≡ x ++ m → length x ≡ 4 → one_of key x ≡ false → any (is key) l ≡ any (is key) m
+four_on key x l m e h n = rw (e, four_steps key x m h, n)
 
-  module _ (h : 4 ≤ length l - k) where
-    four_steps : from k ≡ (one_of || from (k + 4))
-    four_steps =
-        let e₂ : k + 1 + 1 ≡ k + 2 = omega arith in
-        let e₃ : k + 2 + 1 ≡ k + 3 = omega arith in
-        let e₄ : k + 3 + 1 ≡ k + 4 = omega arith in
-        let s₂ : from (k + 1) ≡ (at (k + 1) || from (k + 2)) = rw e₂ at (any_step (is key) 0 l (k + 1) (omega arith)) in
-        let s₃ : from (k + 2) ≡ (at (k + 2) || from (k + 3)) = rw e₃ at (any_step (is key) 0 l (k + 2) (omega arith)) in
-        let s₄ : from (k + 3) ≡ (at (k + 3) || from (k + 4)) = rw e₄ at (any_step (is key) 0 l (k + 3) (omega arith)) in
-        any_step (is key) 0 l k (omega arith)
-        ∙ rw (s₂, s₃, s₄) (joined (at k) (at (k + 1)) (at (k + 2)) (at (k + 3)) (from (k + 4)))
+-- what no four hold, of all and of those behind the first four
+abbrev pub over : List ℕ → List ℕ
+over l = drop (length l - length l % 4) l
 
-    pub four_here : one_of ≡ true → from k ≡ true
-    four_here y = four_steps ∙ rw y
+pub over_on : (x l m : List ℕ) → l ≡ x ++ m → length x ≡ 4 → over l ≡ over m
+over_on x l m e h =
+    let n : length l - length l % 4 ≡ length x + (length m - length m % 4) = omega (arith, ap length e, length-append x m) in
+    rw (n, e, drop-append-add) refl
 
-    pub four_on : one_of ≡ false → from k ≡ from (k + 4)
-    four_on n = four_steps ∙ rw n
+pub over_end : (l : List ℕ) → length l < 4 → over l ≡ l
+over_end l h = let n : length l - length l % 4 ≡ 0 = omega arith in rw n
 
-  pub one_here : k < length l → get_or l k 0 ≡ key → from k ≡ true
-  one_here h e = any_step (is key) 0 l k h ∙ rw (eq-eqb _ _ e)
+pub one_here : (l : List ℕ) (key k : ℕ) → k < length l → get_or l k 0 ≡ key → any (is key) (drop k l) ≡ true
+one_here l key k h e = any_step (is key) 0 l k h ∙ rw (eq-eqb _ _ e)
 
-  pub one_on : k < length l → (get_or l k 0 ≡ key → ⊥) → from k ≡ from (k + 1)
-  one_on h n = any_step (is key) 0 l k h ∙ rw (ne_eqb _ _ n)
+pub one_on : (l : List ℕ) (key k : ℕ) → k < length l → (get_or l k 0 ≡ key → ⊥) → any (is key) (drop k l) ≡ any (is key) (drop (k + 1) l)
+one_on l key k h n = any_step (is key) 0 l k h ∙ rw (ne_eqb _ _ n)
 
 -- none is above a number, so none is a number above it
 pub none_above : (l : List ℕ) (greatest key : ℕ) → any (ltb greatest) l ≡ false → greatest < key → false ≡ any (is key) l

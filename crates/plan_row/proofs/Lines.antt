@@ -1,13 +1,11 @@
 -- The ways through the reader of a number's line: after its key a line should be a run of digits, and then LF (10).
 -- Assumes nothing.
+use Rattle.std.specs.Prelude.{None, Option, Some}
 use Prim.Native.Nat.{ℕ, suc, ◌+◌, ◌-◌, min, ◌≤◌, ◌<◌}
-use Rattle.plan_row.specs.Kept.{numbered_of}
-use Rattle.plan_row.specs.declared.Numbered.TheVariants.{Is as IsNumbered, Not as NotNumbered}
+use Rattle.plan_row.specs.Kept.{numbered_of, numbered}
 use Rattle.text_keyline.proofs.Lines.{line_value, line_open, line_more, line_run, line_place, line_ends}
 use Rattle.text_keyline.proofs.Values.{other_key, no_line}
 use Rattle.text_keyline.specs.Keylines.{line_of, value_in, whole_in, ranged, if_line, number_at}
-use Rattle.text_keyline.specs.declared.Line.TheVariants.{Ends, Bad}
-use Rattle.text_keyline.specs.declared.Line.{Line}
 use Rattle.value_name.specs.Names.{sequence_of}
 use Rattle.text.proofs.Cuts.{tail, front_count, starts_length}
 use Rattle.text.proofs.Fronts.{run_front, run_holds, run_within}
@@ -15,8 +13,6 @@ use Rattle.text.proofs.Numerals.{refused_empty, refused_long, refused_other, tak
 use Rattle.text.proofs.Tests.{by_le, by_eq, or_parts, within_tells}
 use Rattle.text.specs.Bytes.{starts, is, any, all, run_of, is_digit}
 use Rattle.text.specs.Digits.{number_from, number_in, digits_of, lead_of}
-use Rattle.text.specs.declared.digits.Digits.TheVariants.{Are, Not}
-use Rattle.text.specs.declared.digits.Digits.{Digits}
 use Rattle.text.specs.declared.digits.Led.{Led}
 use borrow.Author.Tests.{eq-eqb, ne_eqb, lt-ltb, le-ltb, lt-leb, eqb-true, eqb-false, ltb-false, not-false}
 use lib.Dec.{eqb, leb, ltb}
@@ -30,48 +26,48 @@ use native.Mathlib.Omega.{arith}
 -- ---- a number
 
 -- what no digits write is no number
-refused_whole : (most : ℕ) (v : List ℕ) → Not ≡ digits_of 10 v → whole_in 1 most v ≡ Not
+refused_whole : (most : ℕ) (v : List ℕ) → None ≡ digits_of 10 v → whole_in 1 most v ≡ None
 unfolding whole_in sequence_of
 refused_whole most v n = rw (sym n) (either (ltb 1 (length v) && is 48 (get_or v 0 0)))
   where
-    either : (t : Bool) → ranged 1 most (cond t Not Not) ≡ Not
+    either : (t : Bool) → ranged 1 most (cond t None None) ≡ None
     either true = refl
     either false = refl
 
-whole_zero : (most : ℕ) (t : List ℕ) → 1 ≤ length t → get_or t 0 0 ≡ 48 → whole_in 1 most t ≡ Not
+whole_zero : (most : ℕ) (t : List ℕ) → 1 ≤ length t → get_or t 0 0 ≡ 48 → whole_in 1 most t ≡ None
 unfolding whole_in sequence_of digits_of all number_from
 whole_zero most [] h e = absurd (omega arith)
 whole_zero most (x ∷ []) h e = rw e
 whole_zero most (x ∷ y ∷ t) h e = rw (lt-ltb 1 (suc (suc (length t))) (omega arith), eq-eqb x 48 e)
 
-whole_much : (most : ℕ) (t : List ℕ) → most < number_in t → whole_in 1 most t ≡ Not
+whole_much : (most : ℕ) (t : List ℕ) → most < number_in t → whole_in 1 most t ≡ None
 unfolding whole_in sequence_of digits_of
 whole_much most t h = either (ltb 1 (length t) && is 48 (get_or t 0 0)) (leb 1 (length t) && leb (length t) 10 && all is_digit t)
   where
-    either : (z w : Bool) → ranged 1 most (cond z Not (cond w (Are (number_in t)) Not)) ≡ Not
+    either : (z w : Bool) → ranged 1 most (cond z None (cond w (Some (number_in t)) None)) ≡ None
     either true w = refl
     either false false = refl
     either false true = simp (lt-leb _ _ h, and-false)
 
 whole_is : (most : ℕ) (t : List ℕ) → all is_digit t ≡ true → 1 ≤ length t → length t ≤ 10 → (get_or t 0 0 ≡ 48 → ⊥) → number_in t ≤ most
-    → whole_in 1 most t ≡ Are (number_in t)
+    → whole_in 1 most t ≡ Some (number_in t)
 unfolding whole_in sequence_of
 whole_is most t d h k n l =
     let z : (ltb 1 (length t) && is 48 (get_or t 0 0)) ≡ false = rw (ne_eqb _ 48 n) (and-false (ltb 1 (length t))) in
     rw (z, sym (taken 10 t h k d), (within_tells 1 most (number_in t)).1 (number_some t h d n, l))
 
-if_none : (l : Line) → if_line l Not ≡ Not
-if_none (Ends e) = refl
-if_none Bad = refl
+if_none : (l : Option ℕ) → if_line l None ≡ None
+if_none (Some e) = refl
+if_none None = refl
 
 module _ (key : List ℕ) (most : ℕ) (s : List ℕ) where
   -- the answer for the line, by the number
-  answered : (d : Digits) → d ≡ number_at key most s → numbered_of d s ≡ numbered_of (number_at key most s) s
-  answered d e = ap (λ (x : Digits). numbered_of x s) e
+  answered : (d : Option ℕ) → d ≡ number_at key most s → numbered_of d s ≡ numbered_of (number_at key most s) s
+  answered d e = ap (λ (x : Option ℕ). numbered_of x s) e
 
   module _ (b : Bool) (told : b ≡ starts key s) where
-    pub number_key : b ≡ false → NotNumbered ≡ numbered_of (number_at key most s) s
-    number_key n = answered Not (no_line key most s (line_of key s) refl (sym (other_key key s b told n)))
+    pub number_key : b ≡ false → None ≡ numbered_of (number_at key most s) s
+    number_key n = answered None (no_line key most s (line_of key s) refl (sym (other_key key s b told n)))
 
     module _ (clean : any (is 10) key ≡ false) (yes : b ≡ true) (r : Led) (led : r ≡ lead_of 10 (take (length s - length key) (drop (length key) s))) where
       begins : starts key s ≡ true
@@ -96,10 +92,10 @@ module _ (key : List ℕ) (most : ℕ) (s : List ℕ) where
       pub number_place : length key + r.count ≤ length s
       number_place = omega (arith, count_is, length-drop (length key) s, starts_length key s begins)
 
-      pub number_open : length key + r.count ≡ length s → NotNumbered ≡ numbered_of (number_at key most s) s
+      pub number_open : length key + r.count ≡ length s → None ≡ numbered_of (number_at key most s) s
       number_open e =
           let run : r.count ≡ run_of is_digit left = omega (arith, count_is, length-drop (length key) s) in
-          answered Not (no_line key most s (line_of key s) refl (sym (line_open key s clean begins is_digit refl r.count (whole_run run) e)))
+          answered None (no_line key most s (line_of key s) refl (sym (line_open key s clean begins is_digit refl r.count (whole_run run) e)))
 
       module _ (n : length key + r.count ≡ length s → ⊥) where
         pub number_inside : length key + r.count < length s
@@ -108,12 +104,12 @@ module _ (key : List ℕ) (most : ℕ) (s : List ℕ) where
         abbrev refused_number : Bool
         refused_number = not (eqb (get_or s (length key + r.count) 0) 10) || eqb (get_or s (length key) 0) 48 || eqb r.count 0 || ltb most r.value
 
-        no_number : whole_in 1 most (value_in key s) ≡ Not → NotNumbered ≡ numbered_of (number_at key most s) s
+        no_number : whole_in 1 most (value_in key s) ≡ None → None ≡ numbered_of (number_at key most s) s
         unfolding number_at
-        no_number e = answered Not (rw e (sym (if_none (line_of key s))))
+        no_number e = answered None (rw e (sym (if_none (line_of key s))))
 
         -- a digit more than may be, or another byte
-        number_other : (get_or s (length key + r.count) 0 ≡ 10 → ⊥) → whole_in 1 most (value_in key s) ≡ Not
+        number_other : (get_or s (length key + r.count) 0 ≡ 10 → ⊥) → whole_in 1 most (value_in key s) ≡ None
         number_other g =
             refused_whole most (value_in key s)
             (by_eq r.count (run_of is_digit left)
@@ -147,7 +143,7 @@ module _ (key : List ℕ) (most : ℕ) (s : List ℕ) where
               let z : length key + 0 ≡ length key = omega arith in
               get_or-take r.count left 0 0 h ∙ get_or-drop (length key) s 0 0 ∙ ap (λ (k : ℕ). get_or s k 0) z
 
-          number_bad : refused_number ≡ true → whole_in 1 most digits ≡ Not
+          number_bad : refused_number ≡ true → whole_in 1 most digits ≡ None
           number_bad t =
               by_le 1 r.count
               (λ h. by_eq (get_or s (length key) 0) 48 (λ e. whole_zero most digits (omega (arith, h, digits_length)) (first_at h ∙ e))
@@ -156,7 +152,7 @@ module _ (key : List ℕ) (most : ℕ) (s : List ℕ) where
               (λ m. whole_much most digits (omega (arith, m, value_is)))))
               (λ h. refused_whole most digits (refused_empty 10 digits (omega (arith, h, digits_length))))
 
-          number_good : refused_number ≡ false → whole_in 1 most digits ≡ Are r.value
+          number_good : refused_number ≡ false → whole_in 1 most digits ≡ Some r.value
           number_good t =
               let o =
               or_parts (not (eqb (get_or s (length key + r.count) 0) 10) || eqb (get_or s (length key) 0) 48 || eqb r.count 0) (ltb most r.value) t in
@@ -166,13 +162,13 @@ module _ (key : List ℕ) (most : ℕ) (s : List ℕ) where
               let h : 1 ≤ r.count = omega (arith, z) in
               whole_is most digits (run_front is_digit r.count left run_is) (omega (arith, h, digits_length)) (omega (arith, count_is, digits_length))
               (λ e. eqb-false _ 48 q.1 (sym (first_at h) ∙ e)) (omega (arith, value_is, ltb-false most r.value o.1))
-              ∙ ap Are (sym value_is)
+              ∙ ap Some (sym value_is)
 
-        pub number_not : refused_number ≡ true → NotNumbered ≡ numbered_of (number_at key most s) s
+        pub number_not : refused_number ≡ true → None ≡ numbered_of (number_at key most s) s
         number_not t =
             no_number (by_eq (get_or s (length key + r.count) 0) 10 (λ g. ap (whole_in 1 most) (value_at g) ∙ number_bad g t) number_other)
 
-        pub number_is : refused_number ≡ false → IsNumbered r.value (length key + r.count) ≡ numbered_of (number_at key most s) s
+        pub number_is : refused_number ≡ false → numbered r.value (length key + r.count) ≡ numbered_of (number_at key most s) s
         unfolding number_at
         number_is t =
             let o = or_parts (not (eqb (get_or s (length key + r.count) 0) 10) || eqb (get_or s (length key) 0) 48 || eqb r.count 0) (ltb most r.value) t in
@@ -181,6 +177,6 @@ module _ (key : List ℕ) (most : ℕ) (s : List ℕ) where
             let g = eqb-true (get_or s (length key + r.count) 0) 10 (not-false _ q.0) in
             let run = whole_run (run_is g) in
             let ends = line_ends key s clean begins is_digit refl r.count run n g in
-            ap (IsNumbered r.value) (line_place key s clean begins is_digit refl r.count run n g)
-            ∙ answered (Are r.value)
-            (sym (ap (λ (l : Line). if_line l (whole_in 1 most (value_in key s))) ends ∙ ap (whole_in 1 most) (value_at g) ∙ number_good g t))
+            ap (numbered r.value) (line_place key s clean begins is_digit refl r.count run n g)
+            ∙ answered (Some r.value)
+            (sym (ap (λ (l : Option ℕ). if_line l (whole_in 1 most (value_in key s))) ends ∙ ap (whole_in 1 most) (value_at g) ∙ number_good g t))

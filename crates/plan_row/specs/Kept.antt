@@ -1,20 +1,12 @@
 -- What the functions keep of the rows above and answer for one, by the definitions of a row. No part of what a row means.
-use Rattle.std.specs.Prelude.{ℕ, ◌+◌, ◌-◌, ◌*◌, ◌/◌, ◌%◌, leb, length, cond, List, [], map}
+use Rattle.std.specs.Prelude.{ℕ, ◌+◌, ◌-◌, ◌*◌, ◌/◌, ◌%◌, leb, length, cond, List, [], map, Err, None, Ok, Option, Result, Some}
 use Rattle.plan_row.specs.Rows.{Row, row, RowRead, good, bad}
 use Rattle.plan_row.specs.declared.Entry.{Entry}
-use Rattle.plan_row.specs.declared.Numbered.TheVariants.{Is as IsNumbered, Not as NotNumbered}
 use Rattle.plan_row.specs.declared.Numbered.{Numbered}
-use Rattle.plan_row.specs.declared.RowAt.TheVariants.{Good, Bad}
-use Rattle.plan_row.specs.declared.RowAt.{RowAt}
-use Rattle.plan_row.specs.declared.TypeRead.TheVariants.{Is, Not}
-use Rattle.plan_row.specs.declared.TypeRead.{TypeRead}
 use Rattle.text_keyline.specs.Keylines.{below}
 use Rattle.value_name.specs.declared.MessageType.TheVariants.{Cb}
 use Rattle.value_name.specs.declared.MessageType.{MessageType}
 use Rattle.text.specs.Bytes.{first_of}
-use Rattle.text.specs.declared.digits.Digits.TheVariants.{Are, Not as NoDigits}
-use Rattle.text.specs.declared.digits.Digits.{Digits}
-use Rattle.std.proofs.Math.Option.{Option, none, some}
 
 -- ---- the rows above: of each only its address is kept, in one number
 
@@ -31,13 +23,16 @@ rows_of keys = map (λ (k : ℕ). row (k / 16777216) (k % 16777216) [] Cb) keys
 -- ---- what is answered for a line and for a row
 
 -- a number's line ends at its LF
-abbrev pub numbered_of : Digits → List ℕ → Numbered
-numbered_of (Are n) s = IsNumbered n (first_of 10 s)
-numbered_of NoDigits s = NotNumbered
+abbrev pub numbered : ℕ → ℕ → Option Numbered
+numbered n e = Some (record { value = n; end = e })
 
-abbrev pub type_read_of : Option MessageType → TypeRead
-type_read_of none = Not
-type_read_of (some t) = Is t
+abbrev pub numbered_of : Option ℕ → List ℕ → Option Numbered
+numbered_of (Some n) s = numbered n (first_of 10 s)
+numbered_of None s = None
+
+abbrev pub type_read_of : Option MessageType → Option MessageType
+type_read_of None = None
+type_read_of (Some t) = Some t
 
 -- where the third line of a text begins
 abbrev pub third_of : List ℕ → ℕ
@@ -52,6 +47,6 @@ kept_row s r = record {
   end = length s - length (below (below (below (below s))));
 }
 
-abbrev pub row_at_of : List ℕ → RowRead → RowAt
-row_at_of s (good r) = Good (kept_row s r)
-row_at_of s (bad k) = Bad k
+abbrev pub row_at_of : List ℕ → RowRead → Result Entry ℕ
+row_at_of s (good r) = Ok (kept_row s r)
+row_at_of s (bad k) = Err k

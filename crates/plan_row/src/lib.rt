@@ -7,23 +7,15 @@ ghost use Rattle.plan_row.specs.Kept.{key_of, sought_key, rows_of, numbered_of, 
 ghost use Rattle.plan_row.specs.Rows.{types, type_from, type_at, plan_row_of};
 ghost use Rattle.text_keyline.specs.Keylines.{number_at};
 ghost use Rattle.text.specs.Bytes.{any, is};
-ghost use Rattle.std.proofs.Math.Option.{none, some};
 
 use text::{digits, scan};
-use text_keyline::Named;
 use value_name::MessageType;
-
-#[derive(Clone, Copy)]
-pub enum TypeRead {
-    Is(MessageType),
-    Not,
-}
 
 // A line's number, and where the line's LF stands.
 #[derive(Clone, Copy)]
-pub enum Numbered {
-    Is(u64, usize),
-    Not,
+pub struct Numbered {
+    pub value: u64,
+    pub end: usize,
 }
 
 // What a row gives: its address in one number, its type, and where the unit's code and the row end.
@@ -34,13 +26,6 @@ pub struct Entry {
     pub from: usize,
     pub to: usize,
     pub end: usize,
-}
-
-// A row, or the first of its lines that is bad, from 0.
-#[derive(Clone, Copy)]
-pub enum RowAt {
-    Good(Entry),
-    Bad(u8),
 }
 
 // An address that stands twice is bad at the later `ioa` line.
@@ -64,22 +49,21 @@ pub fn sought_key(ca: u32, ioa: u32) -> u64
     key_of(ca as u64, ioa as u64)
 }
 
-// Whether one of the addresses is this one: four at a time without a branch between them, and then one by one.
+// Whether one of the addresses is this one: four at a time without a branch between them, and what is left over one by one.
 fn taken(keys: &[u64], key: u64) -> bool
     ensures { result ≡ any (is key) keys.now }
 {
-    let mut k = 0;
-    while 4 <= keys.len() - k {
-        if (keys[k] == key) | (keys[k + 1] == key) | (keys[k + 2] == key) | (keys[k + 3] == key) {
+    let fours = keys.chunks_exact(4);
+    let rest = fours.remainder();
+    for four in fours {
+        if (four[0] == key) | (four[1] == key) | (four[2] == key) | (four[3] == key) {
             return true;
         }
-        k += 4;
     }
-    while k < keys.len() {
-        if keys[k] == key {
+    for k in rest {
+        if *k == key {
             return true;
         }
-        k += 1;
     }
     false
 }
@@ -96,37 +80,40 @@ fn stands(keys: &[u64], greatest: u64, key: u64) -> bool
 }
 
 // The number in the first line, after its key, and where the line ends.
-fn number_line(key: &[u8], most: u64, s: &[u8]) -> Numbered
+fn number_line(key: &[u8], most: u64, s: &[u8]) -> Option<Numbered>
     requires { any (is 10) key.now ≡ false }
     ensures { result ≡ numbered_of (number_at key.now most s.now) s.now }
 {
     if !scan::starts(key, s) {
-        return Numbered::Not;
+        return None;
     }
     let n = key.len();
     let led = digits::lead(&s[n..], 10);
     let e = n + led.count;
     if e == s.len() {
-        return Numbered::Not;
+        return None;
     }
     if (s[e] != b'\n') | (s[n] == b'0') | (led.count == 0) | (most < led.value) {
-        return Numbered::Not;
+        return None;
     }
-    Numbered::Is(led.value, e)
+    Some(Numbered {
+        value: led.value,
+        end: e,
+    })
 }
 
 // The type, if the second byte of its code fits.
-fn type_if(fits: bool, t: MessageType) -> TypeRead
-    ensures { result ≡ type_read_of (cond fits (some t) none) }
+fn type_if(fits: bool, t: MessageType) -> Option<MessageType>
+    ensures { result ≡ type_read_of (cond fits (Some t) None) }
 {
     if fits {
-        return TypeRead::Is(t);
+        return Some(t);
     }
-    TypeRead::Not
+    None
 }
 
 // The type whose code two bytes are.
-fn type_of(a: u8, b: u8) -> TypeRead
+fn type_of(a: u8, b: u8) -> Option<MessageType>
     ensures { result ≡ type_read_of (type_from types (a ∷ b ∷ [])) }
 {
     match a {
@@ -136,57 +123,57 @@ fn type_of(a: u8, b: u8) -> TypeRead
         b'M' => type_if(b == b'G', MessageType::Mg),
         b'Q' => type_if(b == b'R', MessageType::Qr),
         b'R' => if b == b'C' {
-            TypeRead::Is(MessageType::Rc)
+            Some(MessageType::Rc)
         } else {
             type_if(b == b'I', MessageType::Ri)
         },
         b'S' => type_if(b == b'R', MessageType::Sr),
         b'V' => type_if(b == b'Q', MessageType::Vq),
-        _ => TypeRead::Not,
+        _ => None,
     }
 }
 
 // The type of the first line: `type=`, two bytes and LF.
-fn type_line(s: &[u8]) -> TypeRead
+fn type_line(s: &[u8]) -> Option<MessageType>
     ensures { result ≡ type_read_of (type_at s.now) }
 {
     if !scan::starts(b"type=", s) {
-        return TypeRead::Not;
+        return None;
     }
     if s.len() < 8 {
-        return TypeRead::Not;
+        return None;
     }
     if s[7] != b'\n' {
-        return TypeRead::Not;
+        return None;
     }
     type_of(s[5], s[6])
 }
 
 // The row at the front of a text, below those with these addresses, of which none is above the greatest.
-pub fn row_at(s: &[u8], keys: &[u64], greatest: u64) -> RowAt
+pub fn row_at(s: &[u8], keys: &[u64], greatest: u64) -> Result<Entry, u8>
     requires { any (ltb greatest) keys.now ≡ false }
     ensures { result ≡ row_at_of s.now (plan_row_of (rows_of keys.now) s.now) }
 {
-    let Numbered::Is(ca, a) = number_line(b"ca=", 65534, s) else {
-        return RowAt::Bad(0);
+    let Some(ca) = number_line(b"ca=", 65534, s) else {
+        return Err(0);
     };
-    let second = a + 1;
-    let Numbered::Is(ioa, b) = number_line(b"ioa=", 16777215, &s[second..]) else {
-        return RowAt::Bad(1);
+    let second = ca.end + 1;
+    let Some(ioa) = number_line(b"ioa=", 16777215, &s[second..]) else {
+        return Err(1);
     };
-    let key = key_of(ca, ioa);
+    let key = key_of(ca.value, ioa.value);
     if stands(keys, greatest, key) {
-        return RowAt::Bad(TWICE);
+        return Err(TWICE);
     }
-    let third = second + b + 1;
-    let Named::To(c) = text_keyline::unit_line(&s[third..]) else {
-        return RowAt::Bad(2);
+    let third = second + ioa.end + 1;
+    let Some(c) = text_keyline::unit_line(&s[third..]) else {
+        return Err(2);
     };
     let fourth = third + c + 1;
-    let TypeRead::Is(message) = type_line(&s[fourth..]) else {
-        return RowAt::Bad(3);
+    let Some(message) = type_line(&s[fourth..]) else {
+        return Err(3);
     };
-    RowAt::Good(Entry {
+    Ok(Entry {
         key,
         message,
         from: third + 5,

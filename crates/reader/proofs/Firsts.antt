@@ -1,9 +1,9 @@
 -- The reader's answer is the refusal of the first that holds in its list, and the record exactly where none does. Assumes nothing.
 use Prim.Native.Nat.{ℕ}
-use Rattle.plan.specs.declared.Sought.{Sought}
+use Rattle.plan.specs.Plans.{SoughtSaid}
 use Rattle.reader.specs.Reader.{valued, labelled, reading, planned}
 use Rattle.reader.specs.Refusals.{refused, accepted, answer, IsFirst}
-use Rattle.reader.specs.declared.Answer.{Answer}
+use Rattle.reader.specs.Refusals.{Answer}
 use Rattle.record.specs.declared.Record.{Record}
 use Rattle.text.proofs.Firsts.{Decided, first, not_any, decided, numbered, zero_none, first_given, none_given as none_said}
 use Rattle.text.specs.Bytes.{all}
@@ -53,6 +53,6 @@ pub reading_numbered : (t : MessageType) (unit file : List ℕ) → all numbered
 unfolding all reading labelled valued
 reading_numbered t unit file = refl
 
-pub numbers : (s : Sought) (file : List ℕ) → all numbered (planned s file) ≡ true
+pub numbers : (s : SoughtSaid) (file : List ℕ) → all numbered (planned s file) ≡ true
 unfolding all planned reading labelled valued
 numbers s file = refl

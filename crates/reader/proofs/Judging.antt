@@ -15,11 +15,15 @@ use Rattle.reader.specs.Messages.{values_of, is_bad, good_of, column_record}
 use Rattle.reader.specs.Reader.{valued}
 use Rattle.reader.specs.Refusals.{refused, accepted}
 use Rattle.reader.specs.State.{column_at, Filling, verdict, finished, Judges}
-use Rattle.reader.specs.declared.Early.{Early}
+use Rattle.reader.specs.State.{Verdict}
 use Rattle.record.specs.Records.{Typed, typed, cells_of, bad_of}
 use Rattle.record.specs.Records.Typed.{bad, good}
 use Rattle.record.specs.declared.Cell.{Cell}
+use Rattle.record_rules.proofs.Told.{not_zero}
+use Rattle.record_rules.specs.Broken.{rule_number, broken_number}
 use Rattle.record_rules.specs.Rules.{rules_of, lowest, broken_in}
+use Rattle.record_rules.specs.declared.Rule.{Rule}
+use Rattle.std.specs.Prelude.{Option, Some}
 use Rattle.text.proofs.Tests.{by_test, by_eq}
 use Rattle.text.specs.Bytes.{same}
 use Rattle.text.specs.Refusals.{none}
@@ -102,6 +106,14 @@ module _ (k : ℕ) (unit row : Bool) where
     unfolding verdict
     well_verdict u w = rw (z, u, w)
 
+-- by the rule that is broken
+pub broken_verdict : (broken : Option Rule) (r : Rule) (n : ℕ) (unit row : Bool) → broken ≡ Some r → n ≡ rule_number r
+    → record { number = 8; detail = n } ≡ verdict (broken_number broken) unit row
+broken_verdict broken r n unit row is e =
+    ap (λ (d : ℕ). record { number = 8; detail = d }) e
+    ∙ rule_verdict (rule_number r) unit row (not_zero r)
+    ∙ ap (λ (b : Option Rule). verdict (broken_number b) unit row) (sym is)
+
 -- ---- what is judged of the values
 
 module _ (l : Layout) (unit file : List ℕ) (row : Span) (places : List Span) (b : ℕ) (cells : List Cell) (gs : List Triple) (f : Filling l file row places b cells gs) where
@@ -157,7 +169,7 @@ module _ (l : Layout) (unit file : List ℕ) (row : Span) (places : List Span) (
             ∙ sym (answer_no 7 _ _ _ _ values ∙ answer_no 8 _ _ _ _ unbroken ∙ answer_no 9 _ _ _ _ its_unit ∙ answer_no 10 _ _ _ _ (ap not w) ∙ none_given _ none)
 
     -- by the verdict
-    pub by_verdict : (e : Early) → e ≡ verdict k (same unit (text_at col 2)) (same (part_of file row) (row_of l col)) → Judged e.number e.detail
+    pub by_verdict : (e : Verdict) → e ≡ verdict k (same unit (text_at col 2)) (same (part_of file row) (row_of l col)) → Judged e.number e.detail
     by_verdict e v =
         by_eq k 0
         (λ z.
@@ -169,6 +181,6 @@ module _ (l : Layout) (unit file : List ℕ) (row : Span) (places : List Span) (
         (λ u. of_early (unit_verdict k _ _ z u) (other_unit z u)))
         (λ h. of_early (rule_verdict k _ _ h) (broken_rule h))
       where
-        of_early : {x : Early} → x ≡ verdict k (same unit (text_at col 2)) (same (part_of file row) (row_of l col))
+        of_early : {x : Verdict} → x ≡ verdict k (same unit (text_at col 2)) (same (part_of file row) (row_of l col))
             → Judged x.number x.detail → Judged e.number e.detail
-        of_early q j = subst (λ (y : Early). Judged y.number y.detail) (q ∙ sym v) j
+        of_early q j = subst (λ (y : Verdict). Judged y.number y.detail) (q ∙ sym v) j

@@ -1,4 +1,5 @@
 -- Refusals 5 and 6 as the code meets them, and what they lead to on the entries of a layout. Assumes nothing.
+use Rattle.std.specs.Prelude.{Option}
 use Prim.Native.Nat.{ℕ, ◌-◌, ◌≤◌, ◌<◌}
 use Rattle.layout.proofs.Labels.{few, labels_length}
 use Rattle.layout.specs.Layouts.{labels_of, size_of}
@@ -11,7 +12,7 @@ use Rattle.reader.specs.Messages.{column_record}
 use Rattle.reader.specs.Reader.{valued, labelled, is_there, number_or}
 use Rattle.reader.specs.Refusals.{refused, answer}
 use Rattle.reader.specs.State.{nowhere, placed_as, Stands, Cleared, continued}
-use Rattle.reader.specs.declared.Located.{Located}
+use Rattle.reader.specs.State.{LocatedSaid}
 use Rattle.text.proofs.Tests.{by_eq}
 use Rattle.reader_walk.proofs.Told.{Fields, repeat_none, repeat_some, seen_le, missing_by, placed_by, column_by}
 use Rattle.reader_walk.specs.declared.Marks.{Marks}
@@ -20,14 +21,13 @@ use lib.Count.{ones}
 use lib.ListN.{length, replicate}
 use mathlib.Core.Bool.{false}
 use mathlib.Core.List.{List, []}
-use mathlib.Core.Option.{Option}
 use mathlib.Core.Path.{◌≡◌, refl, sym, ap, ◌∙◌, subst}
 use native.Mathlib.Omega.{arith}
 
 -- ---- the ways out of `place`
 
 -- no refusal: the layout's places
-abbrev found : Layout → Span → List Span → Located
+abbrev found : Layout → Span → List Span → LocatedSaid
 found l row places = record { number = 0; detail = 0; layout = l; size = 0; unit = replicate 16 0; row = row; places = places }
 
 module _ (l : Layout) (row : Span) (m : Marks) (places : List Span) where
@@ -47,7 +47,7 @@ module _ (l : Layout) (row : Span) (m : Marks) (places : List Span) where
 -- ---- what they lead to
 
 -- to the answer of refusals 5 to 10 on the entries; where it is no refusal, every field has its place
-pub record Onward (l : Layout) (file : List ℕ) (row : Span) (places : List Span) (es : List Entry) (x : Located) : Type 0 where
+pub record Onward (l : Layout) (file : List ℕ) (row : Span) (places : List Span) (es : List Entry) (x : LocatedSaid) : Type 0 where
   pub stands : x.number ≡ 0 → Stands file x
   pub kept : x.number ≡ 0 → (x.detail ≡ 0) × (x.layout ≡ l) × (x.row ≡ row) × (x.places ≡ places)
   pub cleared : (x.number ≡ 0 → ⊥) → Cleared x

@@ -21,8 +21,8 @@ use Rattle.reader.specs.Reader.{planned, body_column, record_in, answer_at, read
 use Rattle.reader.specs.Readings.{unread, reading_in, reading_of}
 use Rattle.reader.specs.Refusals.{refused, accepted}
 use Rattle.reader.specs.State.{column_at, concluded}
-use Rattle.reader.specs.declared.Answer.{Answer}
-use Rattle.reader.specs.declared.Reading.{Reading}
+use Rattle.reader.specs.Refusals.{Answer}
+use Rattle.reader.specs.Readings.{ReadingSaid}
 use Rattle.record.specs.Records.{record_of}
 use Rattle.record.specs.declared.Record.{Record}
 use Rattle.text.proofs.Tests.{by_eq}
@@ -50,7 +50,7 @@ module _ (l : Layout) (file : List ℕ) where
 -- ---- the two sorts of readings
 
 -- of a record: its places, its values and its triples
-abbrev pub taken : Record → List ℕ → Reading
+abbrev pub taken : Record → List ℕ → ReadingSaid
 taken r file =
     record { number = 0; detail = 0; layout = r.layout; row = row_place file; cells = r.cells; gradients = r.gradients; places = places_of r.layout file }
 
@@ -133,11 +133,11 @@ module _ (c i : ℕ) (plan file : List ℕ) where
   pub reading_placed : (reading_of c i plan file).number ≡ 0 → Placed (size_of (reading_of c i plan file).layout) file (reading_of c i plan file).places
   reading_placed e =
       by_eq a.number 0 (λ z. rw (reading_yes z) (places_placed a.content.layout file))
-      (λ n. absurd (n (sym (ap (λ (x : Reading). x.number) (reading_no n)) ∙ e)))
+      (λ n. absurd (n (sym (ap (λ (x : ReadingSaid). x.number) (reading_no n)) ∙ e)))
 
 -- ---- the same of what the code has
 
-module _ (c i : ℕ) (plan file : List ℕ) (x : Reading) (is : x ≡ reading_of c i plan file) where
+module _ (c i : ℕ) (plan file : List ℕ) (x : ReadingSaid) (is : x ≡ reading_of c i plan file) where
   pub answers_of : concluded file x ≡ read_of c i plan file
   answers_of = ap (concluded file) is ∙ reading_answers c i plan file
 

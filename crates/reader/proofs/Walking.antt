@@ -19,7 +19,7 @@ use Rattle.reader.specs.Messages.{given, row_in, layout_in, entries_in, places_o
 use Rattle.reader.specs.Reader.{labelled, reading, record_in, message_of}
 use Rattle.reader.specs.Refusals.{refused, answer}
 use Rattle.reader.specs.State.{nowhere, placed_as, continued, Walks, is_mfrr}
-use Rattle.reader.specs.declared.Located.{Located}
+use Rattle.reader.specs.State.{LocatedSaid}
 use Rattle.text.specs.Bytes.{within}
 use Rattle.reader_walk.proofs.Told.{Fields, stop_by, whole_by, seps_by, framed_by, row_by, first_by, second_by}
 use Rattle.reader_walk.specs.State.{found_of}
@@ -103,7 +103,7 @@ module _ (t : MessageType) (file : List ℕ) where
           row_holds = row_by t file r w clean framed_yes
 
           -- where a layout is the file's, what its fields lead to is what the file leads to
-          laid : (l : Layout) → layout_in t (given t file) ≡ l → (places : List Span) → places ≡ places_in (accents_of t) (labels_of l) file → (x : Located)
+          laid : (l : Layout) → layout_in t (given t file) ≡ l → (places : List Span) → places ≡ places_in (accents_of t) (labels_of l) file → (x : LocatedSaid)
               → Onward l file r.frame.row places (entries (labels_of l) (given t file)) x → Walks t file x
           unfolding message_of reading record_in entries_in
           laid l e places p x h =

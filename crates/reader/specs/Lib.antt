@@ -3,3 +3,4 @@ pub mod Messages
 pub mod Reader
 pub mod State
 pub mod Readings
+pub mod Said

@@ -1,5 +1,5 @@
 -- The reader. Document 01, "Refusal numbers": 13, then 1 to 10 in number order, each with its detail; else the record.
-use Rattle.std.specs.Prelude.{ℕ, ◌≤◌, eqb, ltb, length, take, Bool, true, false, not, List, [], ◌∷◌, ◌≡◌}
+use Rattle.std.specs.Prelude.{ℕ, ◌≤◌, eqb, ltb, length, take, Bool, true, false, not, List, [], ◌∷◌, ◌≡◌, None, Option, Some}
 use Rattle.layout.specs.FieldNumbers.{unit_no}
 use Rattle.layout.specs.Layouts.{labels_of}
 use Rattle.layout.specs.Rows.{text_at, row_of}
@@ -9,16 +9,15 @@ use Rattle.text_lines.specs.Entries.{Entry, again, missing, column}
 use Rattle.text_lines.specs.Lines.{texts, seps, framed, allowed_upto}
 use Rattle.value_name.specs.declared.MessageType.{MessageType}
 use Rattle.plan.specs.Plans.{plan_of, sought_of}
-use Rattle.plan.specs.declared.Sought.{Sought}
+use Rattle.plan.specs.Plans.{SoughtSaid}
 use Rattle.reader.specs.Messages.{given, row_in, layout_in, entries_in, values_of, is_bad, column_record}
 use Rattle.reader.specs.Refusals.{answer}
 use Rattle.text.specs.Refusals.{Refusal, refusal}
-use Rattle.reader.specs.declared.Answer.{Answer}
+use Rattle.reader.specs.Refusals.{Answer}
 use Rattle.record.specs.Records.{bad_of}
 use Rattle.record.specs.declared.Record.{Record}
 use Rattle.record_rules.specs.Rules.{broken_in}
 use Rattle.text.specs.Bytes.{same, within}
-use Rattle.std.proofs.Math.Option.{Option, none, some}
 
 -- ---- 7 to 10, on the column of the body's values
 
@@ -34,12 +33,12 @@ valued l unit row col =
 -- ---- 5 and 6, on the entries of the layout
 
 abbrev pub is_there : Option ℕ → Bool
-is_there none = false
-is_there (some k) = true
+is_there None = false
+is_there (Some k) = true
 
 abbrev pub number_or : Option ℕ → ℕ
-number_or none = 0
-number_or (some k) = k
+number_or None = 0
+number_or (Some k) = k
 
 -- 5 label twice, the field of the first repeat; 6 label missing, how many
 unfoldable pub labelled : Layout → List ℕ → List ℕ → List Entry → List Refusal
@@ -88,17 +87,17 @@ pub record Sound (t : MessageType) (file : List ℕ) : Type 0 where
 -- ---- 13 and 1, on the plan
 
 -- the unit of an address that was found
-abbrev pub unit_in : Sought → List ℕ
+abbrev pub unit_in : SoughtSaid → List ℕ
 unit_in s = take s.size s.unit
 
 -- 13 plan malformed, the first bad line; 1 address not in plan
-unfoldable pub planned : Sought → List ℕ → List Refusal
+unfoldable pub planned : SoughtSaid → List ℕ → List Refusal
 planned s file =
     refusal 13 s.detail (eqb s.number 13)
     ∷ refusal 1 0 (eqb s.number 1)
     ∷ reading s.message (unit_in s) file
 
-unfoldable pub answer_at : Sought → List ℕ → Answer
+unfoldable pub answer_at : SoughtSaid → List ℕ → Answer
 answer_at s file = answer (planned s file) (record_in s.message file)
 
 -- THE DEFINITION: address, plan and file to a record or a refusal

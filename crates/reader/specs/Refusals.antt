@@ -1,11 +1,15 @@
 -- What the reader answers by its list of refusals (text, Refusals): the first that holds, or else the record.
 use Rattle.std.specs.Prelude.{ℕ, List, ◌≡◌}
-use Rattle.reader.specs.declared.Answer.{Answer}
 use Rattle.record.specs.Records.{zero_record}
 use Rattle.record.specs.declared.Record.{Record}
 use Rattle.text.specs.Refusals.{Refusal, first_holding, First}
 
 -- an answer: a refusal's number and detail with the all-zero record, or the number 0 with the record
+pub record Answer : Type 0 where
+  pub number : ℕ
+  pub detail : ℕ
+  pub content : Record
+
 abbrev pub refused : ℕ → ℕ → Answer
 refused n d = record { number = n; detail = d; content = zero_record }
 

@@ -1,60 +1,36 @@
 // The reader: address, plan and file give the typed record, or one refusal with its detail and no record.
 #![tactic(auto)]
 
-ghost use Rattle.std.specs.Prelude.{◌≤◌, length, take, ◌≡◌};
-ghost use Rattle.layout.specs.FieldNumbers.{unit_no};
-ghost use Rattle.layout.specs.Layouts.{size_of};
+ghost use Rattle.std.specs.Prelude.{◌≤◌, length, take, replicate, ◌≡◌};
+ghost use Rattle.layout.specs.FieldNumbers.{unit_no, gradients_field};
+ghost use Rattle.layout.specs.Layouts.{size_of, kinds_of};
+ghost use Rattle.reader_fill.specs.Filled.{filled_of};
+ghost use Rattle.record.specs.Records.{cell};
+ghost use Rattle.record_rules.specs.Broken.{broken_number};
+ghost use Rattle.value_list.specs.Forms.{gradients_in, counted_triples};
 ghost use Rattle.layout.specs.Rows.{text_at, row_of};
 ghost use Rattle.text_lines.specs.Places.{part_of, Placed};
 ghost use Rattle.reader.specs.Reader.{read_of};
-ghost use Rattle.reader.specs.Refusals.{refused, accepted};
-ghost use Rattle.reader.specs.Readings.{unread, reading_of};
-ghost use Rattle.reader.specs.State.{nowhere, placed_as, column_at, Walks, Locates, verdict, concluded, is_mfrr};
+ghost use Rattle.reader.specs.Said.{answer_by, located_by, reading_by, verdict_by, filled_by};
+ghost use Rattle.reader.specs.Readings.{reading_of};
+ghost use Rattle.reader.specs.State.{placed_as, column_at, Walks, Locates, verdict, is_mfrr};
 ghost use Rattle.text.specs.Bytes.{same};
 ghost use Rattle.std.specs.Int.Count.{ones};
 
 use layout::{Layout, fields};
 use reader_walk::Marks;
 use record::{Cell, Record, at};
+use record_rules::Rule;
+use refusal::Refusal;
 use text::scan;
 use text_lines::Span;
-use value::Got;
-use value_list::Triple;
+use value::Value;
+use value_list::{Triple, triples};
 use value_name::MessageType;
 
-// A refusal's number and detail with the all-zero record, or the number 0 with the record. (An enum may hold no array.)
-#[derive(Clone, Copy)]
-pub struct Answer {
-    pub number: u8,
-    pub detail: usize,
-    pub content: Record,
-}
-
-pub fn refuse(number: u8, detail: usize) -> Answer
-    ensures { result ≡ refused number detail }
-{
-    Answer {
-        number,
-        detail,
-        content: record::zero(),
-    }
-}
-
-fn accept(content: Record) -> Answer
-    ensures { result ≡ accepted content }
-{
-    Answer {
-        number: 0,
-        detail: 0,
-        content,
-    }
-}
-
-// Where a message's values stand: its layout, the plan's unit, and the places of its row and of its fields; or a refusal's number and detail.
+// Where a message's values stand: its layout, the plan's unit in the first `size` bytes of its room, and the places of its row and of its fields.
 #[derive(Clone, Copy)]
 pub struct Located {
-    pub number: u8,
-    pub detail: usize,
     pub layout: Layout,
     pub size: usize,
     pub unit: [u8; 16],
@@ -62,12 +38,9 @@ pub struct Located {
     pub places: [Span; 27],
 }
 
-// What is read of a message, with its texts left in the file: a refusal's number and detail, or the number 0 with the layout, the cells and triples of
-// its record, and the places of its row and of its fields.
+// What is read of a message, with its texts left in the file: the layout, the cells and triples of its record, and the places of its row and of its fields.
 #[derive(Clone, Copy)]
 pub struct Reading {
-    pub number: u8,
-    pub detail: usize,
     pub layout: Layout,
     pub row: Span,
     pub cells: [Cell; 26],
@@ -75,53 +48,30 @@ pub struct Reading {
     pub places: [Span; 27],
 }
 
-// A refusal's number and detail, or 0 and 0.
-#[derive(Clone, Copy)]
-struct Early {
-    number: u8,
-    detail: usize,
-}
-
 const NOWHERE: Span = Span { from: 0, to: 0 };
 
 // The bit of `Tipo Comando` among those of the fields that have a line.
 const TIPO_COMANDO: u32 = at::TIPO_COMANDO as u32;
 
-fn unplaced(number: u8, detail: usize) -> Located
-    ensures { result ≡ nowhere number detail }
-{
-    Located {
-        number,
-        detail,
-        layout: Layout::Market,
-        size: 0,
-        unit: [0; 16],
-        row: NOWHERE,
-        places: [NOWHERE; 27],
-    }
-}
-
 // Refusals 5 and 6: a label twice, and how many labels have no line, which is the layout's count of fields less the count of bits.
-fn place(l: Layout, row: Span, m: Marks, places: [Span; 27]) -> Located
+fn place(l: Layout, row: Span, m: Marks, places: [Span; 27]) -> Result<Located, Refusal>
     requires { ones m.seen ≤ size_of l }
-    ensures { result ≡ placed_as l row m places }
+    ensures { located_by result ≡ placed_as l row m places }
 {
     if m.again != 0 {
-        return unplaced(5, m.again);
+        return Err(Refusal::LabelTwice(m.again));
     }
     let missing = layout::size(l) - u32::count_ones(m.seen) as usize;
     if missing != 0 {
-        return unplaced(6, missing);
+        return Err(Refusal::LabelsMissing(missing));
     }
-    Located {
-        number: 0,
-        detail: 0,
+    Ok(Located {
         layout: l,
         size: 0,
         unit: [0; 16],
         row,
         places,
-    }
+    })
 }
 
 // A CB file is the mFRR layout when `Tipo Comando` has a line.
@@ -130,63 +80,47 @@ fn is_mfrr(t: MessageType, m: Marks) -> bool
 {
     match t {
         MessageType::Cb => (m.seen >> TIPO_COMANDO) % 2 == 1,
-        MessageType::Rc => false,
-        MessageType::Mg => false,
-        MessageType::Eb => false,
-        MessageType::Lb => false,
-        MessageType::Sr => false,
-        MessageType::Vq => false,
-        MessageType::Ri => false,
-        MessageType::Qr => false,
+        _ => false,
     }
 }
 
 // Refusals 2 to 6 of a file as a message of a type: a check of its size, and one walk.
-fn walk_file(t: MessageType, file: &[u8]) -> Located
-    ensures { Walks t file.now result }
+fn walk_file(t: MessageType, file: &[u8]) -> Result<Located, Refusal>
+    ensures { Walks t file.now (located_by result) }
 {
     if file.len() == 0 {
-        return unplaced(2, 0);
+        return Err(Refusal::FileSize);
     }
     if 8192 < file.len() {
-        return unplaced(2, 0);
+        return Err(Refusal::FileSize);
     }
     let found = reader_walk::walk(t, file);
     if found.stop < file.len() {
-        return unplaced(3, found.stop);
+        return Err(Refusal::ForbiddenByte(found.stop));
     }
     let frame = found.frame;
     if frame.seps != 2 {
-        return unplaced(4, frame.seps);
+        return Err(Refusal::Separators(frame.seps));
     }
     if frame.inside != 1 {
-        return unplaced(4, frame.seps);
+        return Err(Refusal::Separators(frame.seps));
     }
-    let row = frame.row;
-    let second = found.second;
-    if is_mfrr(t, second) {
-        let others = found.others;
-        return place(Layout::Mfrr, row, second, others);
+    if is_mfrr(t, found.second) {
+        return place(Layout::Mfrr, frame.row, found.second, found.others);
     }
-    let first = found.first;
-    let places = found.places;
-    place(layout::of_type(t), row, first, places)
+    place(layout::of_type(t), frame.row, found.first, found.places)
 }
 
 // Refusals 13 and 1 of the plan, and then those of the file.
-fn locate(ca: u32, ioa: u32, plan: &[u8], file: &[u8]) -> Located
-    ensures { Locates ca ioa plan.now file.now result }
+fn locate(ca: u32, ioa: u32, plan: &[u8], file: &[u8]) -> Result<Located, Refusal>
+    ensures { Locates ca ioa plan.now file.now (located_by result) }
 {
-    let sought = plan::seek(plan, ca, ioa);
-    if sought.number != 0 {
-        return unplaced(sought.number, sought.detail);
-    }
-    let t = sought.message;
-    let mut x = walk_file(t, file);
+    let sought = plan::seek(plan, ca, ioa)?;
+    let mut x = walk_file(sought.message, file)?;
     let unit = sought.unit;
     x.size = sought.size;
     x.unit = unit;
-    x
+    Ok(x)
 }
 
 // Whether a text is the one at a place of the file.
@@ -194,9 +128,7 @@ fn is_at(text: &[u8], file: &[u8], p: Span) -> bool
     requires { (p.from ≤ p.to) × (p.to ≤ length file.now) }
     ensures { result ≡ same text.now (part_of file.now p) }
 {
-    let from = p.from as usize;
-    let to = p.to as usize;
-    scan::same(text, &file[from..to])
+    scan::same(text, p.text(file))
 }
 
 // Refusals 8 to 10: the lowest broken rule, the unit, which is the plan's where it is the first `size` bytes of its room, the row.
@@ -207,191 +139,77 @@ fn judge(
     file: &[u8],
     row: Span,
     places: [Span; 27],
-    broken: u8,
-) -> Early
+    broken: Option<Rule>,
+) -> Result<(), Refusal>
     requires { (row.from ≤ row.to) × (row.to ≤ length file.now) × Placed (size_of l) file.now places }
-    ensures { result ≡ verdict broken
+    ensures { verdict_by result ≡ verdict (broken_number broken)
         (same (take size unit) (text_at (column_at l file.now places) unit_no))
         (same (part_of file.now row) (row_of l (column_at l file.now places))) }
 {
-    if broken != 0 {
-        return Early {
-            number: 8,
-            detail: broken as usize,
-        };
+    if let Some(rule) = broken {
+        return Err(Refusal::BrokenRule(rule.number() as usize));
     }
     if !is_at(scan::front(&unit, size), file, places[fields::UNIT]) {
-        return Early {
-            number: 9,
-            detail: 0,
-        };
+        return Err(Refusal::OtherUnit);
     }
     if !reader_row::agrees(l, file, row, places) {
-        return Early {
-            number: 10,
-            detail: 0,
+        return Err(Refusal::RowDiffers);
+    }
+    Ok(())
+}
+
+// The values of a layout's fields, one by one into the cells. Refusal 7: the first field that has none.
+fn fill(
+    l: Layout,
+    file: &[u8],
+    places: &[Span; 27],
+    triples: Option<usize>,
+    cells: &mut [Cell; 26],
+) -> Result<(), Refusal>
+    requires placed { Placed (size_of l) file.now places.now }
+    requires gradients { triples ≡ counted_triples (gradients_in (text_at (column_at l file.now places.now) (gradients_field l))) }
+    requires blank { cells.old ≡ replicate 26 (cell Value.Blank) }
+    ensures first_bad { result ≡ filled_by (filled_of (kinds_of l) (column_at l file.now places.now)).bad }
+    ensures filled { cells.new ≡ (filled_of (kinds_of l) (column_at l file.now places.now)).cells }
+{
+    for k in 0..layout::size(l) {
+        let Some(value) = reader_fill::value_in(l, k + 1, file, places[k + 1], triples) else {
+            return Err(Refusal::BadValue(k + 1));
         };
+        cells[k] = Cell { value };
     }
-    Early {
-        number: 0,
-        detail: 0,
-    }
+    Ok(())
 }
 
-// A refusal: nothing of the file is handed out.
-fn unread(number: u8, detail: usize) -> Reading
-    ensures { result ≡ unread number detail }
+// A file judged at an address of a plan. The cells are filled where they are handed back.
+pub fn judged(ca: u32, ioa: u32, plan: &[u8], file: &[u8]) -> Result<Reading, Refusal>
+    ensures { reading_by result ≡ reading_of ca ioa plan.now file.now }
 {
-    Reading {
-        number,
-        detail,
-        layout: Layout::Market,
-        row: NOWHERE,
-        cells: [record::EMPTY; 26],
-        gradients: [record::NO_TRIPLE; 16],
-        places: [NOWHERE; 27],
-    }
-}
-
-// A file judged at an address of a plan. The cells are filled where they are handed back, and what a rule or a row asks for is taken from there, each time by a
-// variable of its own: one that lived all through would be another copy on the stack. There is one way out of a refusal, and so one reading that is empty.
-pub fn judged(ca: u32, ioa: u32, plan: &[u8], file: &[u8]) -> Reading
-    ensures { result ≡ reading_of ca ioa plan.now file.now }
-{
-    let x = locate(ca, ioa, plan, file);
-    let l = x.layout;
-    let row = x.row;
-    let places = x.places;
+    let x = locate(ca, ioa, plan, file)?;
+    let gradients = reader_fill::gradients_of(x.layout, file, x.places);
     let mut r = Reading {
-        number: x.number,
-        detail: x.detail,
-        layout: l,
-        row,
+        layout: x.layout,
+        row: x.row,
         cells: [record::EMPTY; 26],
-        gradients: [record::NO_TRIPLE; 16],
-        places,
+        gradients: triples::kept(gradients),
+        places: x.places,
     };
-    if x.number != 0 {
-        return r;
-    }
-    let located = r.places;
-    let g = reader_fill::gradients_of(l, file, located);
-    let list = g.list;
-    let values = list.values;
-    r.gradients = values;
-    let n = layout::size(l);
-    let mut k = 0;
-    let mut bad: usize = 0;
-    while k < n {
-        let got = reader_fill::value_in(l, k + 1, file, r.places[k + 1], g.good, list.count);
-        match got {
-            Got::Read(v) => {
-                let c = Cell { value: v };
-                r.cells[k] = c;
-                k += 1;
-            }
-            Got::Bad => {
-                bad = k + 1;
-                k = n;
-            }
-        }
-    }
-    let mut number: u8 = 7;
-    let mut detail = bad;
-    if bad == 0 {
-        let broken = match l {
-            Layout::Market => {
-                let gradients = r.gradients;
-                record_rules::of_market(
-                    r.cells[at::START],
-                    r.cells[at::END],
-                    r.cells[at::ORIGIN],
-                    r.cells[at::UPDATE],
-                    r.cells[at::H1],
-                    r.cells[at::H2],
-                    r.cells[at::H3],
-                    r.cells[at::H4],
-                    r.cells[at::H5],
-                    r.cells[at::H6],
-                    r.cells[at::GRADIENTS],
-                    gradients,
-                )
-            },
-            Layout::Mfrr => record_rules::of_ramps(
-                r.cells[at::START],
-                r.cells[at::TFIN1],
-                r.cells[at::TINI2],
-                r.cells[at::TFIN2],
-            ),
-            Layout::Exclusion => record_rules::of_exclusion(
-                r.cells[at::START],
-                r.cells[at::END],
-                r.cells[at::EB_REASON],
-                r.cells[at::READMISSION],
-            ),
-            Layout::Limitation => record_rules::of_limitation(
-                r.cells[at::START],
-                r.cells[at::END],
-                r.cells[at::MAXIMUM],
-                r.cells[at::MINIMUM],
-                r.cells[at::LB_REASON],
-                r.cells[at::REINSTATEMENT],
-            ),
-            Layout::Secondary => record_rules::of_secondary(
-                r.cells[at::START],
-                r.cells[at::END],
-                r.cells[at::OPERATION],
-                r.cells[at::HALF_BANDS],
-            ),
-            Layout::VoltVar => record_rules::of_volt_var(
-                r.cells[at::START],
-                r.cells[at::END],
-                r.cells[at::STATE],
-                r.cells[at::MODE],
-                r.cells[at::REGULATION],
-                r.cells[at::VOLTAGE],
-                r.cells[at::REGULATOR],
-                r.cells[at::CHANGE],
-                r.cells[at::REACTIVE],
-            ),
-            Layout::Reserve => record_rules::of_reserve(
-                r.cells[at::START],
-                r.cells[at::END],
-                r.cells[at::POWER],
-                r.cells[at::EXTENT],
-            ),
-            _ => record_rules::of_order(r.cells[at::START], r.cells[at::END]),
-        };
-        let unit = x.unit;
-        let stand = r.places;
-        let early = judge(l, unit, x.size, file, row, stand, broken);
-        number = early.number;
-        detail = early.detail;
-    }
-    if number != 0 {
-        r = unread(number, detail);
-    }
-    r
-}
-
-// The answer of what was read: its refusal, or the record with the texts kept in their rooms.
-fn conclude(file: &[u8], x: Reading) -> Answer
-    requires { x.number ≡ 0 → Placed (size_of x.layout) file.now x.places }
-    ensures { result ≡ concluded file.now x }
-{
-    if x.number != 0 {
-        return refuse(x.number, x.detail);
-    }
-    let l = x.layout;
-    let places = x.places;
-    let cells = x.cells;
-    let gradients = x.gradients;
-    accept(reader_fill::record_of(l, file, places, cells, gradients))
+    fill(
+        x.layout,
+        file,
+        &x.places,
+        triples::counted(gradients),
+        &mut r.cells,
+    )?;
+    let broken = record_rules::lowest_of(x.layout, &r.cells, &r.gradients);
+    judge(x.layout, x.unit, x.size, file, x.row, x.places, broken)?;
+    Ok(r)
 }
 
 // A file read at an address of a plan.
-pub fn read(ca: u32, ioa: u32, plan: &[u8], file: &[u8]) -> Answer
-    ensures { result ≡ read_of ca ioa plan.now file.now }
+pub fn read(ca: u32, ioa: u32, plan: &[u8], file: &[u8]) -> Result<Record, Refusal>
+    ensures { answer_by result ≡ read_of ca ioa plan.now file.now }
 {
-    conclude(file, judged(ca, ioa, plan, file))
+    let x = judged(ca, ioa, plan, file)?;
+    Ok(reader_fill::record_of(x.layout, file, x.places, x.cells, x.gradients))
 }

@@ -1,4 +1,7 @@
 -- The gradients are read once, before the loop over the fields: what was read of them is the value of their field. Assumes nothing.
+use Rattle.value_list.specs.declared.Triple.{Triple}
+use Rattle.value.specs.declared.Value.{Value}
+use Rattle.std.specs.Prelude.{None, Option, Some}
 use Prim.Native.Nat.{ℕ, ◌+◌, ◌≤◌, ◌<◌}
 use Rattle.reader_fill.specs.Filled.{value_with}
 use Rattle.layout.proofs.Labels.{few}
@@ -11,62 +14,51 @@ use Rattle.text_lines.proofs.Columns.{column_at_lem}
 use Rattle.text_lines.specs.Places.{part_of, span_at, column_in, Placed}
 use Rattle.text_lines.specs.declared.Span.{Span}
 use Rattle.value_list.proofs.Lines.{no_gradients}
-use Rattle.value_list.specs.Forms.{amount_of, one_of, one_in, triple_is, triple_in, no_triple, gradients_in}
+use Rattle.value_list.specs.Forms.{amount_of, one_of, one_in, triple_is, triple_in, gradients_in, counted_triples}
 use Rattle.value_list.specs.Lists.{cut_at, cons_read, every_of, counted, some_of}
-use Rattle.value_list.specs.declared.GradientsRead.{GradientsRead}
-use Rattle.value_list.specs.declared.One.{One}
-use Rattle.value_list.specs.declared.One.TheVariants.{No}
+use Rattle.value_list.specs.declared.Gradients.{Gradients}
 use Rattle.layout.specs.FieldNumbers.{gradients_field}
 use Rattle.text.proofs.Tests.{by_eq}
 use Rattle.text.specs.Bytes.{trim, skip, skip_end}
-use Rattle.value.specs.Kinds.{triples_from, shape_of, value_of}
-use Rattle.value.specs.declared.Got.{Got}
-use Rattle.value.specs.declared.Got.TheVariants.{Read, Bad}
-use Rattle.value.specs.declared.Value.TheVariants.{Triples}
+use Rattle.value.specs.Kinds.{triples_counted, triples_from, shape_of, value_of}
 use borrow.Author.Tests.{eq-eqb, ne_eqb}
 use lib.IntN.{ℤ}
-use lib.ListN.{length, replicate}
-use mathlib.Core.Bool.{Bool, true, false}
+use lib.ListN.{length}
 use mathlib.Core.List.{List, []}
-use mathlib.Core.Option.{Option, none, some}
 use mathlib.Core.Path.{◌≡◌, refl, sym, ap, ◌∙◌}
 use native.Mathlib.Omega.{arith}
 
 -- ---- a layout without gradients: its text is empty, and none are read
 
-one_part : (o : Option ℤ) → one_of (counted 3 3 (cons_read o (some []))) ≡ No
+one_part : (o : Option ℤ) → one_of (counted 3 3 (cons_read o (Some []))) ≡ None
 unfolding counted cons_read
-one_part none = refl
-one_part (some v) = refl
+one_part None = refl
+one_part (Some v) = refl
 
-no_triple_lem : one_in [] ≡ No
+no_triple_lem : one_in [] ≡ None
 unfolding one_in some_of every_of cut_at
 no_triple_lem = one_part (amount_of (trim []))
 
-nothing : some_of triple_in 59 1 16 [] ≡ none
+nothing : some_of triple_in 59 1 16 [] ≡ None
 unfolding some_of every_of cut_at counted cons_read trim skip skip_end
-nothing = ap (λ (o : One). counted 1 16 (cons_read (triple_is o) (some []))) no_triple_lem
+nothing = ap (λ (o : Option Triple). counted 1 16 (cons_read (triple_is o) (Some []))) no_triple_lem
 
 pub none_there : (col : List (List ℕ)) (k j : ℕ) → k ≡ j → k ≡ 0
-    → record { good = false; list = record { count = 0; values = replicate 16 no_triple } } ≡ gradients_in (text_at col j)
+    → None ≡ gradients_in (text_at col j)
 none_there col k j e z = no_gradients [] nothing ∙ ap (λ (n : ℕ). gradients_in (text_at col n)) (sym z ∙ e)
 
-pub read_there : (col : List (List ℕ)) (k j : ℕ) (s : List ℕ) (g : GradientsRead)
+pub read_there : (col : List (List ℕ)) (k j : ℕ) (s : List ℕ) (g : Option Gradients)
     → k ≡ j → s ≡ text_at col k → g ≡ gradients_in s → g ≡ gradients_in (text_at col j)
 read_there col k j s g e t r = r ∙ ap gradients_in (t ∙ ap (text_at col) e)
 
 -- ---- the value of a field
 
-module _ (l : Layout) (k : ℕ) (good : Bool) (count : ℕ) (s : List ℕ) (j : ℕ) (field : j ≡ gradients_field l) where
-  pub good_there : k ≡ j → good ≡ true → Read (Triples count) ≡ value_with l k good count s
+module _ (l : Layout) (k : ℕ) (count : Option ℕ) (s : List ℕ) (j : ℕ) (field : j ≡ gradients_field l) where
+  pub there : k ≡ j → triples_counted count ≡ value_with l k count s
   unfolding value_with
-  good_there e g = rw (eq-eqb k (gradients_field l) (e ∙ field), g)
+  there e = rw (eq-eqb k (gradients_field l) (e ∙ field))
 
-  pub bad_there : k ≡ j → good ≡ false → Bad ≡ value_with l k good count s
-  unfolding value_with
-  bad_there e g = rw (eq-eqb k (gradients_field l) (e ∙ field), g)
-
-  pub elsewhere : (k ≡ j → ⊥) → (r : Got) → r ≡ value_of (kind_at l k) s → r ≡ value_with l k good count s
+  pub elsewhere : (k ≡ j → ⊥) → (r : Option Value) → r ≡ value_of (kind_at l k) s → r ≡ value_with l k count s
   unfolding value_with
   elsewhere n r e = rw (ne_eqb k (gradients_field l) (λ q. n (q ∙ sym field))) e
 
@@ -84,20 +76,20 @@ triples_kind VoltVar s h = absurd (omega arith)
 triples_kind Rejection s h = absurd (omega arith)
 triples_kind Reserve s h = absurd (omega arith)
 
-value_with_lem : (l : Layout) (k : ℕ) (s : List ℕ) (g : GradientsRead) → 1 ≤ k → (k ≡ gradients_field l → g ≡ gradients_in s)
-    → value_with l k g.good g.list.count s ≡ value_of (kind_at l k) s
+value_with_lem : (l : Layout) (k : ℕ) (s : List ℕ) (g : Option Gradients) → 1 ≤ k → (k ≡ gradients_field l → g ≡ gradients_in s)
+    → value_with l k (counted_triples g) s ≡ value_of (kind_at l k) s
 unfolding value_with
 value_with_lem l k s g h f =
     by_eq k (gradients_field l)
     (λ e.
-    let some : 1 ≤ gradients_field l = omega (arith, e) in
-    rw (eq-eqb k (gradients_field l) e) (ap triples_from (f e) ∙ triples_kind l s some ∙ ap (λ (n : ℕ). value_of (kind_at l n) s) (sym e)))
+    let at_least : 1 ≤ gradients_field l = omega (arith, e) in
+    rw (eq-eqb k (gradients_field l) e) (ap triples_from (f e) ∙ triples_kind l s at_least ∙ ap (λ (n : ℕ). value_of (kind_at l n) s) (sym e)))
     (λ n. rw (ne_eqb k (gradients_field l) n))
 
 -- a field of the loop: with what was read of the gradients it has the value of its own kind
 pub field_value : (l : Layout) (file : List ℕ) (spans : List Span) (k : ℕ) → Placed (size_of l) file spans → k < size_of l
-    → (g : GradientsRead) → g ≡ gradients_in (text_at (column_in (size_of l) file spans) (gradients_field l))
-    → (r : Got) → r ≡ value_with l (k + 1) g.good g.list.count (part_of file (span_at spans (k + 1)))
+    → (g : Option Gradients) → g ≡ gradients_in (text_at (column_in (size_of l) file spans) (gradients_field l))
+    → (r : Option Value) → r ≡ value_with l (k + 1) (counted_triples g) (part_of file (span_at spans (k + 1)))
     → r ≡ value_of (kind_at l (k + 1)) (part_of file (span_at spans (k + 1)))
 field_value l file spans k p h g e r q =
     let j : size_of l < length spans = omega (arith, few l, p.long) in

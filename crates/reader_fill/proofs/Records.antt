@@ -1,5 +1,6 @@
 -- What a caller knows of what was filled: the record that is made of it, that a bad field has a number, and where none is bad all the values.
 -- Assumes nothing.
+use Rattle.std.specs.Prelude.{None, Option, Some}
 use Prim.Native.Nat.{ℕ, suc, ◌≤◌}
 use Rattle.reader_fill.specs.Filled.{ahead, good_front, triples_of, record_with}
 use Rattle.layout.specs.Rows.{text_at}
@@ -11,8 +12,6 @@ use Rattle.record.specs.Records.Typed.{bad, good}
 use Rattle.record.specs.declared.Cell.{Cell}
 use Rattle.text_room.specs.Rooms.{kept_in}
 use Rattle.value.specs.Kinds.{value_of}
-use Rattle.value.specs.declared.Got.{Got}
-use Rattle.value.specs.declared.Got.TheVariants.{Read, Bad}
 use Rattle.value.specs.declared.Kind.{Kind}
 use Rattle.value.specs.declared.Value.{Value}
 use mathlib.Core.List.{List, [], ◌∷◌}
@@ -42,11 +41,11 @@ good_not e = let z : ◌≡◌ {A = ℕ} 0 1 = cc in omega arith
 bad_is : {i j : ℕ} → bad i ≡ bad j → i ≡ j
 bad_is e = cc
 
-joined_bad : (k : ℕ) (g : Got) (t : Typed) (j : ℕ) → ((i : ℕ) → t ≡ bad i → 1 ≤ i) → joined (suc k) g t ≡ bad j → 1 ≤ j
+joined_bad : (k : ℕ) (g : Option Value) (t : Typed) (j : ℕ) → ((i : ℕ) → t ≡ bad i → 1 ≤ i) → joined (suc k) g t ≡ bad j → 1 ≤ j
 unfolding joined
-joined_bad k Bad t j f e = omega (arith, bad_is e)
-joined_bad k (Read v) (bad i) j f e = f j e
-joined_bad k (Read v) (good vs) j f e = absurd (good_not e)
+joined_bad k None t j f e = omega (arith, bad_is e)
+joined_bad k (Some v) (bad i) j f e = f j e
+joined_bad k (Some v) (good vs) j f e = absurd (good_not e)
 
 pub typed_bad_some : (k : ℕ) (ks : List Kind) (col : List (List ℕ)) (j : ℕ) → typed (suc k) ks col ≡ bad j → 1 ≤ j
 unfolding typed
@@ -62,12 +61,12 @@ not_good e = let z : ◌≡◌ {A = ℕ} 0 1 = cc in omega arith
 pub good_is : {vs ws : List Value} → good vs ≡ good ws → vs ≡ ws
 good_is e = cc
 
-front_joined : (k : ℕ) (g : Got) (y : Typed) (front vs : List Value) → joined k g y ≡ good vs → ((ws : List Value) → y ≡ good ws → front ≡ ws)
+front_joined : (k : ℕ) (g : Option Value) (y : Typed) (front vs : List Value) → joined k g y ≡ good vs → ((ws : List Value) → y ≡ good ws → front ≡ ws)
     → ahead g front ≡ vs
 unfolding joined
-front_joined k Bad y front vs e h = absurd (not_good e)
-front_joined k (Read v) (bad j) front vs e h = absurd (not_good e)
-front_joined k (Read v) (good ws) front vs e h = ap (λ (l : List Value). v ∷ l) (h ws refl) ∙ good_is e
+front_joined k None y front vs e h = absurd (not_good e)
+front_joined k (Some v) (bad j) front vs e h = absurd (not_good e)
+front_joined k (Some v) (good ws) front vs e h = ap (λ (l : List Value). v ∷ l) (h ws refl) ∙ good_is e
 
 pub front_good : (k : ℕ) (ds : List Kind) (col : List (List ℕ)) (vs : List Value) → typed k ds col ≡ good vs → good_front ds col ≡ vs
 unfolding typed good_front

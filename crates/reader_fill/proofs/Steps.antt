@@ -1,4 +1,5 @@
 -- The loop over the fields: its state, and its laws. Assumes nothing.
+use Rattle.std.specs.Prelude.{None, Option, Some}
 use Prim.Native.Nat.{ℕ, suc, ◌+◌, ◌-◌, ◌≤◌, ◌<◌}
 use Rattle.reader_fill.specs.Filled.{ahead, good_front, filled_of}
 use Rattle.layout.proofs.Labels.{few, kinds_length, kind_at_lem}
@@ -11,8 +12,6 @@ use Rattle.record.specs.Records.{Typed, joined, typed, cell, cells_of}
 use Rattle.record.specs.Records.Typed.{bad, good}
 use Rattle.record.specs.declared.Cell.{Cell}
 use Rattle.value.specs.Kinds.{value_of}
-use Rattle.value.specs.declared.Got.{Got}
-use Rattle.value.specs.declared.Got.TheVariants.{Read, Bad}
 use Rattle.value.specs.declared.Value.{Value}
 use Rattle.value.specs.declared.Value.TheVariants.{Blank}
 use lib.ListN.{length, drop, set, replicate, length-append, length-map, drop_of_length-le}
@@ -28,7 +27,7 @@ unfoldable pub prefixed : List Value → Typed → Typed
 prefixed done (bad k) = bad k
 prefixed done (good vs) = good (done ++ vs)
 
-prefixed_step : (k : ℕ) (done : List Value) (v : Value) (t : Typed) → prefixed done (joined k (Read v) t) ≡ prefixed (done ++ v ∷ []) t
+prefixed_step : (k : ℕ) (done : List Value) (v : Value) (t : Typed) → prefixed done (joined k (Some v) t) ≡ prefixed (done ++ v ∷ []) t
 unfolding prefixed joined
 prefixed_step k done v (bad j) = refl
 prefixed_step k done v (good vs) = ap good (sym (append_assoc done (v ∷ []) vs))
@@ -106,7 +105,7 @@ module _ (l : Layout) (file : List ℕ) (spans : List Span) (k : ℕ) (cells : L
       let j : size_of l < length spans = omega (arith, few l, p.long) in
       s.front ∙ ap (λ (vs : List Value). s.done ++ vs) (front_at l col k text h (column_step (size_of l) file spans k h j))
 
-  pub turn : (g : Got) (v : Value) → g ≡ value_of (kind_at l (k + 1)) text → g ≡ Read v → Sofar l col (k + 1) (set cells k (cell v))
+  pub turn : (g : Option Value) (v : Value) → g ≡ value_of (kind_at l (k + 1)) text → g ≡ Some v → Sofar l col (k + 1) (set cells k (cell v))
   turn g v e r =
       record {
         done = s.done ++ v ∷ [];
@@ -116,7 +115,7 @@ module _ (l : Layout) (file : List ℕ) (spans : List Span) (k : ℕ) (cells : L
         kept = ap (λ (c : List Cell). set c k (cell v)) s.kept ∙ cells_step s.done k v s.count_is (omega (arith, few l));
       }
 
-  pub stop : (g : Got) → g ≡ value_of (kind_at l (k + 1)) text → g ≡ Bad → record { bad = k + 1; cells = cells } ≡ filled_of (kinds_of l) col
+  pub stop : (g : Option Value) → g ≡ value_of (kind_at l (k + 1)) text → g ≡ None → record { bad = k + 1; cells = cells } ≡ filled_of (kinds_of l) col
   unfolding filled_of prefixed joined
   stop g e r = rw (s.kept, here, front_here, sym e ∙ r, append-nil s.done)
 

@@ -1,26 +1,23 @@
 -- The values of a file's places, as the record keeps them, and the first bad field.
-use Rattle.std.specs.Prelude.{ℕ, eqb, Bool, cond, List, [], ◌∷◌}
+use Rattle.std.specs.Prelude.{ℕ, eqb, cond, List, [], ◌∷◌, None, Option, Some}
 use Rattle.layout.specs.Layouts.{kind_at}
 use Rattle.layout.specs.Rows.{text_at}
 use Rattle.layout.specs.declared.Layout.{Layout}
-use Rattle.value_list.specs.Forms.{gradients_in}
+use Rattle.value_list.specs.Forms.{gradients_in, kept_triples}
 use Rattle.value_list.specs.declared.Triple.{Triple}
 use Rattle.layout.specs.FieldNumbers.{unit_no, reason_field, note_field, gradients_field}
 use Rattle.record.specs.Records.{typed, bad_of, cells_of}
 use Rattle.record.specs.declared.Cell.{Cell}
 use Rattle.record.specs.declared.Record.{Record}
 use Rattle.text_room.specs.Rooms.{kept_in}
-use Rattle.value.specs.Kinds.{value_of}
-use Rattle.value.specs.declared.Got.{Got}
-use Rattle.value.specs.declared.Got.TheVariants.{Read, Bad}
+use Rattle.value.specs.Kinds.{triples_counted, value_of}
 use Rattle.value.specs.declared.Kind.{Kind}
 use Rattle.value.specs.declared.Value.{Value}
-use Rattle.value.specs.declared.Value.TheVariants.{Triples}
 
 -- the values of the fields before the first bad one
-abbrev pub ahead : Got → List Value → List Value
-ahead Bad vs = []
-ahead (Read v) vs = v ∷ vs
+abbrev pub ahead : Option Value → List Value → List Value
+ahead None vs = []
+ahead (Some v) vs = v ∷ vs
 
 unfoldable pub good_front : List Kind → List (List ℕ) → List Value
 good_front [] ts = []
@@ -35,13 +32,13 @@ pub record Filled : Type 0 where
 unfoldable pub filled_of : List Kind → List (List ℕ) → Filled
 filled_of ds col = record { bad = bad_of (typed 1 ds col); cells = cells_of (good_front ds col) }
 
--- the value of the field k from its text, with that of the gradients from what was read of them: whether they are good, and how many
-unfoldable pub value_with : Layout → ℕ → Bool → ℕ → List ℕ → Got
-value_with l k good count s = cond (eqb k (gradients_field l)) (cond good (Read (Triples count)) Bad) (value_of (kind_at l k) s)
+-- the value of the field k from its text, with that of the gradients from what was read of them: how many they are, if they are good
+unfoldable pub value_with : Layout → ℕ → Option ℕ → List ℕ → Option Value
+value_with l k count s = cond (eqb k (gradients_field l)) (triples_counted count) (value_of (kind_at l k) s)
 
 -- the triples of a column
 unfoldable pub triples_of : Layout → List (List ℕ) → List Triple
-triples_of l col = (gradients_in (text_at col (gradients_field l))).list.values
+triples_of l col = kept_triples (gradients_in (text_at col (gradients_field l)))
 
 -- the record with these cells and triples, its other rooms from the column
 unfoldable pub record_with : Layout → List (List ℕ) → List Cell → List Triple → Record

@@ -8,22 +8,20 @@ ghost use Rattle.layout.specs.Rows.{text_at};
 ghost use Rattle.value_list.specs.Forms.{gradients_in};
 ghost use Rattle.text_lines.specs.Places.{part_of, column_in, Placed};
 ghost use Rattle.layout.specs.FieldNumbers.{gradients_field};
-ghost use Rattle.value.specs.Kinds.{value_of};
+ghost use Rattle.value.specs.Kinds.{triples_counted, value_of};
 
 use layout::{Layout, fields};
 use record::{Cell, Record};
 use text_lines::Span;
-use value::{Got, Value};
-use value_list::{GradientsRead, Triple, triples};
+use value::Value;
+use value_list::{Gradients, Triple, triples};
 
 // The value of the field k that stands at a place of the file.
-fn value_at(l: Layout, k: usize, file: &[u8], p: Span) -> Got
+fn value_at(l: Layout, k: usize, file: &[u8], p: Span) -> Option<Value>
     requires { (p.from ≤ p.to) × (p.to ≤ length file.now) }
     ensures { result ≡ value_of (kind_at l k) (part_of file.now p) }
 {
-    let from = p.from as usize;
-    let to = p.to as usize;
-    value::read::read(layout_kind::of_field(l, k), &file[from..to])
+    value::read::read(layout_kind::of_field(l, k), p.text(file))
 }
 
 // The text of the field k: nothing at 0.
@@ -34,34 +32,41 @@ pub fn text_at<'a>(l: Layout, file: &'a [u8], spans: [Span; 27], k: usize) -> &'
     if k == 0 {
         return &file[0..0];
     }
-    let p = spans[k];
-    let from = p.from as usize;
-    let to = p.to as usize;
-    &file[from..to]
+    spans[k].text(file)
 }
 
-// The gradients of the layout, read: not good, and all zero, where it has none.
-pub fn gradients_of(l: Layout, file: &[u8], spans: [Span; 27]) -> GradientsRead
+// The gradients of the layout, read: none where it has none.
+pub fn gradients_of(l: Layout, file: &[u8], spans: [Span; 27]) -> Option<Gradients>
     requires { Placed (size_of l) file.now spans }
     ensures { result ≡ gradients_in (text_at (column_in (size_of l) file.now spans) (gradients_field l)) }
 {
     let at = fields::gradients_field(l);
     if at == 0 {
-        return triples::none();
+        return None;
     }
     triples::read(text_at(l, file, spans, at))
 }
 
-// The value of the field k, with that of the gradients from what was read of them.
-pub fn value_in(l: Layout, k: usize, file: &[u8], p: Span, good: bool, count: usize) -> Got
+// The value of the gradients, by how many were read.
+fn counted(gradients: Option<usize>) -> Option<Value>
+    ensures { result ≡ triples_counted gradients }
+{
+    gradients.map(Value::Triples)
+}
+
+// The value of the field k, with that of the gradients from how many were read of them.
+pub fn value_in(
+    l: Layout,
+    k: usize,
+    file: &[u8],
+    p: Span,
+    gradients: Option<usize>,
+) -> Option<Value>
     requires { (p.from ≤ p.to) × (p.to ≤ length file.now) }
-    ensures { result ≡ value_with l k good count (part_of file.now p) }
+    ensures { result ≡ value_with l k gradients (part_of file.now p) }
 {
     if k == fields::gradients_field(l) {
-        if good {
-            return Got::Read(Value::Triples(count));
-        }
-        return Got::Bad;
+        return counted(gradients);
     }
     value_at(l, k, file, p)
 }
@@ -77,9 +82,9 @@ pub fn record_of(
     requires { Placed (size_of l) file.now spans }
     ensures { result ≡ record_with l (column_in (size_of l) file.now spans) cells gradients }
 {
-    let unit = text_room::keep_unit(text_at(l, file, spans, fields::UNIT));
-    let reason = text_room::keep_reason(text_at(l, file, spans, fields::reason_field(l)));
-    let note = text_room::keep_note(text_at(l, file, spans, fields::note_field(l)));
+    let unit = text_room::keep(text_at(l, file, spans, fields::UNIT));
+    let reason = text_room::keep(text_at(l, file, spans, fields::reason_field(l)));
+    let note = text_room::keep(text_at(l, file, spans, fields::note_field(l)));
     Record {
         layout: l,
         cells,

@@ -1,5 +1,6 @@
 -- A line that begins with a label, blanks and '=' (61): what the code finds is `head_of`, and the line's parameter is that label and what follows.
 -- Assumes nothing.
+use Rattle.std.specs.Prelude.{Some}
 use Prim.Native.Nat.{ℕ, zero, suc, ◌+◌, ◌-◌, ◌≤◌, ◌<◌}
 use Rattle.reader_line.specs.Items.{after_label, head_of, is_printed}
 use Rattle.layout_label.specs.Labels.{padded}
@@ -16,7 +17,6 @@ use lib.ListN.{length, get_or, drop, replicate, length-append, length-drop, leng
 use lib.Seq.{drop-drop, drop-append_seam, take-append_seam}
 use mathlib.Core.Bool.{Bool, true, false, not, cond, ◌&&◌, and-true, and-false, false≢true}
 use mathlib.Core.List.{List, [], ◌∷◌, ◌++◌, append_assoc}
-use mathlib.Core.Option.{some}
 use mathlib.Core.Path.{◌≡◌, refl, sym, ap, ◌∙◌}
 use native.Mathlib.Omega.{arith}
 
@@ -236,5 +236,5 @@ module _ (label text : List ℕ) (h : ℕ) (d : Headed label text h) (plain : al
 
   -- and its parameter is the label with what stands there
   pub line_param : trim label ≡ label → any (is 61) label ≡ false
-      → param_of (trim (upto not_plain text)) ≡ some (param label (trim (upto not_plain (drop h text))))
+      → param_of (trim (upto not_plain text)) ≡ Some (param label (trim (upto not_plain (drop h text))))
   line_param t u = ap (λ (x : List ℕ). param_of (trim x)) line_past ∙ head_param label d.front (upto not_plain (drop h text)) t u d.blank

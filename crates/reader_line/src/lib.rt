@@ -56,13 +56,10 @@ fn is_label(l: Layout, k: usize, s: &[u8]) -> bool
 fn field_of(l: Layout, s: &[u8]) -> usize
     ensures { result ≡ place_of (labels_of l) s.now }
 {
-    let n = layout::size(l);
-    let mut k = 0;
-    while k < n {
+    for k in 0..layout::size(l) {
         if is_label(l, k + 1, s) {
             return k + 1;
         }
-        k += 1;
     }
     0
 }
@@ -200,11 +197,9 @@ fn row_item(t: MessageType, s: &[u8], at: usize, end: usize) -> Item
     ensures { result ≡ item_in [] t 1 at (part at end s.now) }
 {
     let p = text_lines::trim_span(s, at, end);
-    let a = p.from as usize;
-    let z = p.to as usize;
     Item {
         end,
-        separator: text_lines::is_separator(&s[a..z]),
+        separator: text_lines::is_separator(p.text(s)),
         first: 0,
         second: 0,
         value: p,
@@ -272,9 +267,7 @@ fn other_item(t: MessageType, s: &[u8], at: usize, end: usize, seps: usize) -> I
         return nothing(end);
     }
     let p = text_lines::trim_span(s, at, end);
-    let a = p.from as usize;
-    let z = p.to as usize;
-    if text_lines::is_separator(&s[a..z]) {
+    if text_lines::is_separator(p.text(s)) {
         return Item {
             end,
             separator: true,

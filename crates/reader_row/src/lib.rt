@@ -12,72 +12,63 @@ use layout::Layout;
 use text::scan;
 use text_lines::Span;
 
-// Where the comparison goes on, or that the texts differ.
-#[derive(Clone, Copy)]
-pub enum Step {
-    To(usize),
-    Differs,
-}
-
 // The bytes of the file from at to end begin with those of the piece.
-fn skip_piece(file: &[u8], at: usize, end: usize, p: Span) -> Step
+#[tactic(auto, unfolding(crate::specs::Steps::step_of))]
+fn skip_piece(file: &[u8], at: usize, end: usize, p: Span) -> Option<usize>
     requires { (at ≤ end) × (end ≤ length file.now) × (p.from ≤ p.to) × (p.to ≤ length file.now) }
     ensures { result ≡ step_of file.now at end (part_of file.now p) }
 {
-    let from = p.from as usize;
-    let to = p.to as usize;
-    if !scan::starts(&file[from..to], &file[at..end]) {
-        return Step::Differs;
+    let piece = p.text(file);
+    if !scan::starts(piece, &file[at..end]) {
+        return None;
     }
-    Step::To(at + (to - from))
+    Some(at + piece.len())
 }
 
 // The same with a `;` before the piece.
-fn skip_mark(file: &[u8], at: usize, end: usize, p: Span) -> Step
+fn skip_mark(file: &[u8], at: usize, end: usize, p: Span) -> Option<usize>
     requires { (at ≤ end) × (end ≤ length file.now) × (p.from ≤ p.to) × (p.to ≤ length file.now) }
     ensures { result ≡ step_of file.now at end (59 ∷ part_of file.now p) }
 {
     if end <= at {
-        return Step::Differs;
+        return None;
     }
     if file[at] != b';' {
-        return Step::Differs;
+        return None;
     }
     skip_piece(file, at + 1, end, p)
 }
 
 // The fields of the row, in the layout's order.
-fn skip_fields(l: Layout, file: &[u8], at: usize, end: usize, spans: [Span; 27]) -> Step
+fn skip_fields(l: Layout, file: &[u8], at: usize, end: usize, spans: [Span; 27]) -> Option<usize>
     requires { (at ≤ end) × (end ≤ length file.now) × Placed (size_of l) file.now spans }
     ensures { result ≡ step_of file.now at end (row_text (map (text_at (column_in (size_of l) file.now spans)) (row_fields l))) }
 {
     let n = layout::row::size(l);
-    let Step::To(first) = skip_piece(file, at, end, spans[1]) else {
-        return Step::Differs;
+    let Some(first) = skip_piece(file, at, end, spans[1]) else {
+        return None;
     };
     let mut p = first;
-    let mut i = 1;
-    while i < n {
+    for i in 1..n {
         let k = layout::row::field(l, i);
-        let Step::To(next) = skip_mark(file, p, end, spans[k]) else {
-            return Step::Differs;
+        let Some(next) = skip_mark(file, p, end, spans[k]) else {
+            return None;
         };
         p = next;
-        i += 1;
     }
-    Step::To(p)
+    Some(p)
 }
 
 // The two half-bands of SR, trimmed: what stands before the first `;` of the value, and what stands after it.
-fn skip_halves(file: &[u8], at: usize, end: usize, p: Span) -> Step
+fn skip_halves(file: &[u8], at: usize, end: usize, p: Span) -> Option<usize>
     requires { (at ≤ end) × (end ≤ length file.now) × (p.from ≤ p.to) × (p.to ≤ length file.now) }
     ensures { result ≡ step_of file.now at end (tail_text (trim (upto (is 59) (part_of file.now p)) ∷ trim (past (is 59) (part_of file.now p)) ∷ [])) }
 {
     let from = p.from as usize;
     let to = p.to as usize;
-    let cut = from + scan::first(&file[from..to], b';');
-    let Step::To(middle) = skip_mark(file, at, end, text_lines::trim_span(file, from, cut)) else {
-        return Step::Differs;
+    let cut = from + scan::first(p.text(file), b';');
+    let Some(middle) = skip_mark(file, at, end, text_lines::trim_span(file, from, cut)) else {
+        return None;
     };
     if cut == to {
         return skip_mark(
@@ -94,21 +85,13 @@ fn skip_halves(file: &[u8], at: usize, end: usize, p: Span) -> Step
 }
 
 // What stands in the row after the fields: SR's half-bands, and nothing in other layouts.
-fn skip_bands(l: Layout, file: &[u8], at: usize, end: usize, spans: [Span; 27]) -> Step
+fn skip_bands(l: Layout, file: &[u8], at: usize, end: usize, spans: [Span; 27]) -> Option<usize>
     requires { (at ≤ end) × (end ≤ length file.now) × Placed (size_of l) file.now spans }
     ensures { result ≡ step_of file.now at end (tail_text (bands_in l (column_in (size_of l) file.now spans))) }
 {
     match l {
         Layout::Secondary => skip_halves(file, at, end, spans[6]),
-        Layout::Market => Step::To(at),
-        Layout::Mfrr => Step::To(at),
-        Layout::Revocation => Step::To(at),
-        Layout::Generic => Step::To(at),
-        Layout::Exclusion => Step::To(at),
-        Layout::Limitation => Step::To(at),
-        Layout::VoltVar => Step::To(at),
-        Layout::Rejection => Step::To(at),
-        Layout::Reserve => Step::To(at),
+        _ => Some(at),
     }
 }
 
@@ -119,10 +102,10 @@ pub fn agrees(l: Layout, file: &[u8], row: Span, spans: [Span; 27]) -> bool
 {
     let start = row.from as usize;
     let end = row.to as usize;
-    let Step::To(a) = skip_fields(l, file, start, end, spans) else {
+    let Some(a) = skip_fields(l, file, start, end, spans) else {
         return false;
     };
-    let Step::To(b) = skip_bands(l, file, a, end, spans) else {
+    let Some(b) = skip_bands(l, file, a, end, spans) else {
         return false;
     };
     b == end

@@ -1,5 +1,6 @@
 -- What acceptance says of a file: no condition of refusals 2 to 10 holds, the row and the unit are the body's byte for byte, and the record is the body's.
 -- Assumes nothing.
+use Rattle.std.specs.Prelude.{None, Option, Some}
 use Prim.Native.Nat.{ℕ, ◌≤◌}
 use Rattle.layout.specs.Layouts.{labels_of}
 use Rattle.layout.specs.Rows.{text_at, row_of}
@@ -22,7 +23,6 @@ use lib.Dec.{ltb}
 use lib.ListN.{length}
 use mathlib.Core.Bool.{true, false, not}
 use mathlib.Core.List.{List, [], ◌∷◌}
-use mathlib.Core.Option.{Option, none, some}
 use mathlib.Core.Path.{◌≡◌, refl}
 use native.Mathlib.Omega.{arith}
 
@@ -31,7 +31,7 @@ pub record Accepted (t : MessageType) (unit file : List ℕ) : Type 0 where
   pub not_long : length file ≤ 8192
   pub clean : allowed_upto (accents_of t) file ≡ length file
   pub frame : framed (texts file) ≡ true
-  pub once : again [] (entries_in t file) ≡ none
+  pub once : again [] (entries_in t file) ≡ None
   pub complete : missing 1 (labels_of (layout_in t (given t file))) (entries_in t file) ≡ 0
   pub values : is_bad (values_of (layout_in t (given t file)) (body_column t file)) ≡ false
   pub rules : broken_in (record_in t file) ≡ 0
@@ -45,9 +45,9 @@ top (next e n) = e
 below : {x : Refusal} {xs : List Refusal} → NoneHolds (x ∷ xs) → NoneHolds xs
 below (next e n) = n
 
-not_there : (o : Option ℕ) → is_there o ≡ false → o ≡ none
-not_there none e = refl
-not_there (some k) e = cc
+not_there : (o : Option ℕ) → is_there o ≡ false → o ≡ None
+not_there None e = refl
+not_there (Some k) e = cc
 
 not_some : (n : ℕ) → ltb 0 n ≡ false → n ≡ 0
 not_some n e = omega (arith, ltb-false 0 n e)

@@ -1,6 +1,7 @@
 -- Files that say the same are answered alike, however their lines are ordered, spaced and ended, and whatever lines are passed over. The order alone asks that
 -- no label of the layout stands twice, since refusal 5 tells the first repeat from the top.
 -- Assumes nothing.
+use Rattle.std.specs.Prelude.{None, Option}
 use Prim.Native.Nat.{ℕ, suc, ◌-◌, ◌≤◌, ◌<◌}
 use Rattle.layout.specs.Layouts.{labels_of}
 use Rattle.layout.specs.declared.Layout.{Layout}
@@ -20,7 +21,7 @@ use Rattle.reader.specs.Messages.{given, row_in, is_kind_of_command, layout_in, 
 use Rattle.reader.specs.Reader.{Clean, Sound, labelled, reading, record_in, message_of}
 use Rattle.reader.specs.Refusals.{answer}
 use Rattle.text.specs.Refusals.{refusal}
-use Rattle.reader.specs.declared.Answer.{Answer}
+use Rattle.reader.specs.Refusals.{Answer}
 use Rattle.text.proofs.Cuts.{upto_seam, past_seam, upto_all, any_append, all_none}
 use Rattle.text.proofs.Tests.{and_parts, or_parts, within_tells}
 use Rattle.text.specs.Bytes.{any, all, is, is_plain, past, trim, upto}
@@ -30,7 +31,6 @@ use lib.Dec.{lit<}
 use lib.ListN.{length, get_or}
 use mathlib.Core.Bool.{Bool, true, false, not, ◌||◌, cond}
 use mathlib.Core.List.{List, [], ◌∷◌, ◌++◌, map, append_assoc, append-nil}
-use mathlib.Core.Option.{Option, none}
 use mathlib.Core.Path.{◌≡◌, refl, sym, ap, ap₂, ◌∙◌, subst}
 use native.Mathlib.Nat.{le_refl}
 use native.Mathlib.Omega.{arith}
@@ -56,7 +56,7 @@ sound_reading t unit file s = clean_reading t unit file (clean_of s) ∙ rw s.fr
 
 -- ---- ordered: the judgment depends on the entries by what stands and by the values alone
 
-labelled_same : (l : Layout) (unit row : List ℕ) {es gs : List Entry} → Perm es gs → again [] es ≡ none
+labelled_same : (l : Layout) (unit row : List ℕ) {es gs : List Entry} → Perm es gs → again [] es ≡ None
     → answer (labelled l unit row es) (column_record l (column 1 (labels_of l) es)) ≡ answer (labelled l unit row gs) (column_record l (column 1 (labels_of l) gs))
 unfolding labelled
 labelled_same l unit row {es} {gs} p h =
@@ -68,7 +68,7 @@ pub same_reading : (t : MessageType) (unit f g : List ℕ) → Sound t f → Sou
     → row_in f ≡ row_in g
     → layout_in t (given t f) ≡ layout_in t (given t g)
     → Perm (entries_in t f) (entries_in t g)
-    → again [] (entries_in t f) ≡ none
+    → again [] (entries_in t f) ≡ None
     → message_of t unit f ≡ message_of t unit g
 unfolding record_in
 same_reading t unit f g sf sg r l p h =
@@ -106,7 +106,7 @@ layout_perm Qr p = refl
 pub reordered : (t : MessageType) (unit f g : List ℕ) → Sound t f → Sound t g
     → row_in f ≡ row_in g
     → Perm (given t f) (given t g)
-    → again [] (entries_in t f) ≡ none
+    → again [] (entries_in t f) ≡ None
     → message_of t unit f ≡ message_of t unit g
 unfolding entries_in entries
 reordered t unit f g sf sg r p h =
@@ -116,12 +116,12 @@ reordered t unit f g sf sg r p h =
 
 -- ---- what is passed over, wherever it stands
 
-sift_past : {A B : Type 0} (f : A → Option B) (xs : List A) (x : A) (ys : List A) → f x ≡ none → sift f (xs ++ x ∷ ys) ≡ sift f (xs ++ ys)
+sift_past : {A B : Type 0} (f : A → Option B) (xs : List A) (x : A) (ys : List A) → f x ≡ None → sift f (xs ++ x ∷ ys) ≡ sift f (xs ++ ys)
 unfolding sift
 sift_past f [] x ys e = rw e
 sift_past f (y ∷ xs) x ys e = ap (onto (f y)) (sift_past f xs x ys e)
 
-no_entry : (ls : List (List ℕ)) (p : Param) → place_of ls p.label ≡ 0 → entry_of ls p ≡ none
+no_entry : (ls : List (List ℕ)) (p : Param) → place_of ls p.label ≡ 0 → entry_of ls p ≡ None
 unfolding entry_of
 no_entry ls p e = rw e
 

@@ -19,7 +19,7 @@ use Rattle.plan.specs.Plans.{plan_from, plan_of, look_up, sought_of}
 use Rattle.reader.specs.Messages.{given, row_in, layout_in, entries_in, values_of, column_record}
 use Rattle.reader.specs.Reader.{valued, labelled, reading, record_in, planned, answer_at, read_of}
 use Rattle.reader.specs.Refusals.{refused, accepted, answer}
-use Rattle.reader.specs.declared.Answer.{Answer}
+use Rattle.reader.specs.Refusals.{Answer}
 use Rattle.record.specs.Records.{joined, typed, cells_of, field_of, record_of}
 use Rattle.text_room.specs.Rooms.{kept_in}
 use Rattle.record_rules.specs.Rules.{in_order, rules_of, lowest, broken_in}

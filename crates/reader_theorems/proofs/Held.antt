@@ -1,5 +1,6 @@
 -- A column that was read by its kinds: each value is held by its kind, and the rooms of the record hold the texts of its values.
 -- Assumes nothing.
+use Rattle.std.specs.Prelude.{None, Option, Some}
 use Prim.Native.Nat.{ℕ, zero, suc, ◌≤◌, ◌<◌}
 use Rattle.reader_fill.proofs.Gradients.{none_there}
 use Rattle.reader_fill.proofs.Records.{not_good, good_is}
@@ -8,8 +9,7 @@ use Rattle.layout.proofs.Labels.{kinds_length, kind_at_lem}
 use Rattle.layout.specs.Layouts.{kinds_of, no_kind, type_of}
 use Rattle.layout.specs.Rows.{text_at}
 use Rattle.layout.specs.declared.Layout.{Layout}
-use Rattle.value_list.specs.Forms.{no_triple, gradients_in}
-use Rattle.value_list.specs.declared.GradientsRead.{GradientsRead}
+use Rattle.value_list.specs.Forms.{no_triple, gradients_in, kept_triples}
 use Rattle.value_name.proofs.RoundTrip.{unit_size}
 use Rattle.value_name.specs.Names.{is_unit}
 use Rattle.value_name.specs.declared.MessageType.{MessageType}
@@ -28,8 +28,6 @@ use Rattle.record_valid.specs.Valid.HoldAll.{end as ends, next as nexts}
 use Rattle.value.proofs.Fit.{InRoom, Stored, value_fits}
 use Rattle.value.specs.Kinds.{shape_of, value_of}
 use Rattle.value.specs.Texts.{Rooms, value_text}
-use Rattle.value.specs.declared.Got.{Got}
-use Rattle.value.specs.declared.Got.TheVariants.{Read, Bad}
 use Rattle.value.specs.declared.Kind.{Kind}
 use Rattle.value.specs.declared.Shape.{Shape}
 use Rattle.value.specs.declared.Shape.TheVariants.{IsUnit, IsReason, IsNote}
@@ -50,14 +48,14 @@ use native.Mathlib.Omega.{arith}
 pub data ReadAll : List Kind → List (List ℕ) → List Value → Type 0 where
   end : {ts : List (List ℕ)} → ReadAll [] ts []
   next : {d : Kind} {ds : List Kind} {s : List ℕ} {ts : List (List ℕ)} {v : Value} {vs : List Value}
-      → value_of d s ≡ Read v → ReadAll ds ts vs → ReadAll (d ∷ ds) (s ∷ ts) (v ∷ vs)
+      → value_of d s ≡ Some v → ReadAll ds ts vs → ReadAll (d ∷ ds) (s ∷ ts) (v ∷ vs)
 
-joined_read : (k : ℕ) (d : Kind) (ds : List Kind) (s : List ℕ) (ts : List (List ℕ)) (vs : List Value) (g : Got) (t : Typed)
+joined_read : (k : ℕ) (d : Kind) (ds : List Kind) (s : List ℕ) (ts : List (List ℕ)) (vs : List Value) (g : Option Value) (t : Typed)
     → value_of d s ≡ g → joined k g t ≡ good vs → ((ws : List Value) → t ≡ good ws → ReadAll ds ts ws) → ReadAll (d ∷ ds) (s ∷ ts) vs
 unfolding joined
-joined_read k d ds s ts vs Bad t q e f = absurd (not_good e)
-joined_read k d ds s ts vs (Read v) (bad j) q e f = absurd (not_good e)
-joined_read k d ds s ts vs (Read v) (good ws) q e f = subst (ReadAll (d ∷ ds) (s ∷ ts)) (good_is e) (next q (f ws refl))
+joined_read k d ds s ts vs None t q e f = absurd (not_good e)
+joined_read k d ds s ts vs (Some v) (bad j) q e f = absurd (not_good e)
+joined_read k d ds s ts vs (Some v) (good ws) q e f = subst (ReadAll (d ∷ ds) (s ∷ ts)) (good_is e) (next q (f ws refl))
 
 pub read_all : (k : ℕ) (ds : List Kind) (ts : List (List ℕ)) (vs : List Value) → typed k ds ts ≡ good vs → ReadAll ds ts vs
 unfolding typed
@@ -67,7 +65,7 @@ read_all k (d ∷ ds) (s ∷ ts) vs e =
     joined_read k d ds s ts vs (value_of d s) (typed (suc k) ds ts) refl e (λ ws q. read_all (suc k) ds ts ws q)
 
 pub read_at : {ds : List Kind} {ts : List (List ℕ)} {vs : List Value} → ReadAll ds ts vs → (j : ℕ) → j < length ds
-    → value_of (get_or ds j no_kind) (get_or ts j []) ≡ Read (get_or vs j Blank)
+    → value_of (get_or ds j no_kind) (get_or ts j []) ≡ Some (get_or vs j Blank)
 read_at end j h = absurd (omega arith)
 read_at (next e a) zero h = e
 read_at (next e a) (suc j) h = read_at a j (omega arith)
@@ -86,10 +84,10 @@ hold_all t r (next {d} {ds} {s} {ts} {v} {vs} e a) h f =
 abbrev KeptAs : MessageType → Rooms → ℕ → List ℕ → Value → Type 0
 KeptAs t r n s v = (length s ≤ n) × (value_text t r v ≡ s)
 
-read_is : {a v : Value} → Read a ≡ Read v → a ≡ v
+read_is : {a v : Value} → Some a ≡ Some v → a ≡ v
 read_is e = cc
 
-not_read : {v : Value} → Bad ≡ Read v → ⊥
+not_read : {v : Value} → None ≡ Some v → ⊥
 not_read e = let z : ◌≡◌ {A = ℕ} 0 1 = cc in omega arith
 
 empty_is : (s : List ℕ) → length s ≡ 0 → s ≡ []
@@ -97,36 +95,36 @@ empty_is [] e = refl
 empty_is (b ∷ s) e = absurd (omega (arith, e))
 
 module _ (t : MessageType) (r : Rooms) (s : List ℕ) (v : Value) where
-  blank_kept : (n : ℕ) → length s ≡ 0 → Read Blank ≡ Read v → KeptAs t r n s v
+  blank_kept : (n : ℕ) → length s ≡ 0 → Some Blank ≡ Some v → KeptAs t r n s v
   unfolding value_text
   blank_kept n z e = (omega (arith, z), subst (λ (w : Value). value_text t r w ≡ s) (read_is e) (sym (empty_is s z)))
 
   -- a text that its test lets stand
-  made_kept : (n : ℕ) (b : Bool) (a : Value) → cond b (Read a) Bad ≡ Read v → (b ≡ true → KeptAs t r n s a) → KeptAs t r n s v
+  made_kept : (n : ℕ) (b : Bool) (a : Value) → cond b (Some a) None ≡ Some v → (b ≡ true → KeptAs t r n s a) → KeptAs t r n s v
   made_kept n true a e f = subst (KeptAs t r n s) (read_is e) (f refl)
   made_kept n false a e f = absurd (not_read e)
 
   -- blank or not
-  kind_kept : (n : ℕ) (k : Kind) (a : Shape) → k.shape ≡ a → value_of k s ≡ Read v → (shape_of a s ≡ Read v → KeptAs t r n s v) → KeptAs t r n s v
+  kind_kept : (n : ℕ) (k : Kind) (a : Shape) → k.shape ≡ a → value_of k s ≡ Some v → (shape_of a s ≡ Some v → KeptAs t r n s v) → KeptAs t r n s v
   unfolding value_of
   kind_kept n k a q e f =
       by_test (k.blank && eqb (length s) 0)
       (λ b. blank_kept n (eqb-true (length s) 0 (and_parts k.blank (eqb (length s) 0) b).1) (rw b at e))
       (λ b. f (rw (b, q) at e))
 
-  unit_kept : (k : Kind) → k.shape ≡ IsUnit → value_of k s ≡ Read v → InRoom 16 r.unit s → KeptAs t r 16 s v
+  unit_kept : (k : Kind) → k.shape ≡ IsUnit → value_of k s ≡ Some v → InRoom 16 r.unit s → KeptAs t r 16 s v
   unfolding shape_of value_text
   unit_kept k q e i =
       kind_kept 16 k IsUnit q e
       (λ z. made_kept 16 (is_unit s) (UnitOf (length s)) z (λ u. let h = (unit_size s u).1 in (h, i.front h)))
 
-  reason_kept : (k : Kind) → k.shape ≡ IsReason → value_of k s ≡ Read v → InRoom 128 r.reason s → KeptAs t r 128 s v
+  reason_kept : (k : Kind) → k.shape ≡ IsReason → value_of k s ≡ Some v → InRoom 128 r.reason s → KeptAs t r 128 s v
   unfolding shape_of value_text
   reason_kept k q e i =
       kind_kept 128 k IsReason q e
       (λ z. made_kept 128 (leb (length s) 128) (Reason (length s)) z (λ u. let h = leb-true (length s) 128 u in (h, i.front h)))
 
-  note_kept : (k : Kind) → k.shape ≡ IsNote → value_of k s ≡ Read v → InRoom 256 r.note s → KeptAs t r 256 s v
+  note_kept : (k : Kind) → k.shape ≡ IsNote → value_of k s ≡ Some v → InRoom 256 r.note s → KeptAs t r 256 s v
   unfolding shape_of value_text
   note_kept k q e i =
       kind_kept 256 k IsNote q e
@@ -139,8 +137,8 @@ map_at f e [] j = sym e
 map_at f e (v ∷ vs) zero = refl
 map_at f e (v ∷ vs) (suc j) = map_at f e vs j
 
-pub no_gradients : (col : List (List ℕ)) (k : ℕ) → k ≡ 0 → (gradients_in (text_at col k)).list.values ≡ replicate 16 no_triple
-no_gradients col k e = ap (λ (g : GradientsRead). g.list.values) (sym (none_there col k k refl e))
+pub no_gradients : (col : List (List ℕ)) (k : ℕ) → k ≡ 0 → kept_triples (gradients_in (text_at col k)) ≡ replicate 16 no_triple
+no_gradients col k e = ap kept_triples (sym (none_there col k k refl e))
 
 kept_empty : (n : ℕ) → kept_in n [] ≡ room_of n []
 unfolding kept_in
@@ -165,7 +163,7 @@ module _ (l : Layout) (col : List (List ℕ)) (vs : List Value) (read : typed 1 
 
   -- a field whose text is kept in a room of n bytes
   abbrev KeptAt : ℕ → Shape → ℕ → Type 0
-  KeptAt n a k = (d : Kind) (v : Value) → d.shape ≡ a → value_of d (text_at col k) ≡ Read v → KeptAs (type_of l) room n (text_at col k) v
+  KeptAt n a k = (d : Kind) (v : Value) → d.shape ≡ a → value_of d (text_at col k) ≡ Some v → KeptAs (type_of l) room n (text_at col k) v
 
   -- its text is short, and is the text of its value
   kept_at : (n : ℕ) (a : Shape) (k : ℕ) → At l a k → KeptAt n a k → (length (text_at col k) ≤ n) × (text_at (texts_of body vs) k ≡ text_at col k)

@@ -9,7 +9,7 @@ use Rattle.reader.specs.Messages.{given, row_in, layout_in, places_of, values_of
 use Rattle.reader.specs.Reader.{body_column, unit_in, read_of}
 use Rattle.reader.specs.Readings.{reading_of}
 use Rattle.reader.specs.State.{column_at, concluded}
-use Rattle.reader.specs.declared.Reading.{Reading}
+use Rattle.reader.specs.Readings.{ReadingSaid}
 use Rattle.reader_fill.specs.Filled.{record_with}
 use Rattle.reader_theorems.proofs.Agreed.{Accepted}
 use Rattle.reader_theorems.proofs.Validity.{read_accepted}
@@ -26,7 +26,7 @@ use mathlib.Core.List.{List}
 use mathlib.Core.Path.{◌≡◌, refl, sym, ap, ◌∙◌, subst}
 use native.Mathlib.Omega.{arith}
 
-pub record Reads (ca ioa : ℕ) (plan file : List ℕ) (x : Reading) : Type 0 where
+pub record Reads (ca ioa : ℕ) (plan file : List ℕ) (x : ReadingSaid) : Type 0 where
   pub places_are : x.number ≡ 0 → x.places ≡ places_of x.layout file
   pub placed : x.number ≡ 0 → Placed (size_of x.layout) file x.places
   pub readable : x.number ≡ 0 → is_bad (values_of x.layout (column_at x.layout file x.places)) ≡ false
@@ -43,11 +43,11 @@ row_there file f =
     let one = eqb-true (length (inside (texts file))) 1 (and_parts (eqb (seps (texts file)) 2) (eqb (length (inside (texts file))) 1) f).1 in
     text_row_in file (λ z. omega (arith, one, z))
 
-module _ (c i : ℕ) (plan file : List ℕ) (x : Reading) (is : x ≡ reading_of c i plan file) where
+module _ (c i : ℕ) (plan file : List ℕ) (x : ReadingSaid) (is : x ≡ reading_of c i plan file) where
   -- where it is no refusal, the reader's answer is none
   none_refused : x.number ≡ 0 → (read_of c i plan file).number ≡ 0
   none_refused e =
-      by_eq (read_of c i plan file).number 0 (λ z. z) (λ n. absurd (n (sym (ap (λ (y : Reading). y.number) (is ∙ reading_no c i plan file n)) ∙ e)))
+      by_eq (read_of c i plan file).number 0 (λ z. z) (λ n. absurd (n (sym (ap (λ (y : ReadingSaid). y.number) (is ∙ reading_no c i plan file n)) ∙ e)))
 
   module _ (e : x.number ≡ 0) where
     z : (read_of c i plan file).number ≡ 0
@@ -57,29 +57,29 @@ module _ (c i : ℕ) (plan file : List ℕ) (x : Reading) (is : x ≡ reading_of
     taken_is = is ∙ reading_yes c i plan file z
 
     places_here : x.places ≡ places_of x.layout file
-    places_here = ap (λ (y : Reading). y.places) taken_is ∙ ap (λ (y : Reading). places_of y.layout file) (sym taken_is)
+    places_here = ap (λ (y : ReadingSaid). y.places) taken_is ∙ ap (λ (y : ReadingSaid). places_of y.layout file) (sym taken_is)
 
     told : Accepted (sought_of c i (plan_of plan)).message (unit_in (sought_of c i (plan_of plan))) file
     told = read_accepted c i plan file z
 
     layout_here : x.layout ≡ layout_in (sought_of c i (plan_of plan)).message (given (sought_of c i (plan_of plan)).message file)
-    layout_here = ap (λ (y : Reading). y.layout) taken_is ∙ layout_is c i plan file z
+    layout_here = ap (λ (y : ReadingSaid). y.layout) taken_is ∙ layout_is c i plan file z
 
     column_here : column_at x.layout file x.places ≡ body_column (sought_of c i (plan_of plan)).message file
-    column_here = ap (λ (y : Reading). column_at y.layout file y.places) taken_is ∙ column_is c i plan file z
+    column_here = ap (λ (y : ReadingSaid). column_at y.layout file y.places) taken_is ∙ column_is c i plan file z
 
     readable : is_bad (values_of x.layout (column_at x.layout file x.places)) ≡ false
     readable = rw (column_here, layout_here) told.values
 
     own_row : HoldsText file x.row (row_of x.layout (column_at x.layout file x.places))
     own_row =
-        rw (ap (λ (y : Reading). y.row) taken_is, column_here, layout_here)
+        rw (ap (λ (y : ReadingSaid). y.row) taken_is, column_here, layout_here)
         (subst (HoldsText file (row_place file)) told.row_is (row_there file told.frame))
 
     its_content : record_with x.layout (column_at x.layout file x.places) x.cells x.gradients
         ≡ column_record x.layout (column_at x.layout file x.places)
     its_content =
-        ap (λ (y : Reading). record_with y.layout (column_at y.layout file y.places) y.cells y.gradients) taken_is
+        ap (λ (y : ReadingSaid). record_with y.layout (column_at y.layout file y.places) y.cells y.gradients) taken_is
         ∙ record_is c i plan file z ∙ content_is c i plan file z ∙ rw (column_here, layout_here) refl
 
   pub reads_of : Reads c i plan file x

@@ -1,5 +1,7 @@
 -- Every refusal number is at most 13 and every detail fits 16 bits: the host's entries answer 65,536 times the number plus the detail.
 -- Assumes nothing.
+use Rattle.value.specs.declared.Value.{Value}
+use Rattle.std.specs.Prelude.{None, Option, Some}
 use Prim.Native.Nat.{ℕ, zero, suc, ◌+◌, ◌*◌, ◌≤◌, ◌<◌}
 use Rattle.layout.proofs.Labels.{few, labels_length, kinds_length}
 use Rattle.layout.specs.Layouts.{labels_of, kinds_of}
@@ -28,18 +30,13 @@ use Rattle.record_rules.specs.Rules.{Rule, rules_of, lowest, broken_in}
 use Rattle.text.proofs.Tests.{by_test, and_parts, within_tells, cond_le}
 use Rattle.text.specs.Bytes.{any, all, is, same, within}
 use Rattle.text.specs.Lists.{count, sift}
-use Rattle.text.specs.declared.digits.Digits.{Digits}
-use Rattle.text.specs.declared.digits.Digits.TheVariants.{Are, Not}
 use Rattle.value.specs.Kinds.{value_of}
-use Rattle.value.specs.declared.Got.{Got}
-use Rattle.value.specs.declared.Got.TheVariants.{Read, Bad}
 use Rattle.value.specs.declared.Kind.{Kind}
 use borrow.Author.Tests.{leb-true, ltb-true, not-false}
 use lib.Dec.{eqb, leb, ltb}
 use lib.ListN.{length, length-map}
 use mathlib.Core.Bool.{Bool, true, false, not, cond}
 use mathlib.Core.List.{List, [], ◌∷◌, map}
-use mathlib.Core.Option.{Option, none, some}
 use mathlib.Core.Path.{◌≡◌, refl}
 use native.Mathlib.Omega.{arith}
 
@@ -66,11 +63,11 @@ numbers_low (x ∷ xs) r h =
 
 -- ---- 7, a field of the layout
 
-joined_le : (k n : ℕ) (g : Got) (t : Typed) → k ≤ n → bad_of t ≤ n → bad_of (joined k g t) ≤ n
+joined_le : (k n : ℕ) (g : Option Value) (t : Typed) → k ≤ n → bad_of t ≤ n → bad_of (joined k g t) ≤ n
 unfolding joined
-joined_le k n Bad t h j = h
-joined_le k n (Read v) (bad i) h j = j
-joined_le k n (Read v) (good vs) h j = j
+joined_le k n None t h j = h
+joined_le k n (Some v) (bad i) h j = j
+joined_le k n (Some v) (good vs) h j = j
 
 typed_le : (k : ℕ) (ds : List Kind) (ts : List (List ℕ)) → bad_of (typed k ds ts) ≤ k + length ds
 unfolding typed
@@ -193,14 +190,14 @@ bad_line (good_row r) = 0
 bad_line (bad_row k) = k
 
 named_le : (c i : ℕ) (u : Option (List ℕ)) (t : Option MessageType) → bad_line (row_named c i u t) ≤ 3
-named_le c i none t = omega arith
-named_le c i (some u) none = omega arith
-named_le c i (some u) (some t) = omega arith
+named_le c i None t = omega arith
+named_le c i (Some u) None = omega arith
+named_le c i (Some u) (Some t) = omega arith
 
-begun_le : (above : List Row) (c i : Digits) (u : Option (List ℕ)) (t : Option MessageType) → bad_line (begun above c i u t) ≤ 3
-begun_le above Not i u t = omega arith
-begun_le above (Are c) Not u t = omega arith
-begun_le above (Are c) (Are i) u t = by_test (any (is_at c i) above) (λ e. rw e (omega arith)) (λ e. rw e (named_le c i u t))
+begun_le : (above : List Row) (c i : Option ℕ) (u : Option (List ℕ)) (t : Option MessageType) → bad_line (begun above c i u t) ≤ 3
+begun_le above None i u t = omega arith
+begun_le above (Some c) None u t = omega arith
+begun_le above (Some c) (Some i) u t = by_test (any (is_at c i) above) (λ e. rw e (omega arith)) (λ e. rw e (named_le c i u t))
 
 row_le : (above : List Row) (s : List ℕ) → bad_line (row_at above s) ≤ 3
 unfolding row_at

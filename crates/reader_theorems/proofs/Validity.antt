@@ -7,13 +7,13 @@ use Rattle.text_lines.proofs.Tidy.{column_tidy}
 use Rattle.text_lines.specs.Lines.{allowed_upto}
 use Rattle.value_name.specs.declared.MessageType.{MessageType}
 use Rattle.plan.specs.Plans.{plan_of, sought_of}
-use Rattle.plan.specs.declared.Sought.{Sought}
+use Rattle.plan.specs.Plans.{SoughtSaid}
 use Rattle.reader_theorems.proofs.Agreed.{Accepted, accepted}
 use Rattle.reader.proofs.Firsts.{accepted_none, numbers, answer_no}
 use Rattle.reader_theorems.proofs.Held.{record_valid}
 use Rattle.reader.specs.Messages.{given, layout_in, entries_in, values_of, is_bad, good_of, column_record}
 use Rattle.reader.specs.Reader.{body_column, record_in, message_of, planned, answer_at, read_of, unit_in}
-use Rattle.reader.specs.declared.Answer.{Answer}
+use Rattle.reader.specs.Refusals.{Answer}
 use Rattle.record.specs.Records.{Typed}
 use Rattle.record.specs.Records.Typed.{bad, good}
 use Rattle.record_rules.specs.Rules.{broken_in}
@@ -57,13 +57,13 @@ accepted_valid t unit file h =
 
 -- ---- the whole reader: what is accepted met neither refusal of the plan, so it is a message
 
-pub message_at : (s : Sought) (file : List ℕ) → NoneHolds (planned s file) → answer_at s file ≡ message_of s.message (unit_in s) file
+pub message_at : (s : SoughtSaid) (file : List ℕ) → NoneHolds (planned s file) → answer_at s file ≡ message_of s.message (unit_in s) file
 unfolding answer_at planned message_of
 message_at s file (next no_13 (next no_1 n)) =
     answer_no 13 s.detail (eqb s.number 13) _ (record_in s.message file) no_13
     ∙ answer_no 1 0 (eqb s.number 1) _ (record_in s.message file) no_1
 
-at_accepted : (s : Sought) (file : List ℕ) → (answer_at s file).number ≡ 0
+at_accepted : (s : SoughtSaid) (file : List ℕ) → (answer_at s file).number ≡ 0
     → Accepted s.message (unit_in s) file × (answer_at s file ≡ message_of s.message (unit_in s) file)
 unfolding answer_at
 at_accepted s file h =
@@ -75,7 +75,7 @@ pub read_accepted : (ca ioa : ℕ) (plan file : List ℕ) → (read_of ca ioa pl
 unfolding read_of
 read_accepted ca ioa plan file h = (at_accepted (sought_of ca ioa (plan_of plan)) file h).0
 
-at_valid : (s : Sought) (file : List ℕ) → (answer_at s file).number ≡ 0 → Valid (answer_at s file).content
+at_valid : (s : SoughtSaid) (file : List ℕ) → (answer_at s file).number ≡ 0 → Valid (answer_at s file).content
 at_valid s file h =
     let a = at_accepted s file h in
     subst (λ (x : Answer). Valid x.content) (sym (a.1 ∙ a.0.answered)) (body_in s.message (unit_in s) file a.0)

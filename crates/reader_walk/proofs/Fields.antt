@@ -1,4 +1,5 @@
 -- What the marks and the places of a list of labels say after one field's line more. Assumes nothing.
+use Rattle.std.specs.Prelude.{None, Option, Some}
 use Prim.Native.Nat.{ℕ, suc, ◌+◌, ◌-◌, ◌^◌, ◌≤◌, ◌<◌}
 use Rattle.text_lines.proofs.Bits.{seen_bit, seen_less, seen_old, seen_new}
 use Rattle.text_lines.proofs.Spots.{entry_at, entries_at, entries_more, place_old, place_new, place_other}
@@ -18,7 +19,6 @@ use lib.ListN.{length, get_or, set, length-set}
 use lib.Seq.{get_or-set_same, get_or-set_other}
 use mathlib.Core.Bool.{Bool, true, false, cond}
 use mathlib.Core.List.{List, [], ◌∷◌, ◌++◌, append-nil}
-use mathlib.Core.Option.{Option, none, some}
 use mathlib.Core.Path.{◌≡◌, refl, sym, ap, ap₂, ◌∙◌, subst}
 use native.Mathlib.Nat.{lt_of_lt_of_le, pow-le-pow_right}
 use native.Mathlib.Omega.{arith}
@@ -27,8 +27,8 @@ use native.Mathlib.Omega.{arith}
 
 -- the number of a field that is there, 0 where none is
 abbrev pub IsNumber : ℕ → Option ℕ → Type 0
-IsNumber n none = n ≡ 0
-IsNumber n (some k) = (n ≡ k) × (1 ≤ k)
+IsNumber n None = n ≡ 0
+IsNumber n (Some k) = (n ≡ k) × (1 ≤ k)
 
 -- of a list of labels, after the lines with these fields: the labels seen as bits, the first repeat, and each field's place
 pub record Kept (file : List ℕ) (ls : List (List ℕ)) (m : Marks) (spans : List Span) (es : List Spot) : Type 0 where
@@ -56,17 +56,17 @@ module _ (file : List ℕ) (ls : List (List ℕ)) (m : Marks) (spans : List Span
       rw f.seen (lt_of_lt_of_le (seen_less ls (entries_at file es)) (pow-le-pow_right two h))
 
   number_is : (n : ℕ) (o : Option ℕ) → IsNumber n o → n ≡ or_zero o
-  number_is n none e = e
-  number_is n (some k) e = e.0
+  number_is n None e = e
+  number_is n (Some k) e = e.0
 
   pub marks_are : m ≡ marks_of ls (entries_at file es)
   unfolding marks_of
   marks_are = ap₂ (λ (s a : ℕ). record { seen = s; again = a }) f.seen (number_is m.again (again [] (entries_at file es)) f.repeat)
 
 -- the number of the first repeat, after a repeat of k
-number_more : (n k : ℕ) (o : Option ℕ) → 1 ≤ k → IsNumber n o → IsNumber (cond (eqb n 0) k n) (first o (some k))
-number_more n k none h e = rw e (refl, h)
-number_more n k (some j) h e = rw (ne_eqb n 0 (λ z. omega (arith, z, e.0, e.1))) e
+number_more : (n k : ℕ) (o : Option ℕ) → 1 ≤ k → IsNumber n o → IsNumber (cond (eqb n 0) k n) (first o (Some k))
+number_more n k None h e = rw e (refl, h)
+number_more n k (Some j) h e = rw (ne_eqb n 0 (λ z. omega (arith, z, e.0, e.1))) e
 
 -- ---- one line more
 

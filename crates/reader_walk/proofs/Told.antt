@@ -1,5 +1,6 @@
 -- What the walk's answer tells of the file: the frame, the row, and of each list of labels the first repeat, what is missing, and the column of values.
 -- Assumes nothing.
+use Rattle.std.specs.Prelude.{None, Option, Some}
 use Prim.Native.Nat.{ℕ, suc, ◌+◌, ◌-◌, ◌≤◌, ◌<◌}
 use Rattle.reader_accent.specs.Accents.{accents_of}
 use Rattle.reader_line.specs.Items.{first_labels, second_labels}
@@ -28,7 +29,6 @@ use lib.ListN.{length, get_or, take, drop}
 use lib.Seq.{drop-cons}
 use mathlib.Core.Bool.{true, ◌&&◌}
 use mathlib.Core.List.{List, [], ◌∷◌, map}
-use mathlib.Core.Option.{Option, none, some}
 use mathlib.Core.Path.{◌≡◌, refl, sym, ap, ap₂, ◌∙◌, subst}
 use native.Mathlib.Omega.{arith}
 
@@ -113,13 +113,13 @@ module _ (t : MessageType) (file : List ℕ) (r : Found) (w : r ≡ found_of t f
 
 -- ---- of a layout
 
-number_none : (n : ℕ) (o : Option ℕ) → IsNumber n o → n ≡ 0 → o ≡ none
-number_none n none h e = refl
-number_none n (some k) h e = absurd (omega (arith, e, h.0, h.1))
+number_none : (n : ℕ) (o : Option ℕ) → IsNumber n o → n ≡ 0 → o ≡ None
+number_none n None h e = refl
+number_none n (Some k) h e = absurd (omega (arith, e, h.0, h.1))
 
-number_some : (n : ℕ) (o : Option ℕ) → IsNumber n o → (n ≡ 0 → ⊥) → o ≡ some n
-number_some n none h e = absurd (e h)
-number_some n (some k) h e = ap some (sym h.0)
+number_some : (n : ℕ) (o : Option ℕ) → IsNumber n o → (n ≡ 0 → ⊥) → o ≡ Some n
+number_some n None h e = absurd (e h)
+number_some n (Some k) h e = ap Some (sym h.0)
 
 -- the texts at the places of the fields from k on
 column_from : (file : List ℕ) (spans : List Span) (es : List Entry) (k : ℕ) (ls : List (List ℕ)) → k + length ls ≤ length spans
@@ -133,10 +133,10 @@ column_from file spans es k (l ∷ ls) h v =
     (column_from file spans es (suc k) ls (omega (arith, h)) (λ j a b. v j (omega arith) (omega (arith, b)))))
 
 module _ (file : List ℕ) (ls : List (List ℕ)) (m : Marks) (spans : List Span) (es : List Entry) (f : Fields file ls m spans es) where
-  pub repeat_none : m.again ≡ 0 → again [] es ≡ none
+  pub repeat_none : m.again ≡ 0 → again [] es ≡ None
   repeat_none e = number_none m.again (again [] es) f.repeat e
 
-  pub repeat_some : (m.again ≡ 0 → ⊥) → again [] es ≡ some m.again
+  pub repeat_some : (m.again ≡ 0 → ⊥) → again [] es ≡ Some m.again
   repeat_some e = number_some m.again (again [] es) f.repeat e
 
   pub seen_le : ones m.seen ≤ length ls

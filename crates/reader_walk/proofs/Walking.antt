@@ -1,4 +1,5 @@
 -- The walk's invariant: what it has passed and what is left make the whole; its begin, its turn, and its two ends. Assumes nothing.
+use Rattle.std.specs.Prelude.{None, Option, Some}
 use Prim.Native.Nat.{ℕ, zero, suc, ◌+◌, ◌-◌, ◌≤◌, ◌<◌}
 use Rattle.reader_accent.proofs.Table.{accents_good}
 use Rattle.reader_accent.specs.Accents.{accents_of}
@@ -14,7 +15,6 @@ use Rattle.text_lines.specs.Mask.{mask_of}
 use Rattle.text_lines.specs.Places.{no_span, line_run, break_of}
 use Rattle.text_lines.specs.Spellings.{Spelling}
 use Rattle.text_lines.specs.Spots.{LineAt, line_if, lines_from, lines_in, row_span, row_place, Spot, spots, place_at, places_from, places_in}
-use Rattle.text_lines.specs.declared.Break.TheVariants.{After, Bad}
 use Rattle.text_lines.specs.declared.Span.{Span}
 use Rattle.value_name.specs.declared.MessageType.{MessageType}
 use Rattle.text.proofs.Tests.{by_test, by_le, cond_le}
@@ -33,7 +33,6 @@ use lib.ListN.{length, get_or, set, replicate, drop, length-take, length-drop, l
 use lib.Seq.{drop-drop, get_or-set_same, get_or-set_other}
 use mathlib.Core.Bool.{Bool, true, false, cond}
 use mathlib.Core.List.{List, [], ◌∷◌, ◌++◌, map, append_assoc, append-nil}
-use mathlib.Core.Option.{Option, none, some}
 use mathlib.Core.Path.{◌≡◌, refl, sym, ap, ap₂, ◌∙◌}
 use native.Mathlib.Omega.{arith}
 
@@ -50,7 +49,7 @@ module _ (sp : List Spelling) (good : all_good sp ≡ true) (s : List ℕ) (at e
   left : break_of (drop (line_run sp (drop at s)) (drop at s)) ≡ break_of (drop end s)
   left = ap break_of (drop-drop (line_run sp (drop at s)) at s) ∙ ap (λ (j : ℕ). break_of (drop j s)) (sym e)
 
-  module _ (n : ℕ) (g : After n ≡ break_of (drop end s)) where
+  module _ (n : ℕ) (g : Some n ≡ break_of (drop end s)) where
     pub past_near : end + n ≤ length s
     past_near = omega (arith, end_near, break_length (drop end s) n (sym g), length-drop end s)
 
@@ -174,8 +173,8 @@ set_back file ls m spans es f =
 -- ---- one turn
 
 onto_append : {B : Type 0} (o : Option B) (xs ys : List B) → (xs ++ onto o []) ++ ys ≡ xs ++ onto o ys
-onto_append none xs ys = ap (λ (l : List _). l ++ ys) (append-nil xs)
-onto_append (some y) xs ys = append_assoc xs (y ∷ []) ys
+onto_append None xs ys = ap (λ (l : List _). l ++ ys) (append-nil xs)
+onto_append (Some y) xs ys = append_assoc xs (y ∷ []) ys
 
 item_separator : (t : MessageType) (n at : ℕ) (l : List ℕ) → (item_in (accents_of t) t n at l).separator ≡ is_sep (trim l)
 unfolding item_in fielded
@@ -205,7 +204,7 @@ module _ (t : MessageType) (s : List ℕ) (at : ℕ) (f : Frame) (m : Marks) (sp
   pub second_small : o.seen < 67108864
   second_small = seen_small s (second_labels t) o others (spots (accents_of t) (second_labels t) w.done) w.walked.second (second_few t)
 
-  turn : (end n : ℕ) (i : Item) → at < length s → end ≡ at + line_run (accents_of t) (drop at s) → After n ≡ break_of (drop end s)
+  turn : (end n : ℕ) (i : Item) → at < length s → end ≡ at + line_run (accents_of t) (drop at s) → Some n ≡ break_of (drop end s)
       → i ≡ item_in (accents_of t) t f.seps at (line_from (accents_of t) s at)
       → Sofar t s (end + n) (frame_of f i.separator i.value) (noted_of m i.first).marks (set spans (noted_of m i.first).into i.value)
       (noted_of o i.second).marks (set others (noted_of o i.second).into i.value)
@@ -234,7 +233,7 @@ module _ (t : MessageType) (s : List ℕ) (at : ℕ) (f : Frame) (m : Marks) (sp
       }
 
   -- the same of what the code has
-  pub turned : (n : ℕ) (i : Item) (g : Frame) (a b : Noted) → at < length s → i ≡ item_of t s at f.seps → After n ≡ break_of (drop i.end s)
+  pub turned : (n : ℕ) (i : Item) (g : Frame) (a b : Noted) → at < length s → i ≡ item_of t s at f.seps → Some n ≡ break_of (drop i.end s)
       → g ≡ frame_of f i.separator i.value → a ≡ noted_of m i.first → b ≡ noted_of o i.second
       → Sofar t s (i.end + n) g a.marks (set spans a.into i.value) b.marks (set others b.into i.value)
   turned n i g a b h it br p q r = rw (p, q, r) (turn i.end n i h (end_is t s at f.seps i it) br (item_is t s at f.seps i it))
@@ -242,8 +241,8 @@ module _ (t : MessageType) (s : List ℕ) (at : ℕ) (f : Frame) (m : Marks) (sp
   -- ---- the two ends
 
   -- a byte that is not allowed: nothing is handed out
-  module _ (end : ℕ) (h : at < length s) (e : end ≡ at + line_run (accents_of t) (drop at s)) (g : Bad ≡ break_of (drop end s)) where
-    bad : break_of (drop (line_run (accents_of t) (drop at s)) (drop at s)) ≡ Bad
+  module _ (end : ℕ) (h : at < length s) (e : end ≡ at + line_run (accents_of t) (drop at s)) (g : None ≡ break_of (drop end s)) where
+    bad : break_of (drop (line_run (accents_of t) (drop at s)) (drop at s)) ≡ None
     bad = left (accents_of t) (accents_good t) s at end h e ∙ sym g
 
     pub stop_less : end < length s

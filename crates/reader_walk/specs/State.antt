@@ -1,5 +1,5 @@
 -- What the walk does with one line more, and what it finds in a file. Document 02, A3: one walk, which keeps for each label where its value begins and ends.
-use Rattle.std.specs.Prelude.{ℕ, ◌+◌, ◌-◌, ◌^◌, ◌/◌, ◌%◌, eqb, length, replicate, set, Bool, true, false, cond, List, []}
+use Rattle.std.specs.Prelude.{ℕ, ◌+◌, ◌-◌, ◌^◌, ◌/◌, ◌%◌, eqb, length, replicate, set, Bool, true, false, cond, List, [], None, Option, Some}
 use Rattle.reader_accent.specs.Accents.{accents_of}
 use Rattle.reader_line.specs.Items.{first_labels, second_labels}
 use Rattle.text_lines.specs.Entries.{Entry, again, entries, standing}
@@ -14,7 +14,6 @@ use Rattle.reader_walk.specs.declared.Found.{Found}
 use Rattle.reader_walk.specs.declared.Frame.{Frame}
 use Rattle.reader_walk.specs.declared.Marks.{Marks}
 use Rattle.reader_walk.specs.declared.Noted.{Noted}
-use Rattle.std.proofs.Math.Option.{Option, none, some}
 
 -- ---- one line more, as the code does it
 
@@ -44,8 +43,8 @@ frame_of f separator p =
 
 -- the field of the first repeat, 0 where there is none
 abbrev pub or_zero : Option ℕ → ℕ
-or_zero none = 0
-or_zero (some k) = k
+or_zero None = 0
+or_zero (Some k) = k
 
 -- the labels of a list that have an entry, as bits from the first field on, and the first repeat
 unfoldable pub marks_of : List (List ℕ) → List Entry → Marks

@@ -6,7 +6,7 @@ ghost use Rattle.std.specs.Prelude.{◌+◌, ◌<◌, ◌≤◌, eqb, length, co
 ghost use Rattle.reader_walk.specs.State.{noted_of, frame_of, handed_of, found_of};
 ghost use Rattle.text.specs.Puts.{limit};
 
-use text_lines::{Break, Span};
+use text_lines::Span;
 use value_name::MessageType;
 
 // The labels of one layout that were seen, as bits from the first field on, and the field of the first repeat: 0 where there is none.
@@ -186,10 +186,11 @@ pub fn walk(t: MessageType, s: &[u8]) -> Found
     let mut others = [NOWHERE; 27];
     let mut turn = 1;
     let mut at = 0;
+    // A while: each turn goes on by its line's length.
     while at < s.len() {
         let item = reader_line::line_of(t, s, at, frame.seps, turn);
         let end = item.end;
-        let Break::After(n) = text_lines::break_at(s, end) else {
+        let Some(n) = text_lines::break_at(s, end) else {
             at = end;
             break;
         };

@@ -1,18 +1,16 @@
 -- The typed record of a message, from the column of its trimmed values. Document 01, "Values" and "Written form": unused room in a record is zero;
 -- where a refusal must hand back a record, that record is all zero.
-use Rattle.std.specs.Prelude.{ℕ, suc, ◌-◌, length, get_or, replicate, List, [], ◌∷◌, ◌++◌, map}
+use Rattle.std.specs.Prelude.{ℕ, suc, ◌-◌, length, get_or, replicate, List, [], ◌∷◌, ◌++◌, map, None, Option, Some}
 use Rattle.layout.specs.FieldNumbers.{unit_no, reason_field, note_field, gradients_field}
 use Rattle.layout.specs.Rows.{text_at}
 use Rattle.layout.specs.declared.Layout.{Layout}
 use Rattle.layout.specs.declared.Layout.TheVariants.{Market}
-use Rattle.value_list.specs.Forms.{gradients_in, no_triple}
+use Rattle.value_list.specs.Forms.{gradients_in, kept_triples, no_triple}
 use Rattle.record.specs.declared.Cell.{Cell}
 use Rattle.record.specs.declared.Record.{Record}
 use Rattle.text_room.specs.Rooms.{kept_in}
 use Rattle.value.specs.Kinds.{value_of}
 use Rattle.value.specs.Texts.{Rooms, rooms}
-use Rattle.value.specs.declared.Got.{Got}
-use Rattle.value.specs.declared.Got.TheVariants.{Read, Bad}
 use Rattle.value.specs.declared.Kind.{Kind}
 use Rattle.value.specs.declared.Value.{Value}
 use Rattle.value.specs.declared.Value.TheVariants.{Blank}
@@ -23,10 +21,10 @@ pub data Typed : Type 0 where
   bad : ℕ → Typed
   good : List Value → Typed
 
-unfoldable pub joined : ℕ → Got → Typed → Typed
-joined k Bad t = bad k
-joined k (Read v) (bad j) = bad j
-joined k (Read v) (good vs) = good (v ∷ vs)
+unfoldable pub joined : ℕ → Option Value → Typed → Typed
+joined k None t = bad k
+joined k (Some v) (bad j) = bad j
+joined k (Some v) (good vs) = good (v ∷ vs)
 
 -- the fields from k on
 unfoldable pub typed : ℕ → List Kind → List (List ℕ) → Typed
@@ -60,7 +58,7 @@ record_of l col vs =
       unit = kept_in 16 (text_at col unit_no);
       reason = kept_in 128 (text_at col (reason_field l));
       note = kept_in 256 (text_at col (note_field l));
-      gradients = (gradients_in (text_at col (gradients_field l))).list.values;
+      gradients = kept_triples (gradients_in (text_at col (gradients_field l)));
     }
 
 unfoldable pub zero_record : Record

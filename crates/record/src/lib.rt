@@ -10,7 +10,7 @@ use layout::Layout;
 use value::Value;
 use value_list::Triple;
 
-// What one field holds. (An array of enums cannot be a field, so each stands in a struct.)
+// What one field holds.
 #[derive(Clone, Copy)]
 pub struct Cell {
     pub value: Value,

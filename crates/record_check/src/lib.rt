@@ -6,43 +6,26 @@ mod rooms;
 ghost use Rattle.layout.specs.Layouts.{kinds_of, type_of};
 ghost use Rattle.text.specs.Bytes.{all};
 ghost use Rattle.record_check.specs.Validity.{is_blank_cell, holds_all, is_valid};
-ghost use Rattle.value.specs.Texts.{lent_rooms};
+ghost use Rattle.value.specs.Texts.{rooms_in};
 ghost use Rattle.writer_form.specs.Written.{values_in};
 ghost use Rattle.std.specs.Prelude.{drop, ◌≡◌};
 
 use layout::Layout;
 use record::{Cell, Record};
-use value_list::Triple;
+use value::Rooms;
 
 // Each value of the layout's fields is one that its kind may hold.
-fn all_hold(
-    l: Layout,
-    cells: [Cell; 26],
-    unit: &[u8],
-    reason: &[u8],
-    note: &[u8],
-    gradients: [Triple; 16],
-) -> bool
-    ensures { result ≡ holds_all (type_of l) (lent_rooms unit reason note gradients) (kinds_of l) (values_in l cells) }
+fn all_hold(l: Layout, cells: [Cell; 26], rooms: &Rooms<'_>) -> bool
+    ensures { result ≡ holds_all (type_of l) (rooms_in rooms.now) (kinds_of l) (values_in l cells) }
 {
     let t = layout::type_of(l);
     let size = layout::size(l);
-    let mut k = 0;
-    while k < size {
+    for k in 0..size {
         let c = cells[k];
         let v = c.value;
-        if !value_fits::holds(
-            t,
-            layout_kind::of_field(l, k + 1),
-            v,
-            unit,
-            reason,
-            note,
-            gradients,
-        ) {
+        if !value_fits::holds(t, layout_kind::of_field(l, k + 1), v, rooms) {
             return false;
         }
-        k += 1;
     }
     true
 }
@@ -51,16 +34,7 @@ fn all_hold(
 fn are_blank(cells: [Cell; 26], n: usize) -> bool
     ensures { result ≡ all is_blank_cell (drop n cells) }
 {
-    let mut k = n;
-    while k < 26 {
-        let c = cells[k];
-        let v = c.value;
-        if value_ask::is_filled(v) {
-            return false;
-        }
-        k += 1;
-    }
-    true
+    cells.iter().skip(n).all(|c| !value_ask::is_filled(c.value))
 }
 
 // A record is valid when its values and rules are obeyed, its texts are trimmed, and its unused room is zero.
@@ -69,13 +43,15 @@ pub fn is_valid(r: Record) -> bool
 {
     let l = r.layout;
     let cells = r.cells;
-    let unit = r.unit;
-    let reason = r.reason;
-    let note = r.note;
-    let gradients = r.gradients;
-    all_hold(l, cells, &unit, &reason, &note, gradients)
+    let rooms = Rooms {
+        unit: &r.unit,
+        reason: &r.reason,
+        note: &r.note,
+        gradients: &r.gradients,
+    };
+    all_hold(l, cells, &rooms)
         & are_blank(cells, layout::size(l))
-        & rooms::are_clear(l, cells, &unit, &reason, &note)
-        & rooms::has_no_triples(l, gradients)
-        & (record_rules::lowest_of(l, cells, gradients) == 0)
+        & rooms::are_clear(l, cells, rooms.unit, rooms.reason, rooms.note)
+        & rooms::has_no_triples(l, r.gradients)
+        & record_rules::lowest_of(l, &cells, rooms.gradients).is_none()
 }

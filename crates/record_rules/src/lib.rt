@@ -1,9 +1,10 @@
-// The rules across fields, 1 to 9 by number, on a record's values.
+// The rules across fields, by name and number 1 to 9, on a record's values.
 #![tactic(auto)]
 
 ghost use Rattle.layout.specs.declared.Layout.TheVariants.{Market, VoltVar};
 ghost use Rattle.record_rules.specs.Rules.{ordered, ramped, updates, only_if, is_full, fills, rises, slopes, excludes, limits, bands, quantifies, rule, lowest, rules_of};
 ghost use Rattle.record_rules.specs.Rules.{broken_in};
+ghost use Rattle.record_rules.specs.Broken.{rule_number, broken_number};
 ghost use Rattle.value_ask.specs.Values.{is_filled, is_word, instant_in, amount_in};
 ghost use Rattle.text.specs.Bytes.{all};
 ghost use Rattle.record_voltvar.specs.Table.{line_in, is_row};
@@ -18,27 +19,56 @@ use value_ask::{
 use value_list::Triple;
 use value_word::names;
 
+// A rule across fields, in the order of docs/REFUSALS.md: the first is rule 1.
+#[derive(Clone, Copy, PartialEq, Eq, Debug)]
+pub enum Rule {
+    Order,
+    Update,
+    Profile,
+    Gradients,
+    Exclusion,
+    Limitation,
+    HalfBands,
+    VoltVar,
+    Quantities,
+}
+
+impl Rule {
+    pub fn number(self) -> u8
+        ensures { result ≡ rule_number self }
+    {
+        match self {
+            Rule::Order => 1,
+            Rule::Update => 2,
+            Rule::Profile => 3,
+            Rule::Gradients => 4,
+            Rule::Exclusion => 5,
+            Rule::Limitation => 6,
+            Rule::HalfBands => 7,
+            Rule::VoltVar => 8,
+            Rule::Quantities => 9,
+        }
+    }
+}
+
 // Whether a field is filled.
 fn filled(c: Cell) -> bool
     ensures { result ≡ is_filled c.value }
 {
-    let v = c.value;
-    is_filled(v)
+    is_filled(c.value)
 }
 
 // The field is the word w.
 fn says(c: Cell, w: u8) -> bool
     ensures { result ≡ is_word w c.value }
 {
-    let v = c.value;
-    word_number(v) == w
+    word_number(c.value) == w
 }
 
 fn instant_at(c: Cell) -> u64
     ensures { result ≡ instant_in c.value }
 {
-    let v = c.value;
-    instant_in(v)
+    instant_in(c.value)
 }
 
 // 1. Start before end, by instant, where an end is filled.
@@ -70,8 +100,7 @@ fn updated(origin: Cell, update: Cell) -> bool
 fn full(c: Cell) -> bool
     ensures { result ≡ is_full c.value }
 {
-    let v = c.value;
-    list_size(v) == 4
+    list_size(c.value) == 4
 }
 
 // Below a filled line stands one of four numbers.
@@ -102,24 +131,13 @@ fn rises(t: Triple) -> bool
 fn all_rise(gradients: [Triple; 16], n: usize) -> bool
     ensures { result ≡ all rises (take n gradients) }
 {
-    let mut i = 0;
-    while i < 16 {
-        if i == n {
-            return true;
-        }
-        if !rises(gradients[i]) {
-            return false;
-        }
-        i += 1;
-    }
-    true
+    gradients.iter().take(n).all(|t| rises(*t))
 }
 
 fn sloped(listed: Cell, gradients: [Triple; 16]) -> bool
     ensures { result ≡ slopes listed.value gradients }
 {
-    let v = listed.value;
-    all_rise(gradients, triples_in(v))
+    all_rise(gradients, triples_in(listed.value))
 }
 
 // 5. EB reason filled exactly when `Riammissione` is NO.
@@ -133,9 +151,7 @@ fn excluded(reason: Cell, again: Cell) -> bool
 fn at_most(maximum: Cell, minimum: Cell) -> bool
     ensures { result ≡ le_z (amount_in minimum.value) (amount_in maximum.value) }
 {
-    let high = maximum.value;
-    let low = minimum.value;
-    amount_in(low) <= amount_in(high)
+    amount_in(minimum.value) <= amount_in(maximum.value)
 }
 
 // 6. LB: SI leaves both limits and the reason blank; NO has a reason and at least one limit; minimum <= maximum if both.
@@ -156,8 +172,7 @@ fn banded(operation: Cell, halves: Cell) -> bool
     ensures { result ≡ bands operation.value halves.value }
 {
     if filled(halves) {
-        let v = halves.value;
-        return not_negative(v);
+        return not_negative(halves.value);
     }
     says(operation, names::SOSPENSIONE)
 }
@@ -169,20 +184,27 @@ fn quantified(power: Cell, extent: Cell) -> bool
     filled(power) == !filled(extent)
 }
 
-// Rule 1, then one more.
-fn order_and(start: Cell, end: Cell, number: u8, holds: bool) -> u8
-    ensures { result ≡ lowest (rule 1 (ordered start.value end.value) ∷ rule number holds ∷ []) }
+// Rule 1 alone.
+fn order_alone(holds: bool) -> Option<Rule>
+    ensures { broken_number result ≡ lowest (rule 1 holds ∷ []) }
 {
-    if !in_order(start, end) {
-        return 1;
-    }
-    if !holds {
-        return number;
-    }
-    0
+    if holds { None } else { Some(Rule::Order) }
 }
 
-// The lowest broken rule of each layout's values; 0 where all hold.
+// Rule 1, then one more.
+fn order_and(start: Cell, end: Cell, other: Rule, holds: bool) -> Option<Rule>
+    ensures { broken_number result ≡ lowest (rule 1 (ordered start.value end.value) ∷ rule (rule_number other) holds ∷ []) }
+{
+    if !in_order(start, end) {
+        return Some(Rule::Order);
+    }
+    if !holds {
+        return Some(other);
+    }
+    None
+}
+
+// The lowest broken rule of each layout's values; none where all hold.
 
 pub fn of_market(
     start: Cell,
@@ -197,8 +219,8 @@ pub fn of_market(
     line6: Cell,
     listed: Cell,
     gradients: [Triple; 16],
-) -> u8
-    ensures { result ≡ lowest (
+) -> Option<Rule>
+    ensures { broken_number result ≡ lowest (
         rule 1 (ordered start.value end.value)
         ∷ rule 2 (updates origin.value update.value)
         ∷ rule 3 (fills line1.value line2.value line3.value line4.value line5.value line6.value)
@@ -206,42 +228,36 @@ pub fn of_market(
         ∷ []) }
 {
     if !in_order(start, end) {
-        return 1;
+        return Some(Rule::Order);
     }
     if !updated(origin, update) {
-        return 2;
+        return Some(Rule::Update);
     }
     if !profiled(line1, line2, line3, line4, line5, line6) {
-        return 3;
+        return Some(Rule::Profile);
     }
     if !sloped(listed, gradients) {
-        return 4;
+        return Some(Rule::Gradients);
     }
-    0
+    None
 }
 
-pub fn of_ramps(start1: Cell, end1: Cell, start2: Cell, end2: Cell) -> u8
-    ensures { result ≡ lowest (rule 1 (ramped start1.value end1.value start2.value end2.value) ∷ []) }
+pub fn of_ramps(start1: Cell, end1: Cell, start2: Cell, end2: Cell) -> Option<Rule>
+    ensures { broken_number result ≡ lowest (rule 1 (ramped start1.value end1.value start2.value end2.value) ∷ []) }
 {
-    if !ramps(start1, end1, start2, end2) {
-        return 1;
-    }
-    0
+    order_alone(ramps(start1, end1, start2, end2))
 }
 
-pub fn of_order(start: Cell, end: Cell) -> u8
-    ensures { result ≡ lowest (rule 1 (ordered start.value end.value) ∷ []) }
+pub fn of_order(start: Cell, end: Cell) -> Option<Rule>
+    ensures { broken_number result ≡ lowest (rule 1 (ordered start.value end.value) ∷ []) }
 {
-    if !in_order(start, end) {
-        return 1;
-    }
-    0
+    order_alone(in_order(start, end))
 }
 
-pub fn of_exclusion(start: Cell, end: Cell, reason: Cell, again: Cell) -> u8
-    ensures { result ≡ lowest (rule 1 (ordered start.value end.value) ∷ rule 5 (excludes reason.value again.value) ∷ []) }
+pub fn of_exclusion(start: Cell, end: Cell, reason: Cell, again: Cell) -> Option<Rule>
+    ensures { broken_number result ≡ lowest (rule 1 (ordered start.value end.value) ∷ rule 5 (excludes reason.value again.value) ∷ []) }
 {
-    order_and(start, end, 5, excluded(reason, again))
+    order_and(start, end, Rule::Exclusion, excluded(reason, again))
 }
 
 pub fn of_limitation(
@@ -251,16 +267,21 @@ pub fn of_limitation(
     minimum: Cell,
     reason: Cell,
     ended: Cell,
-) -> u8
-    ensures { result ≡ lowest (rule 1 (ordered start.value end.value) ∷ rule 6 (limits maximum.value minimum.value reason.value ended.value) ∷ []) }
+) -> Option<Rule>
+    ensures { broken_number result ≡ lowest (rule 1 (ordered start.value end.value) ∷ rule 6 (limits maximum.value minimum.value reason.value ended.value) ∷ []) }
 {
-    order_and(start, end, 6, limited(maximum, minimum, reason, ended))
+    order_and(
+        start,
+        end,
+        Rule::Limitation,
+        limited(maximum, minimum, reason, ended),
+    )
 }
 
-pub fn of_secondary(start: Cell, end: Cell, operation: Cell, halves: Cell) -> u8
-    ensures { result ≡ lowest (rule 1 (ordered start.value end.value) ∷ rule 7 (bands operation.value halves.value) ∷ []) }
+pub fn of_secondary(start: Cell, end: Cell, operation: Cell, halves: Cell) -> Option<Rule>
+    ensures { broken_number result ≡ lowest (rule 1 (ordered start.value end.value) ∷ rule 7 (bands operation.value halves.value) ∷ []) }
 {
-    order_and(start, end, 7, banded(operation, halves))
+    order_and(start, end, Rule::HalfBands, banded(operation, halves))
 }
 
 pub fn of_volt_var(
@@ -273,8 +294,8 @@ pub fn of_volt_var(
     regulator: Cell,
     change: Cell,
     reactive: Cell,
-) -> u8
-    ensures { result ≡ lowest (
+) -> Option<Rule>
+    ensures { broken_number result ≡ lowest (
         rule 1 (ordered start.value end.value)
         ∷ rule 8 (is_row (line_in state.value mode.value regulation.value voltage.value regulator.value change.value reactive.value))
         ∷ []) }
@@ -282,23 +303,23 @@ pub fn of_volt_var(
     order_and(
         start,
         end,
-        8,
+        Rule::VoltVar,
         record_voltvar::in_table(
             state, mode, regulation, voltage, regulator, change, reactive,
         ),
     )
 }
 
-pub fn of_reserve(start: Cell, end: Cell, power: Cell, extent: Cell) -> u8
-    ensures { result ≡ lowest (rule 1 (ordered start.value end.value) ∷ rule 9 (quantifies power.value extent.value) ∷ []) }
+pub fn of_reserve(start: Cell, end: Cell, power: Cell, extent: Cell) -> Option<Rule>
+    ensures { broken_number result ≡ lowest (rule 1 (ordered start.value end.value) ∷ rule 9 (quantifies power.value extent.value) ∷ []) }
 {
-    order_and(start, end, 9, quantified(power, extent))
+    order_and(start, end, Rule::Quantities, quantified(power, extent))
 }
 
 // The same by the cells, of the two layouts whose rules ask for most of them.
 
-fn lowest_of_market(cells: [Cell; 26], gradients: [Triple; 16]) -> u8
-    ensures { result ≡ lowest (rules_of Market cells gradients) }
+fn lowest_of_market(cells: &[Cell; 26], gradients: &[Triple; 16]) -> Option<Rule>
+    ensures { broken_number result ≡ lowest (rules_of Market cells.now gradients.now) }
 {
     of_market(
         cells[at::START],
@@ -312,12 +333,12 @@ fn lowest_of_market(cells: [Cell; 26], gradients: [Triple; 16]) -> u8
         cells[at::H5],
         cells[at::H6],
         cells[at::GRADIENTS],
-        gradients,
+        *gradients,
     )
 }
 
-fn lowest_of_volt_var(cells: [Cell; 26]) -> u8
-    ensures { result ≡ lowest (rules_of VoltVar cells []) }
+fn lowest_of_volt_var(cells: &[Cell; 26]) -> Option<Rule>
+    ensures { broken_number result ≡ lowest (rules_of VoltVar cells.now []) }
 {
     of_volt_var(
         cells[at::START],
@@ -332,9 +353,9 @@ fn lowest_of_volt_var(cells: [Cell; 26]) -> u8
     )
 }
 
-// The lowest broken rule of a layout's values; 0 where all hold.
-pub fn lowest_of(l: Layout, cells: [Cell; 26], gradients: [Triple; 16]) -> u8
-    ensures { result ≡ lowest (rules_of l cells gradients) }
+// The lowest broken rule of a layout's values; none where all hold.
+pub fn lowest_of(l: Layout, cells: &[Cell; 26], gradients: &[Triple; 16]) -> Option<Rule>
+    ensures { broken_number result ≡ lowest (rules_of l cells.now gradients.now) }
 {
     let start = cells[at::START];
     let end = cells[at::END];
@@ -357,12 +378,9 @@ pub fn lowest_of(l: Layout, cells: [Cell; 26], gradients: [Triple; 16]) -> u8
     }
 }
 
-// The lowest broken rule of a record; 0 where all hold.
-pub fn lowest_broken(r: Record) -> u8
-    ensures { result ≡ broken_in r }
+// The lowest broken rule of a record; none where all hold.
+pub fn lowest_broken(r: Record) -> Option<Rule>
+    ensures { broken_number result ≡ broken_in r }
 {
-    let l = r.layout;
-    let cells = r.cells;
-    let gradients = r.gradients;
-    lowest_of(l, cells, gradients)
+    lowest_of(r.layout, &r.cells, &r.gradients)
 }

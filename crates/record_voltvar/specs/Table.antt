@@ -4,7 +4,6 @@ use Rattle.layout.specs.FieldNumbers.{state_no, mode_no, regulation_no, voltage_
 use Rattle.record.specs.Records.{field_of}
 use Rattle.record.specs.declared.Cell.{Cell}
 use Rattle.value_ask.specs.Values.{is_filled, word_number}
-use Rattle.record_voltvar.specs.declared.Line.{Line}
 use Rattle.text.specs.Bytes.{any}
 use Rattle.value.specs.declared.Value.{Value}
 use Rattle.value_word.specs.Names.{no_word, w_i, w_e, w_rrt, w_rts, w_rat, w_man, w_profilo_memorizzato, w_vsrif, w_tensione_mt, w_potenza_reattiva}
@@ -23,6 +22,15 @@ abbrev pub either : ℕ
 either = 3
 
 -- state, mode and regulation; settings of voltage, regulator, change and reactive power
+pub record Line : Type 0 where
+  pub state : ℕ
+  pub mode : ℕ
+  pub regulation : ℕ
+  pub voltage : ℕ
+  pub regulator : ℕ
+  pub change : ℕ
+  pub reactive : ℕ
+
 abbrev pub line : ℕ → ℕ → ℕ → ℕ → ℕ → ℕ → ℕ → Line
 line s m g v r c q =
     record { state = s; mode = m; regulation = g; voltage = v; regulator = r; change = c; reactive = q }

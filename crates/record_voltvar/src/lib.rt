@@ -3,8 +3,10 @@
 
 ghost use Rattle.std.specs.Prelude.{◌<◌, get_or, ◌≡◌};
 ghost use Rattle.record_voltvar.specs.Table.{line, table, form_of, line_in, takes, meets, is_row};
+ghost use Rattle.record_voltvar.specs.Forms.{form_number, line_by};
 ghost use Rattle.value_ask.specs.Values.{word_number};
 
+use Form::{Blank, Either, Number, Word};
 use record::Cell;
 use value::Value;
 use value_ask::{is_filled, word_number};
@@ -13,36 +15,37 @@ use value_word::names::{
 };
 
 // What a setting is, and of the table also either of a number and a word.
-const BLANK: u8 = 0;
-
-const NUMBER: u8 = 1;
-
-const WORD: u8 = 2;
-
-const EITHER: u8 = 3;
+#[derive(Clone, Copy, PartialEq, Eq)]
+pub enum Form {
+    Blank,
+    Number,
+    Word,
+    Either,
+}
 
 // State, mode and regulation are words, `NO_WORD` for a blank; the others are settings.
-#[derive(Clone, Copy)]
+#[derive(Clone, Copy, PartialEq, Eq)]
 pub struct Line {
     pub state: u8,
     pub mode: u8,
     pub regulation: u8,
-    pub voltage: u8,
-    pub regulator: u8,
-    pub change: u8,
-    pub reactive: u8,
+    pub voltage: Form,
+    pub regulator: Form,
+    pub change: Form,
+    pub reactive: Form,
 }
 
 fn row_of(
     state: u8,
     mode: u8,
     regulation: u8,
-    voltage: u8,
-    regulator: u8,
-    change: u8,
-    reactive: u8,
+    voltage: Form,
+    regulator: Form,
+    change: Form,
+    reactive: Form,
 ) -> Line
-    ensures { result ≡ line state mode regulation voltage regulator change reactive }
+    ensures { line_by result
+        ≡ line state mode regulation (form_number voltage) (form_number regulator) (form_number change) (form_number reactive) }
 {
     Line {
         state,
@@ -58,48 +61,46 @@ fn row_of(
 // The rows, from 0.
 fn table_row(k: usize) -> Line
     requires { k < 11 }
-    ensures { result ≡ get_or table k (line 0 0 0 0 0 0 0) }
+    ensures { line_by result ≡ get_or table k (line 0 0 0 0 0 0 0) }
 {
     match k {
-        0 => row_of(I, RRT, NO_WORD, BLANK, BLANK, BLANK, BLANK),
-        1 => row_of(I, RTS, PROFILO_MEMORIZZATO, BLANK, BLANK, BLANK, BLANK),
-        2 => row_of(I, RTS, VSRIF, EITHER, BLANK, BLANK, BLANK),
-        3 => row_of(NO_WORD, RTS, VSRIF, NUMBER, BLANK, BLANK, BLANK),
-        4 => row_of(I, RTS, VSRIF, WORD, BLANK, NUMBER, BLANK),
-        5 => row_of(E, RAT, TENSIONE_MT, BLANK, EITHER, BLANK, BLANK),
-        6 => row_of(NO_WORD, RAT, TENSIONE_MT, BLANK, EITHER, BLANK, BLANK),
-        7 => row_of(E, RAT, TENSIONE_MT, BLANK, WORD, NUMBER, BLANK),
-        8 => row_of(NO_WORD, RAT, TENSIONE_MT, BLANK, WORD, NUMBER, BLANK),
-        9 => row_of(E, MAN, POTENZA_REATTIVA, BLANK, BLANK, BLANK, EITHER),
-        _ => row_of(NO_WORD, MAN, POTENZA_REATTIVA, BLANK, BLANK, BLANK, EITHER),
+        0 => row_of(I, RRT, NO_WORD, Blank, Blank, Blank, Blank),
+        1 => row_of(I, RTS, PROFILO_MEMORIZZATO, Blank, Blank, Blank, Blank),
+        2 => row_of(I, RTS, VSRIF, Either, Blank, Blank, Blank),
+        3 => row_of(NO_WORD, RTS, VSRIF, Number, Blank, Blank, Blank),
+        4 => row_of(I, RTS, VSRIF, Word, Blank, Number, Blank),
+        5 => row_of(E, RAT, TENSIONE_MT, Blank, Either, Blank, Blank),
+        6 => row_of(NO_WORD, RAT, TENSIONE_MT, Blank, Either, Blank, Blank),
+        7 => row_of(E, RAT, TENSIONE_MT, Blank, Word, Number, Blank),
+        8 => row_of(NO_WORD, RAT, TENSIONE_MT, Blank, Word, Number, Blank),
+        9 => row_of(E, MAN, POTENZA_REATTIVA, Blank, Blank, Blank, Either),
+        _ => row_of(NO_WORD, MAN, POTENZA_REATTIVA, Blank, Blank, Blank, Either),
     }
 }
 
 // Blank, a number or a word.
-fn form_of(v: Value) -> u8
-    ensures { result ≡ form_of v }
+fn form_of(v: Value) -> Form
+    ensures { form_number result ≡ form_of v }
 {
     if !is_filled(v) {
-        return BLANK;
+        return Blank;
     }
     if word_number(v) == NO_WORD {
-        return NUMBER;
+        return Number;
     }
-    WORD
+    Word
 }
 
 fn word_in(c: Cell) -> u8
     ensures { result ≡ word_number c.value }
 {
-    let v = c.value;
-    word_number(v)
+    word_number(c.value)
 }
 
-fn form_in(c: Cell) -> u8
-    ensures { result ≡ form_of c.value }
+fn form_in(c: Cell) -> Form
+    ensures { form_number result ≡ form_of c.value }
 {
-    let v = c.value;
-    form_of(v)
+    form_of(c.value)
 }
 
 // The line of a message's values.
@@ -112,7 +113,7 @@ fn line_of(
     change: Cell,
     reactive: Cell,
 ) -> Line
-    ensures { result ≡ line_in state.value mode.value regulation.value voltage.value regulator.value change.value reactive.value }
+    ensures { line_by result ≡ line_in state.value mode.value regulation.value voltage.value regulator.value change.value reactive.value }
 {
     row_of(
         word_in(state),
@@ -125,14 +126,14 @@ fn line_of(
     )
 }
 
-fn takes(asked: u8, is: u8) -> bool
-    ensures { result ≡ takes asked is }
+fn takes(asked: Form, is: Form) -> bool
+    ensures { result ≡ takes (form_number asked) (form_number is) }
 {
-    (is == asked) | ((asked == EITHER) & (NUMBER <= is))
+    (is == asked) | ((asked == Either) & (is != Blank))
 }
 
 fn fits(l: Line, row: Line) -> bool
-    ensures { result ≡ meets l row }
+    ensures { result ≡ meets (line_by l) (line_by row) }
 {
     (l.state == row.state)
         & (l.mode == row.mode)
@@ -157,12 +158,10 @@ pub fn in_table(
     let l = line_of(
         state, mode, regulation, voltage, regulator, change, reactive,
     );
-    let mut k = 0;
-    while k < 11 {
+    for k in 0..11 {
         if fits(l, table_row(k)) {
             return true;
         }
-        k += 1;
     }
     false
 }

@@ -1,6 +1,6 @@
 -- What is printed of an answer, by its number. Assumes nothing.
 use Rattle.report_brief.specs.Brief.{six_lines}
-use Rattle.reader.specs.declared.Answer.{Answer}
+use Rattle.reader.specs.Refusals.{Answer}
 use Rattle.report.specs.Report.{two_lines, report_of}
 use borrow.Author.Tests.{eq-eqb, ne_eqb}
 use mathlib.Core.Path.{◌≡◌}

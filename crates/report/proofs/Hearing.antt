@@ -1,14 +1,13 @@
 -- The ways through the program's first two lines, and what is printed of the answer. Assumes nothing.
+use Rattle.std.specs.Prelude.{None, Option, Some}
 use Prim.Native.Nat.{ℕ}
 use Rattle.plan_row.specs.Rows.{ca_at, ioa_at}
 use Rattle.text.specs.Puts.{Puts}
 use Rattle.text_keyline.specs.Keylines.{below}
 use Rattle.reader.specs.Reader.{read_of}
-use Rattle.reader.specs.declared.Answer.{Answer}
+use Rattle.reader.specs.Refusals.{Answer}
 use Rattle.report.specs.Program.{at_address, heard_of, printed_of}
 use Rattle.report.specs.Report.{report_of}
-use Rattle.text.specs.declared.digits.Digits.TheVariants.{Are, Not}
-use Rattle.text.specs.declared.digits.Digits.{Digits}
 use lib.ListN.{length}
 use lib.Seq.{sets}
 use mathlib.Core.List.{List}
@@ -16,35 +15,35 @@ use mathlib.Core.Path.{◌≡◌, refl, sym, ap, ap₂, ◌∙◌}
 use native.Mathlib.Omega.{arith}
 
 -- without the first line there is no address, whatever the second is
-no_address : (d : Digits) (plan file : List ℕ) → read_of 0 0 plan file ≡ at_address Not d plan file
-no_address (Are i) plan file = refl
-no_address Not plan file = refl
+no_address : (d : Option ℕ) (plan file : List ℕ) → read_of 0 0 plan file ≡ at_address None d plan file
+no_address (Some i) plan file = refl
+no_address None plan file = refl
 
-module _ (plan input second file : List ℕ) (a : Answer) (d : Digits) (two : second ≡ below input) (three : file ≡ below second) (ca : d ≡ ca_at input) where
+module _ (plan input second file : List ℕ) (a : Answer) (d : Option ℕ) (two : second ≡ below input) (three : file ≡ below second) (ca : d ≡ ca_at input) where
   abbrev rest : List ℕ
   rest = below (below input)
 
   rest_is : file ≡ rest
   rest_is = three ∙ ap below two
 
-  pub no_ca : d ≡ Not → a ≡ read_of 0 0 plan file → a ≡ heard_of plan input
+  pub no_ca : d ≡ None → a ≡ read_of 0 0 plan file → a ≡ heard_of plan input
   unfolding heard_of
   no_ca n r =
       r
       ∙ ap (read_of 0 0 plan) rest_is
       ∙ no_address (ioa_at (below input)) plan rest
-      ∙ ap (λ (x : Digits). at_address x (ioa_at (below input)) plan rest) (sym n ∙ ca)
+      ∙ ap (λ (x : Option ℕ). at_address x (ioa_at (below input)) plan rest) (sym n ∙ ca)
 
-  module _ (c : ℕ) (is : d ≡ Are c) (e : Digits) (ioa : e ≡ ioa_at second) where
-    read_at : (x : Digits) → e ≡ x → at_address (Are c) x plan rest ≡ heard_of plan input
+  module _ (c : ℕ) (is : d ≡ Some c) (e : Option ℕ) (ioa : e ≡ ioa_at second) where
+    read_at : (x : Option ℕ) → e ≡ x → at_address (Some c) x plan rest ≡ heard_of plan input
     unfolding heard_of
-    read_at x n = ap₂ (λ (x y : Digits). at_address x y plan rest) (sym is ∙ ca) (sym n ∙ ioa ∙ ap ioa_at two)
+    read_at x n = ap₂ (λ (x y : Option ℕ). at_address x y plan rest) (sym is ∙ ca) (sym n ∙ ioa ∙ ap ioa_at two)
 
-    pub no_ioa : e ≡ Not → a ≡ read_of 0 0 plan file → a ≡ heard_of plan input
-    no_ioa n r = r ∙ ap (read_of 0 0 plan) rest_is ∙ read_at Not n
+    pub no_ioa : e ≡ None → a ≡ read_of 0 0 plan file → a ≡ heard_of plan input
+    no_ioa n r = r ∙ ap (read_of 0 0 plan) rest_is ∙ read_at None n
 
-    pub both_read : (i : ℕ) → e ≡ Are i → a ≡ read_of c i plan file → a ≡ heard_of plan input
-    both_read i y r = r ∙ ap (read_of c i plan) rest_is ∙ read_at (Are i) y
+    pub both_read : (i : ℕ) → e ≡ Some i → a ≡ read_of c i plan file → a ≡ heard_of plan input
+    both_read i y r = r ∙ ap (read_of c i plan) rest_is ∙ read_at (Some i) y
 
 -- what is put at the start, of the answer
 pub print_put : (plan input l : List ℕ) (a : Answer) (r : ℕ) (m : List ℕ) → a ≡ heard_of plan input → Puts l 0 (report_of a) r m

@@ -2,7 +2,7 @@
 use Rattle.std.specs.Prelude.{ℕ, eqb, cond, List, ◌++◌}
 use Rattle.report_brief.specs.Brief.{six_lines}
 use Rattle.text_keyline.specs.Keylines.{line_text}
-use Rattle.reader.specs.declared.Answer.{Answer}
+use Rattle.reader.specs.Refusals.{Answer}
 use Rattle.text.specs.Bytes.{bytes}
 use Rattle.text.specs.Digits.{whole_text}
 

@@ -5,12 +5,12 @@ ghost use Rattle.std.specs.Prelude.{◌+◌, ◌<◌, length, ◌≡◌};
 ghost use Rattle.report_brief.specs.Brief.{six_lines};
 ghost use Rattle.report.specs.Program.{heard_of, printed_of};
 ghost use Rattle.report.specs.Report.{two_lines, report_of};
+ghost use Rattle.reader.specs.Said.{answer_by};
 ghost use Rattle.text.specs.Puts.{limit, Puts};
 ghost use Rattle.std.proofs.lemmas.List.Edits.{sets};
 
-use reader::Answer;
 use record::Record;
-use text::digits::Digits;
+use refusal::Refusal;
 
 // The six lines of a record.
 pub fn put_record(out: &mut [u8], at: usize, r: Record) -> usize
@@ -30,27 +30,26 @@ pub fn put_refusal(out: &mut [u8], at: usize, number: u8, detail: usize) -> usiz
 }
 
 // What is printed of an answer.
-pub fn put_answer(out: &mut [u8], at: usize, a: Answer) -> usize
+pub fn put_answer(out: &mut [u8], at: usize, answer: Result<Record, Refusal>) -> usize
     requires { at + 200 < limit }
-    ensures { Puts out.old at (report_of a) result out.new }
+    ensures { Puts out.old at (report_of (answer_by answer)) result out.new }
 {
-    if a.number == 0 {
-        let content = a.content;
-        return put_record(out, at, content);
+    match answer {
+        Ok(record) => put_record(out, at, record),
+        Err(e) => put_refusal(out, at, e.number(), e.detail()),
     }
-    put_refusal(out, at, a.number, a.detail)
 }
 
-// The program's answer to its input: the address is in the first two lines, and the file follows.
-pub fn hear(plan: &[u8], input: &[u8]) -> Answer
-    ensures { result ≡ heard_of plan.now input.now }
+// The program's answer to its input: the address is in the first two lines, and the file follows. No plan has the address 0.
+pub fn hear(plan: &[u8], input: &[u8]) -> Result<Record, Refusal>
+    ensures { answer_by result ≡ heard_of plan.now input.now }
 {
     let second = text_keyline::below(input);
     let file = text_keyline::below(second);
-    let Digits::Are(ca) = text_keyline::number(b"ca=", 65534, input) else {
+    let Some(ca) = text_keyline::number(b"ca=", 65534, input) else {
         return reader::read(0, 0, plan, file);
     };
-    let Digits::Are(ioa) = text_keyline::number(b"ioa=", 16777215, second) else {
+    let Some(ioa) = text_keyline::number(b"ioa=", 16777215, second) else {
         return reader::read(0, 0, plan, file);
     };
     reader::read(ca as u32, ioa as u32, plan, file)

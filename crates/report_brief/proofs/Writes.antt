@@ -1,10 +1,11 @@
 -- The six lines are put into a room of their own, and the front of it into the output where there is room. Assumes nothing.
+use Rattle.std.specs.Prelude.{Ok, Err}
+use Rattle.refusal.specs.declared.Refusal.TheVariants.{NoRoom}
 use Prim.Native.Nat.{ℕ, ◌+◌, ◌≤◌, ◌<◌}
 use Rattle.report_brief.proofs.Sizes.{six_of_lem}
 use Rattle.report_brief.specs.Brief.{six_of}
 use Rattle.report_brief.specs.declared.Brief.{Brief}
 use Rattle.text.specs.Puts.{wrote_of, buffer_of}
-use Rattle.text.specs.declared.put.Wrote.TheVariants.{To, NoRoom}
 use borrow.Author.Tests.{le-leb, lt-leb}
 use lib.ListN.{length, take, drop, replicate, length-replicate}
 use lib.Seq.{sets, sets-eq, take-append_seam}
@@ -20,7 +21,7 @@ front_put t part room n h e f g =
     g ∙ ap₂ (λ (i : ℕ) (l : List ℕ). take i l) k (f ∙ sets-eq t (replicate 89 0) 0 z) ∙ take-append_seam t (drop (0 + length t) (replicate 89 0))
 
 module _ (b : Brief) (sized : length b.unit ≡ 16) (out : List ℕ) (n : ℕ) (size : n ≡ 0 + length (six_of b)) where
-  pub no_room : length out < n → (NoRoom n ≡ wrote_of out 0 (six_of b)) × (out ≡ buffer_of out 0 (six_of b))
+  pub no_room : length out < n → (Err (NoRoom n) ≡ wrote_of out 0 (six_of b)) × (out ≡ buffer_of out 0 (six_of b))
   unfolding wrote_of buffer_of
   no_room h =
       let k : n ≡ length (six_of b) = omega (arith, size) in
@@ -28,7 +29,7 @@ module _ (b : Brief) (sized : length b.unit ≡ 16) (out : List ℕ) (n : ℕ) (
       rw (k, lt-leb (0 + length (six_of b)) (length out) g) (refl, refl)
 
   pub written : (room part out₂ : List ℕ) (r : ℕ) → n ≤ length out → room ≡ sets (replicate 89 0) 0 (six_of b) → part ≡ take n room
-      → (r ≡ 0 + length part) × (out₂ ≡ sets out 0 part) → (To r ≡ wrote_of out 0 (six_of b)) × (out₂ ≡ buffer_of out 0 (six_of b))
+      → (r ≡ 0 + length part) × (out₂ ≡ sets out 0 part) → (Ok r ≡ wrote_of out 0 (six_of b)) × (out₂ ≡ buffer_of out 0 (six_of b))
   unfolding wrote_of buffer_of
   written room part out₂ r h f p e =
       let t = six_of b in

@@ -11,7 +11,7 @@ ghost use Rattle.text.specs.Puts.{limit, Puts, wrote_of, buffer_of};
 
 use layout::{Layout, fields};
 use record::{Cell, Record, at};
-use text::put::Wrote;
+use refusal::Refusal;
 use text::{put, scan};
 use value::Value;
 use value_name::MessageType;
@@ -112,13 +112,13 @@ pub fn put_lines(out: &mut [u8], at: usize, b: Brief) -> usize
 }
 
 // The six lines, written where out begins if there is room for them. They are put into a room of their own first: a refusal changes no byte.
-pub fn write_lines(out: &mut [u8], b: Brief) -> Wrote
+pub fn write_lines(out: &mut [u8], b: Brief) -> Result<usize, Refusal>
     ensures { (result ≡ wrote_of out.old 0 (six_of b)) × (out.new ≡ buffer_of out.old 0 (six_of b)) }
 {
     let mut lines = [0u8; 89];
     let size = put_lines(&mut lines, 0, b);
     if out.len() < size {
-        return Wrote::NoRoom(size);
+        return Err(Refusal::NoRoom(size));
     }
-    Wrote::To(put::put_text(out, 0, scan::front(&lines, size)))
+    Ok(put::put_text(out, 0, scan::front(&lines, size)))
 }

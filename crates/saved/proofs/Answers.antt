@@ -10,7 +10,7 @@ use Rattle.saved.specs.Saved.{above, read_order, order_read_of}
 use Rattle.saved_lines.proofs.Seven.{Seven}
 use Rattle.saved_lines.specs.Items.{Lines, read_from, item_of}
 use Rattle.saved_lines.specs.Tables.{next_of}
-use Rattle.saved_lines.specs.declared.Item.{Item}
+use Rattle.saved_lines.specs.Items.{Item}
 use Rattle.saved_lines.specs.declared.Table.TheVariants.{Order as OrderTable}
 use lib.ListN.{length, replicate}
 use mathlib.Core.Bool.{true, false}

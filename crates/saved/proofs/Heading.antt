@@ -1,4 +1,5 @@
 -- The lines above the orders: the form is line 1, the unit line 2, the floor and the count lines 3 and 4, and the orders begin at line 5. Assumes nothing.
+use Rattle.std.specs.Prelude.{None, Option, Some}
 use Prim.Native.Nat.{ℕ, suc, ◌+◌, ◌-◌, ◌≤◌, ◌<◌}
 use Rattle.saved.proofs.Items.{Whole, whole_item, broken_item}
 use Rattle.saved.specs.Reads.{Read, good, bad, and_then, lined, read_item, unit_read, read_unit}
@@ -6,7 +7,7 @@ use Rattle.saved.specs.Saved.{nothing, Top, read_head}
 use Rattle.saved_lines.proofs.Exact.{read_only}
 use Rattle.saved_lines.specs.Items.{Lines, good as good_lines, bad as bad_line, read_from, text_from, Said, item_of}
 use Rattle.saved_lines.specs.Tables.{at, next_of}
-use Rattle.saved_lines.specs.declared.Item.{Item}
+use Rattle.saved_lines.specs.Items.{Item}
 use Rattle.saved_lines.specs.declared.Table.{Table}
 use Rattle.saved_lines.specs.declared.Table.TheVariants.{Form, Head as HeadTable}
 use Rattle.text.proofs.Cuts.{tail, length_part, part_from, upto_take, past_drop}
@@ -14,14 +15,11 @@ use Rattle.text.proofs.Tests.{and_parts, within_tells}
 use Rattle.text.specs.Bytes.{bytes, is, within, all, first_of}
 use Rattle.text_keyline.proofs.Lines.{unit_told, unit_own}
 use Rattle.text_keyline.specs.Keylines.{below, line_text, unit_at, if_named, named_to}
-use Rattle.text_keyline.specs.declared.Named.{Named}
-use Rattle.text_keyline.specs.declared.Named.TheVariants.{To, Not as NotNamed}
 use Rattle.value_name.specs.Names.{is_unit_byte, is_unit}
 use lib.ListN.{length, take, drop, length-append, length-drop}
 use lib.Seq.{drop_at}
 use mathlib.Core.Bool.{true, false}
 use mathlib.Core.List.{List, [], ◌∷◌, ◌++◌, append_assoc}
-use mathlib.Core.Option.{Option, none, some}
 use mathlib.Core.Path.{◌≡◌, refl, sym, ap, ◌∙◌}
 use native.Mathlib.Omega.{arith}
 
@@ -47,13 +45,13 @@ head_two (f ∷ c ∷ []) p = record { floor = f; count = c; are = refl; floor_t
 
 -- ---- what the answer for a unit's line tells
 
-not_named : (x : Option (List ℕ)) (s : List ℕ) → NotNamed ≡ if_named x s → x ≡ none
-not_named none s e = refl
-not_named (some u) s e = let z : ◌≡◌ {A = ℕ} 0 1 = cc in absurd (omega arith)
+not_named : (x : Option (List ℕ)) (s : List ℕ) → None ≡ if_named x s → x ≡ None
+not_named None s e = refl
+not_named (Some u) s e = let z : ◌≡◌ {A = ℕ} 0 1 = cc in absurd (omega arith)
 
-is_named : (x : Option (List ℕ)) (s : List ℕ) (e : ℕ) → To e ≡ if_named x s → (u : List ℕ) × (x ≡ some u) × (e ≡ first_of 10 s)
-is_named none s e h = let z : ◌≡◌ {A = ℕ} 0 1 = cc in absurd (omega arith)
-is_named (some u) s e h = (u, refl, cc)
+is_named : (x : Option (List ℕ)) (s : List ℕ) (e : ℕ) → Some e ≡ if_named x s → (u : List ℕ) × (x ≡ Some u) × (e ≡ first_of 10 s)
+is_named None s e h = let z : ◌≡◌ {A = ℕ} 0 1 = cc in absurd (omega arith)
+is_named (Some u) s e h = (u, refl, cc)
 
 -- ---- line by line
 
@@ -84,13 +82,13 @@ module _ (s : List ℕ) (f : Item) (first : f ≡ item_of (read_from (next_of Fo
         let n : 1 + length one.values ≡ 2 = omega (arith, form_one one.values one.said) in
         rw (one.read, n, second_is)
 
-    module _ (d : Named) (told : d ≡ named_to second) where
-      pub bad_unit : d ≡ NotNamed → read_head s ≡ bad 2
+    module _ (d : Option ℕ) (told : d ≡ named_to second) where
+      pub bad_unit : d ≡ None → read_head s ≡ bad 2
       unfolding read_head read_unit
       bad_unit n = rw (form_read, not_named (unit_at second) second (sym n ∙ told))
 
-      module _ (e : ℕ) (is_unit_so : d ≡ To e) where
-        unit_at_lem : (u : List ℕ) × (unit_at second ≡ some u) × (e ≡ first_of 10 second)
+      module _ (e : ℕ) (is_unit_so : d ≡ Some e) where
+        unit_at_lem : (u : List ℕ) × (unit_at second ≡ Some u) × (e ≡ first_of 10 second)
         unit_at_lem = is_named (unit_at second) second e (sym is_unit_so ∙ told)
 
         -- the line's LF stands past the key, and in the text
@@ -229,8 +227,8 @@ module _ (s : List ℕ) (h : Top) (n : ℕ) (rest : List ℕ) where
       }
 
   by_unit : (t : List ℕ) (m : ℕ) → m ≡ 2 → Left s t → (x : Option (List ℕ)) → unit_at t ≡ x → below_form m t x ≡ good h n rest → Headed s h n rest
-  by_unit t m two a none i e = let z : ◌≡◌ {A = ℕ} 0 1 = cc in absurd (omega arith)
-  by_unit t m two a (some u) i e =
+  by_unit t m two a None i e = let z : ◌≡◌ {A = ℕ} 0 1 = cc in absurd (omega arith)
+  by_unit t m two a (Some u) i e =
       let w = unit_own t u i in
       by_head u (below t) (suc m) (omega (arith, two)) (unit_fits u w.0) (left_on a (record { front = line_text (bytes "unit=") u; are = w.1 }))
       (read_from (next_of HeadTable nothing) 18 [] (below t)) refl e

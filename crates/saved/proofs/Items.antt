@@ -4,7 +4,7 @@ use Rattle.saved_lines.proofs.Exact.{read_only, bad_low}
 use Rattle.saved_lines.specs.Items.{Lines, good as good_lines, bad as bad_line, read_from, text_from, Said, item_of}
 use Rattle.saved_lines.specs.Tables.{next_of}
 use Rattle.saved_lines.specs.declared.Above.{Above}
-use Rattle.saved_lines.specs.declared.Item.{Item}
+use Rattle.saved_lines.specs.Items.{Item}
 use Rattle.saved_lines.specs.declared.Table.{Table}
 use lib.ListN.{length, drop, replicate, length-append}
 use lib.Seq.{drop_at}

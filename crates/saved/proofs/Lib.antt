@@ -10,3 +10,4 @@ pub mod Valued
 pub mod Shelving
 pub mod Saving
 pub mod Unique
+pub mod Told

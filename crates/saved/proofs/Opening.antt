@@ -3,7 +3,7 @@ use Prim.Native.Nat.{ℕ, ◌-◌, ◌≤◌}
 use Rattle.saved.proofs.Heading.{headed}
 use Rattle.saved.specs.Reads.{Read, good, bad, and_then}
 use Rattle.saved.specs.Saved.{Top, read_head, read_rest, read_book, unread_at, read_as, read_of, bad_head, head_of, top_of, read_below}
-use Rattle.saved.specs.declared.Head.{Head}
+use Rattle.saved.specs.Saved.{Head}
 use Rattle.text.specs.Puts.{room_of}
 use Rattle.text_room.specs.Rooms.{kept_in}
 use borrow.Author.Tests.{le-leb}

@@ -11,8 +11,8 @@ use Rattle.saved.proofs.Ordering.{said_fits}
 use Rattle.saved.specs.Orders.{order_from}
 use Rattle.saved.specs.Reads.{Read, good, bad, and_then, lined, read_item}
 use Rattle.saved.specs.Saved.{above, read_order, read_orders, read_rest, read_below, order_read_of, read_as, unread_at}
-use Rattle.saved.specs.declared.Head.{Head}
-use Rattle.saved.specs.declared.OrderRead.{OrderRead}
+use Rattle.saved.specs.Saved.{Head}
+use Rattle.saved.specs.Saved.{OrderRead}
 use Rattle.saved_lines.proofs.Exact.{read_only, bad_low}
 use Rattle.saved_lines.specs.Items.{Lines, good as good_lines, bad as bad_line, read_from, text_from}
 use Rattle.saved_lines.specs.Tables.{next_of}

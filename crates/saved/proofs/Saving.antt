@@ -5,37 +5,19 @@ use Rattle.book.specs.Places.{shelf, formed_book}
 use Rattle.book.specs.declared.Book.{Book}
 use Rattle.book_order.specs.Orders.{is_partial}
 use Rattle.saved.specs.Saved.{text_of, has_partial, save_of, saved_in}
-use Rattle.saved.specs.declared.Saved.TheVariants.{To, Refused}
-use Rattle.text.proofs.Fronts.{any_step, any_end}
+use Rattle.saved.specs.Saved.{To, Refused}
 use Rattle.text.proofs.Runs.{none_put, refused_write}
 use Rattle.text.specs.Bytes.{any}
 use Rattle.text.specs.Puts.{Puts, buffer_of}
 use borrow.Author.Tests.{lt-ltb, le-ltb, le-leb}
-use lib.ListN.{length, get_or, take, drop, length-take}
-use lib.Seq.{get_or-take, sets, sets-eq}
-use mathlib.Core.Bool.{Bool, true, false, ◌||◌}
+use lib.ListN.{length, take}
+use lib.Seq.{sets, sets-eq}
+use mathlib.Core.Bool.{Bool, true, false}
 use mathlib.Core.List.{List, [], ◌++◌}
 use mathlib.Core.Path.{◌≡◌, refl, sym, ap, ◌∙◌}
 use native.Mathlib.Omega.{arith}
 
--- ---- the loop over the first n things of a list: whether one of those that are left passes is whether one of all does
-
-module _ {A : Type 0} (p : A → Bool) (d : A) (l : List A) (n i : ℕ) (so_far : any p (take n l) ≡ any p (drop i (take n l))) where
-  pub any_none : n ≤ i → false ≡ any p (take n l)
-  any_none h = sym (so_far ∙ any_end p (take n l) i (omega (arith, length-take n l, h)))
-
-  module _ (within : n ≤ length l) (more : i < n) (t : Bool) (told : t ≡ p (get_or l i d)) where
-    -- this one passes, or one after it
-    this : any p (take n l) ≡ (t || any p (drop (i + 1) (take n l)))
-    this = rw (get_or-take n l i d more, sym told) at (so_far ∙ any_step p d (take n l) i (omega (arith, length-take n l, within, more)))
-
-    pub any_here : t ≡ true → true ≡ any p (take n l)
-    any_here e = sym (rw e at this)
-
-    pub any_on : t ≡ false → any p (take n l) ≡ any p (drop (i + 1) (take n l))
-    any_on e = rw e at this
-
--- of the orders that a book holds
+-- whether one of the orders that a book holds is struck in part
 pub partial_held : (b : Book) (count : ℕ) → Holding b count → (t u : Bool) → t ≡ any is_partial (take count b.orders) → t ≡ u → has_partial b ≡ u
 partial_held b count h t u told is = ap (any is_partial) h.held ∙ sym told ∙ is
 

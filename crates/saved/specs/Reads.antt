@@ -1,12 +1,11 @@
 -- What is read of a text from one of its lines on: what it says, the number of the line that follows and the text from there on; or the number of the
 -- first bad line.
-use Rattle.std.specs.Prelude.{ℕ, suc, ◌+◌, eqb, length, cond, List, []}
+use Rattle.std.specs.Prelude.{ℕ, suc, ◌+◌, eqb, length, cond, List, [], None, Option, Some}
 use Rattle.saved_lines.specs.Items.{Lines, good as good_lines, bad as bad_line, read_from}
 use Rattle.saved_lines.specs.Tables.{next_of}
 use Rattle.saved_lines.specs.declared.Above.{Above}
 use Rattle.saved_lines.specs.declared.Table.{Table}
 use Rattle.text_keyline.specs.Keylines.{below, unit_at}
-use Rattle.std.proofs.Math.Option.{Option, none, some}
 
 pub data Read (A : Type 0) : Type 0 where
   good : A → ℕ → List ℕ → Read A
@@ -31,8 +30,8 @@ read_item t a n s = lined n (read_from (next_of t a) 18 [] s)
 
 -- the line of a unit
 abbrev pub unit_read : Option (List ℕ) → ℕ → List ℕ → Read (List ℕ)
-unit_read none n rest = bad n
-unit_read (some u) n rest = good u (suc n) rest
+unit_read None n rest = bad n
+unit_read (Some u) n rest = good u (suc n) rest
 
 unfoldable pub read_unit : ℕ → List ℕ → Read (List ℕ)
 read_unit n s = unit_read (unit_at s) n (below s)

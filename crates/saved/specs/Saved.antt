@@ -1,19 +1,18 @@
 -- A saved book, read and written. Document 02, A4: "Save it as `key=value` lines in fixed order: `form=1`, `unit`, `floor`, `count`, then for each held
 -- order, by ascending number, .."; "Refusals: 20, then 11 on saving; 50 with the first bad line on reading, which hands the all-zero book"; A6: 52 after 20.
-use Rattle.std.specs.Prelude.{ℕ, zero, suc, ◌-◌, ltb, length, take, replicate, Bool, true, false, not, ◌&&◌, cond, List, [], ◌∷◌, ◌++◌}
-use Rattle.book.specs.Answers.{outcome}
+use Rattle.std.specs.Prelude.{ℕ, zero, suc, ◌-◌, ltb, length, take, replicate, Bool, true, false, not, ◌&&◌, cond, List, [], ◌∷◌, ◌++◌, Result, Ok, Err}
+use Rattle.book.specs.Answers.{Outcome, outcome}
 use Rattle.book.specs.Places.{book_of, shelf, zero_book, formed_book}
 use Rattle.book.specs.declared.Book.{Book}
-use Rattle.book.specs.declared.Outcome.{Outcome}
 use Rattle.book_ledger.specs.Ledger.{Ledger}
 use Rattle.book_order.specs.Orders.{empty_order, is_partial}
 use Rattle.book_order.specs.declared.Order.{Order}
 use Rattle.saved.specs.Orders.{values_of, order_from}
 use Rattle.saved.specs.Reads.{Read, good, bad, and_then, ended, read_item, read_unit}
-use Rattle.saved.specs.declared.Head.{Head}
-use Rattle.saved.specs.declared.OrderRead.{OrderRead}
-use Rattle.saved.specs.declared.Saved.{Saved}
-use Rattle.saved.specs.declared.Saved.TheVariants.{To, Refused}
+use Rattle.refusal.specs.Numbers.{number_of, detail_of}
+use Rattle.refusal.specs.declared.Refusal.{Refusal as Reason}
+use Rattle.saved.specs.declared.Head.{Head as GoodHead}
+use Rattle.saved.specs.declared.OrderRead.{OrderRead as GoodOrder}
 use Rattle.saved_lines.specs.Items.{text_from}
 use Rattle.saved_lines.specs.Tables.{at, next_of}
 use Rattle.saved_lines.specs.declared.Above.{Above}
@@ -79,7 +78,24 @@ read_as (bad n) = unread_at n
 unfoldable pub read_of : List ℕ → Outcome
 read_of s = read_as (read_book s)
 
+-- what the function says that reads the book alone
+abbrev pub book_by : Result Book ℕ → Outcome
+book_by (Ok b) = outcome 0 b
+book_by (Err n) = unread_at n
+
 -- ---- what the functions answer for an order and for the lines above
+
+-- one order at the front of a text: the order, how many lines it has and where it ends; or how many good lines stand above its first bad one alone
+pub record OrderRead : Type 0 where
+  pub good : Bool
+  pub order : Order
+  pub lines : ℕ
+  pub end : ℕ
+
+-- what an answer says
+abbrev pub order_read_by : Result GoodOrder ℕ → OrderRead
+order_read_by (Ok x) = record { good = true; order = x.order; lines = x.lines; end = x.end }
+order_read_by (Err k) = record { good = false; order = empty_order; lines = k; end = 0 }
 
 abbrev pub order_read_of : Read Order → List ℕ → OrderRead
 order_read_of (good o n rest) s = record { good = true; order = o; lines = n; end = length s - length rest }
@@ -89,8 +105,24 @@ order_read_of (bad n) s = record { good = false; order = empty_order; lines = n;
 abbrev pub of_order_read : OrderRead → Said
 of_order_read x = cond x.good (said 0 0 (x.lines ∷ x.end ∷ values_of x.order)) (said 50 x.lines [])
 
+-- what stands above the orders: the unit's code in its room, the floor, how many orders there are, the number of their first line and its place; or the
+-- number of the first bad line alone
+pub record Head : Type 0 where
+  pub good : Bool
+  pub size : ℕ
+  pub unit : List ℕ
+  pub floor : ℕ
+  pub count : ℕ
+  pub line : ℕ
+  pub end : ℕ
+
 abbrev pub bad_head : ℕ → Head
 bad_head n = record { good = false; size = 0; unit = replicate 16 0; floor = 0; count = 0; line = n; end = 0 }
+
+-- what an answer says
+abbrev pub head_by : Result GoodHead ℕ → Head
+head_by (Ok h) = record { good = true; size = h.size; unit = h.unit; floor = h.floor; count = h.count; line = h.line; end = h.end }
+head_by (Err n) = bad_head n
 
 abbrev pub head_of : Read Top → List ℕ → Head
 head_of (good h n rest) s =
@@ -142,6 +174,16 @@ save_refusals b room =
     ∷ refusal 52 0 (has_partial b)
     ∷ refusal 11 (length (text_of (shelf b))) (ltb room (length (text_of (shelf b))))
     ∷ []
+
+-- how long the saved text is, or a refusal's number and detail
+pub data Saved : Type 0 where
+  To : ℕ → Saved
+  Refused : ℕ → ℕ → Saved
+
+-- what an answer says
+abbrev pub saved_by : Result ℕ Reason → Saved
+saved_by (Ok n) = To n
+saved_by (Err e) = Refused (number_of e) (detail_of e)
 
 -- THE DEFINITION: what saving into so much room answers
 unfoldable pub save_of : Book → ℕ → Saved

@@ -2,7 +2,6 @@
 ghost use Rattle.std.specs.Prelude.{◌+◌, ◌*◌, ◌≤◌, ◌<◌, length, take, true, ◌≡◌};
 ghost use Rattle.book.specs.Places.{tally_of, shelf};
 ghost use Rattle.book_order.specs.Orders.{could_come};
-ghost use Rattle.book.specs.declared.Tally.{Tally};
 ghost use Rattle.saved.specs.Saved.{order_text, head_text, text_of};
 ghost use Rattle.text.specs.Puts.{limit, Puts};
 
@@ -39,15 +38,13 @@ fn put_head(out: &mut [u8], size: usize, unit: [u8; 16], floor: u32, count: usiz
 
 // The text of a book that holds `count` orders.
 pub fn put_book(out: &mut [u8], b: Book, count: usize) -> usize
-    requires { tally_of b ≡ Tally.Holds count }
+    requires { tally_of b ≡ Some count }
     ensures { Puts out.old 0 (text_of (shelf b)) result out.new }
 {
     let unit = b.unit;
     let mut p = put_head(out, b.size, unit, b.floor, count);
-    let mut i = 0;
-    while i < count {
+    for i in 0..count {
         p = put_order(out, p, b.orders[i]);
-        i += 1;
     }
     p
 }

@@ -1,15 +1,13 @@
 -- What is read is what was written, and nothing else is read: of any table of lines, from the two laws of one line. Assumes nothing.
+use Rattle.std.specs.Prelude.{None, Option, Some}
 use Prim.Native.Nat.{ℕ, zero, suc, ◌+◌, ◌≤◌, ◌<◌}
 use Rattle.saved_lines.proofs.OneLine.{written, only}
 use Rattle.saved_lines.specs.Items.{Lines, good, bad, if_met, read_from, text_from, Said}
 use Rattle.saved_lines.specs.Values.{line_value, met_in, met_of, next_text, MayBe}
 use Rattle.saved_lines.specs.declared.Met.{Met}
 use Rattle.saved_lines.specs.declared.Met.TheVariants.{Says, Wrong, Over}
-use Rattle.saved_lines.specs.declared.Next.{Next}
-use Rattle.saved_lines.specs.declared.Next.TheVariants.{Line, Done}
+use Rattle.saved_lines.specs.Values.{Next, Line, Done}
 use Rattle.text.specs.Bytes.{first_of}
-use Rattle.text.specs.declared.digits.Digits.{Digits}
-use Rattle.text.specs.declared.digits.Digits.TheVariants.{Are, Not}
 use Rattle.text_keyline.specs.Keylines.{below}
 use lib.ListN.{length, length-append}
 use mathlib.Core.List.{List, [], ◌∷◌, ◌++◌, append-nil, append_assoc}
@@ -18,9 +16,9 @@ use native.Mathlib.Omega.{arith}
 
 -- ---- a line as it is met
 
-pub says_in : (s : List ℕ) (d : Digits) (v e : ℕ) → met_in d s ≡ Says v e → (d ≡ Are v) × (e ≡ first_of 10 s)
-says_in s (Are w) v e h = (cc, cc)
-says_in s Not v e h = let z : ◌≡◌ {A = ℕ} 0 1 = cc in absurd (omega arith)
+pub says_in : (s : List ℕ) (d : Option ℕ) (v e : ℕ) → met_in d s ≡ Says v e → (d ≡ Some v) × (e ≡ first_of 10 s)
+says_in s (Some w) v e h = (cc, cc)
+says_in s None v e h = let z : ◌≡◌ {A = ℕ} 0 1 = cc in absurd (omega arith)
 
 -- a line that was written is met by its value
 met_written : (x : Next) (v : ℕ) (rest : List ℕ) → MayBe x v
@@ -40,9 +38,9 @@ met_over : (x : Next) (s : List ℕ) → met_of x s ≡ Over → x ≡ Done
 met_over Done s h = refl
 met_over (Line k x lo hi) s h = absurd (in_digits (line_value k x lo hi s) h)
   where
-    in_digits : (d : Digits) → met_in d s ≡ Over → ⊥
-    in_digits (Are w) h = let z : ◌≡◌ {A = ℕ} 0 1 = cc in omega arith
-    in_digits Not h = let z : ◌≡◌ {A = ℕ} 0 1 = cc in omega arith
+    in_digits : (d : Option ℕ) → met_in d s ≡ Over → ⊥
+    in_digits (Some w) h = let z : ◌≡◌ {A = ℕ} 0 1 = cc in omega arith
+    in_digits None h = let z : ◌≡◌ {A = ℕ} 0 1 = cc in omega arith
 
 -- ---- an item
 

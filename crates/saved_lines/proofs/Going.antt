@@ -1,23 +1,20 @@
 -- The loop that reads an item's lines: what is read so far, with what the rest gives after it, is the item. Assumes nothing.
+use Rattle.std.specs.Prelude.{None, Option, Some}
 use Prim.Native.Nat.{ℕ, suc, ◌+◌, ◌-◌, ◌≤◌, ◌<◌}
 use Rattle.saved_lines.proofs.Exact.{says_in, met_only}
 use Rattle.saved_lines.specs.Items.{Lines, good, bad, read_from, wrong_item, item_of}
 use Rattle.saved_lines.specs.Values.{key_text, value_of, line_value, met_of, IsOf, MayBe, Small}
-use Rattle.saved_lines.specs.declared.Item.{Item}
+use Rattle.saved_lines.specs.Items.{Item}
 use Rattle.saved_lines.specs.declared.Met.{Met}
 use Rattle.saved_lines.specs.declared.Met.TheVariants.{Says, Wrong, Over}
-use Rattle.saved_lines.specs.declared.Next.{Next}
-use Rattle.saved_lines.specs.declared.Next.TheVariants.{Line, Done}
+use Rattle.saved_lines.specs.Values.{Next, Line, Done}
 use Rattle.saved_lines.specs.declared.Sort.{Sort}
 use Rattle.saved_lines.specs.declared.Sort.TheVariants.{Whole, Amount, Letter}
 use Rattle.saved_lines.specs.declared.Key.{Key}
 use Rattle.text.proofs.Tests.{by_eq, by_le}
 use Rattle.text.specs.Bytes.{first_of}
-use Rattle.text.specs.declared.digits.Digits.TheVariants.{Are}
 use Rattle.text_keyline.proofs.Values.{upto_less, line_told, below_at}
 use Rattle.text_keyline.specs.Keylines.{line_of, value_in, if_line, ranged, below}
-use Rattle.text_keyline.specs.declared.Line.{Line as KeyLine}
-use Rattle.text_keyline.specs.declared.Line.TheVariants.{Ends, Bad}
 use Rattle.value_bounds.specs.Bounds.{most_number}
 use lib.ListN.{length, take, drop, set, replicate, length-drop, length-set, get_or-replicate, get_or-eq_default, length-replicate}
 use lib.Seq.{take-length, take-suc-set, set_split, drop-drop, drop_at, length-take-le, get_or-set_same, get_or-set_other}
@@ -29,13 +26,13 @@ use native.Mathlib.Omega.{arith}
 
 -- ---- where a line that says something ends, and how great its value is
 
-ended : (k : Key) (x : Sort) (lo hi : ℕ) (s : List ℕ) (v : ℕ) → line_value k x lo hi s ≡ Are v → first_of 10 s < length s
+ended : (k : Key) (x : Sort) (lo hi : ℕ) (s : List ℕ) (v : ℕ) → line_value k x lo hi s ≡ Some v → first_of 10 s < length s
 unfolding line_value
 ended k x lo hi s v e = by_line (line_of (key_text k) s) refl e
   where
-    by_line : (l : KeyLine) → line_of (key_text k) s ≡ l → if_line l (ranged lo hi (value_of x (value_in (key_text k) s))) ≡ Are v → first_of 10 s < length s
-    by_line Bad i e = let z : ◌≡◌ {A = ℕ} 0 1 = cc in absurd (omega arith)
-    by_line (Ends n) i e = upto_less s (line_told (key_text k) s n i).1
+    by_line : (l : Option ℕ) → line_of (key_text k) s ≡ l → if_line l (ranged lo hi (value_of x (value_in (key_text k) s))) ≡ Some v → first_of 10 s < length s
+    by_line None i e = let z : ◌≡◌ {A = ℕ} 0 1 = cc in absurd (omega arith)
+    by_line (Some n) i e = upto_less s (line_told (key_text k) s n i).1
 
 pub said_at : (x : Next) (s : List ℕ) (v e : ℕ) → met_of x s ≡ Says v e → (e ≡ first_of 10 s) × (e < length s)
 said_at Done s v e h = let z : ◌≡◌ {A = ℕ} 0 1 = cc in absurd (omega arith)
@@ -137,10 +134,11 @@ module _ (next : List ℕ → Next) where
           )
 
   -- after the last of them nothing is read
-  pub full_here : (s v : List ℕ) (n : ℕ) (rest : List ℕ) → Going next s v n rest → 18 ≤ n → (r : Item) → r ≡ wrong_item n
+  pub full_here : (s v : List ℕ) (n : ℕ) (rest : List ℕ) → Going next s v n rest → 18 ≤ n → (r : Item) → r ≡ wrong_item 18
       → r ≡ item_of (read_from next 18 [] s) s
   unfolding read_from
   full_here s v n rest g h r e =
       let k : 18 - n ≡ 0 = omega arith in
+      let all : 18 ≡ n = omega (arith, g.few) in
       let is : read_from next (18 - n) (take n v) rest ≡ bad (length (take n v)) = rw k in
-      e ∙ ap wrong_item (sym (length-take-le n v (omega (arith, g.few, g.long)))) ∙ sym (ap (λ (x : Lines). item_of x s) (sym g.rest_is ∙ is))
+      e ∙ ap wrong_item (all ∙ sym (length-take-le n v (omega (arith, g.few, g.long)))) ∙ sym (ap (λ (x : Lines). item_of x s) (sym g.rest_is ∙ is))

@@ -8,3 +8,4 @@ pub mod Meeting
 pub mod OnePut
 pub mod Nexts
 pub mod Unique
+pub mod Told

@@ -4,8 +4,7 @@ use Rattle.saved_lines.specs.Tables.{apart_of, second_line, order_lines, lines_o
 use Rattle.saved_lines.specs.Values.{zero_amount}
 use Rattle.saved_lines.specs.declared.Above.{Above}
 use Rattle.saved_lines.specs.declared.Key.TheVariants.{Start, End, Var2}
-use Rattle.saved_lines.specs.declared.Next.{Next}
-use Rattle.saved_lines.specs.declared.Next.TheVariants.{Line, Done}
+use Rattle.saved_lines.specs.Values.{Next, Line, Done}
 use Rattle.saved_lines.specs.declared.Sort.TheVariants.{Whole, Amount}
 use Rattle.saved_lines.specs.declared.Table.{Table}
 use Rattle.value_bounds.specs.Bounds.{first_instant, last_instant}

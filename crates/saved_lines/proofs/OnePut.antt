@@ -3,8 +3,7 @@ use Prim.Native.Nat.{ℕ, ◌+◌, ◌-◌, ◌≤◌, ◌<◌}
 use Rattle.saved_lines.proofs.Putting.{key_size, value_size}
 use Rattle.saved_lines.specs.Values.{key_text, zero_amount, amount_text, letter_text, value_text, next_text}
 use Rattle.saved_lines.specs.declared.Key.{Key}
-use Rattle.saved_lines.specs.declared.Next.{Next}
-use Rattle.saved_lines.specs.declared.Next.TheVariants.{Line, Done}
+use Rattle.saved_lines.specs.Values.{Next, Line, Done}
 use Rattle.saved_lines.specs.declared.Sort.{Sort}
 use Rattle.text.proofs.Runs.{puts, puts_of, puts_none, then, same_puts}
 use Rattle.text.specs.Puts.{limit, Puts}

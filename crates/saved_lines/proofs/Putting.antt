@@ -4,8 +4,7 @@ use Rattle.saved_lines.specs.Items.{text_from}
 use Rattle.saved_lines.specs.Values.{key_text, zero_amount, amount_text, letter_text, value_text, next_text}
 use Rattle.saved_lines.specs.declared.Key.{Key}
 use Rattle.saved_lines.specs.declared.Key.TheVariants.{Form, Floor, Count, Number, Kind, Start, End, Var1, Var2, Struck}
-use Rattle.saved_lines.specs.declared.Next.{Next}
-use Rattle.saved_lines.specs.declared.Next.TheVariants.{Line, Done}
+use Rattle.saved_lines.specs.Values.{Next, Line, Done}
 use Rattle.saved_lines.specs.declared.Sort.{Sort}
 use Rattle.saved_lines.specs.declared.Sort.TheVariants.{Whole, Amount, Letter}
 use Rattle.text.proofs.Numerals.{whole_length}

@@ -4,8 +4,7 @@ use Rattle.saved_lines.specs.Items.{Said}
 use Rattle.saved_lines.specs.Tables.{apart_of, second_line, next_of}
 use Rattle.saved_lines.specs.Values.{zero_amount, MayBe}
 use Rattle.saved_lines.specs.declared.Above.{Above}
-use Rattle.saved_lines.specs.declared.Next.{Next}
-use Rattle.saved_lines.specs.declared.Next.TheVariants.{Done}
+use Rattle.saved_lines.specs.Values.{Next, Done}
 use Rattle.saved_lines.specs.declared.Table.TheVariants.{Order}
 use Rattle.value_bounds.specs.Bounds.{first_instant, last_instant, most_number, most_amount}
 use mathlib.Core.List.{List, [], ◌∷◌}

@@ -3,11 +3,9 @@
 -- by those above it and its end by the floor.
 use Rattle.std.specs.Prelude.{ℕ, zero, suc, max, ◌+◌, ◌-◌, length, get_or, List, [], ◌∷◌}
 use Rattle.saved_lines.specs.declared.Above.{Above}
-use Rattle.saved_lines.specs.Values.{zero_amount}
+use Rattle.saved_lines.specs.Values.{zero_amount, Next, Line, Done}
 use Rattle.saved_lines.specs.declared.Key.{Key}
 use Rattle.saved_lines.specs.declared.Key.TheVariants.{Form as FormKey, Floor, Count, Number, Kind, Start, End, Var1, Var2, Struck}
-use Rattle.saved_lines.specs.declared.Next.{Next}
-use Rattle.saved_lines.specs.declared.Next.TheVariants.{Line, Done}
 use Rattle.saved_lines.specs.declared.Sort.TheVariants.{Whole, Amount, Letter}
 use Rattle.saved_lines.specs.declared.Table.{Table}
 use Rattle.saved_lines.specs.declared.Table.TheVariants.{Form, Head, Order}

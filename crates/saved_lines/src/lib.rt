@@ -7,7 +7,7 @@ mod line;
 mod tables;
 
 ghost use Rattle.std.specs.Prelude.{◌+◌, ◌≤◌, ◌<◌, take, [], ◌≡◌};
-ghost use Rattle.saved_lines.specs.Items.{wrong_item, item_of, text_from, read_from};
+ghost use Rattle.saved_lines.specs.Items.{item_by, item_of, text_from, read_from};
 ghost use Rattle.saved_lines.specs.Tables.{next_of};
 ghost use Rattle.saved_lines.specs.Values.{Small};
 ghost use Rattle.text.specs.Puts.{limit, Puts};
@@ -34,11 +34,13 @@ pub enum Sort {
     Letter,
 }
 
-// The line that comes next, with the least and the greatest number that its value may be; or none.
+// A line that comes next, with the least and the greatest number that its value may be.
 #[derive(Clone, Copy)]
-pub enum Next {
-    Line(Key, Sort, u64, u64),
-    Done,
+pub struct NextLine {
+    pub key: Key,
+    pub sort: Sort,
+    pub least: u64,
+    pub most: u64,
 }
 
 // A line as it is met: its value as one number and where its LF stands; that it is wrong; or that none is wanted any more.
@@ -64,10 +66,9 @@ pub struct Above {
     pub end: u64,
 }
 
-// What an item's lines say: their values and where the item ends; or how many good lines stand above the first bad one.
+// What an item's lines say: how many they are, their values and where the item ends.
 #[derive(Clone, Copy)]
 pub struct Item {
-    pub good: bool,
     pub lines: usize,
     pub values: [u64; 18],
     pub end: usize,
@@ -81,47 +82,33 @@ pub const ZERO_AMOUNT: u64 = 1000000000;
 
 const MOST_AMOUNT: u64 = value_bounds::MOST_AMOUNT as u64;
 
-fn wrong(lines: usize) -> Item
-    ensures { result ≡ wrong_item lines }
-{
-    Item {
-        good: false,
-        lines,
-        values: [0; 18],
-        end: 0,
-    }
-}
-
-// The item at the front of a text.
-pub fn read_item(t: Table, a: Above, s: &[u8]) -> Item
-    ensures { result ≡ item_of (read_from (next_of t a) 18 [] s.now) s.now }
+// The item at the front of a text, or, as an error, how many good lines stand above the first bad one.
+pub fn read_item(t: Table, a: Above, s: &[u8]) -> Result<Item, usize>
+    ensures { item_by result ≡ item_of (read_from (next_of t a) 18 [] s.now) s.now }
 {
     let mut v = [0u64; 18];
-    let mut n = 0;
     let mut rest = s;
-    while n < 18 {
+    for n in 0..18 {
         let x = tables::next_of(t, a, v, n);
         match line::meet(x, rest) {
             Met::Wrong => {
-                return wrong(n);
+                return Err(n);
             }
             Met::Over => {
-                return Item {
-                    good: true,
+                return Ok(Item {
                     lines: n,
                     values: v,
                     end: s.len() - rest.len(),
-                };
+                });
             }
             Met::Says(value, e) => {
                 v[n] = value;
-                n += 1;
                 let below = &rest[e + 1..];
                 rest = below;
             }
         }
     }
-    wrong(n)
+    Err(18)
 }
 
 // The text of an item of so many lines with these values, put at a place.
@@ -130,10 +117,8 @@ pub fn put_item(out: &mut [u8], at: usize, t: Table, a: Above, v: [u64; 18], cou
     ensures { Puts out.old at (text_from (next_of t a) [] (take count v)) result out.new }
 {
     let mut p = at;
-    let mut n = 0;
-    while n < count {
+    for n in 0..count {
         p = line::put_next(out, p, tables::next_of(t, a, v, n), v[n]);
-        n += 1;
     }
     p
 }

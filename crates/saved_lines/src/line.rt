@@ -1,43 +1,41 @@
 // One line: its value as one number, read and put.
 ghost use Rattle.std.specs.Prelude.{◌+◌, ◌<◌, ◌≡◌};
-ghost use Rattle.saved_lines.specs.Values.{amount_of, letter_of, value_of, line_value, met_in, met_of, amount_text, letter_text, value_text, key_text, next_text};
+ghost use Rattle.saved_lines.specs.Values.{amount_of, letter_of, value_of, line_value, met_in, met_of, amount_text, letter_text, value_text, key_text, next_by, next_text};
 ghost use Rattle.text.specs.Puts.{limit, Puts};
 
-use crate::{Key, MOST_AMOUNT, Met, Next, Sort, ZERO_AMOUNT, keys};
-use text::digits::Digits;
+use crate::{Key, MOST_AMOUNT, Met, NextLine, Sort, ZERO_AMOUNT, keys};
 use text::{put, scan};
-use text_keyline::Line;
 use value_name::sequence;
 
 // None is -0.
-fn amount_of(s: &[u8]) -> Digits
+fn amount_of(s: &[u8]) -> Option<u64>
     ensures { result ≡ amount_of s.now }
 {
     if scan::starts(b"-", s) {
-        let Digits::Are(n) = text_keyline::whole(scan::rest(s, 1), 1, MOST_AMOUNT) else {
-            return Digits::Not;
+        let Some(n) = text_keyline::whole(scan::rest(s, 1), 1, MOST_AMOUNT) else {
+            return None;
         };
-        return Digits::Are(ZERO_AMOUNT - n);
+        return Some(ZERO_AMOUNT - n);
     }
-    let Digits::Are(n) = text_keyline::whole(s, 0, MOST_AMOUNT) else {
-        return Digits::Not;
+    let Some(n) = text_keyline::whole(s, 0, MOST_AMOUNT) else {
+        return None;
     };
-    Digits::Are(ZERO_AMOUNT + n)
+    Some(ZERO_AMOUNT + n)
 }
 
-fn letter_of(s: &[u8]) -> Digits
+fn letter_of(s: &[u8]) -> Option<u64>
     ensures { result ≡ letter_of s.now }
 {
     if scan::same(b"M", s) {
-        return Digits::Are(0);
+        return Some(0);
     }
     if scan::same(b"F", s) {
-        return Digits::Are(1);
+        return Some(1);
     }
-    Digits::Not
+    None
 }
 
-fn value_of(x: Sort, s: &[u8]) -> Digits
+fn value_of(x: Sort, s: &[u8]) -> Option<u64>
     ensures { result ≡ value_of x s.now }
 {
     match x {
@@ -48,29 +46,29 @@ fn value_of(x: Sort, s: &[u8]) -> Digits
 }
 
 // The first line of a text, if it has this key and a value of this sort between the two.
-fn line_says(k: Key, x: Sort, least: u64, most: u64, s: &[u8]) -> Met
-    ensures { result ≡ met_in (line_value k x least most s.now) s.now }
+fn line_says(x: NextLine, s: &[u8]) -> Met
+    ensures { result ≡ met_in (line_value x.key x.sort x.least x.most s.now) s.now }
 {
-    let key = keys::key_of(k);
+    let key = keys::key_of(x.key);
     let room = key.room;
-    let Line::Ends(e) = text_keyline::line_of(scan::front(&room, key.size), s) else {
+    let Some(e) = text_keyline::line_of(scan::front(&room, key.size), s) else {
         return Met::Wrong;
     };
-    let Digits::Are(v) = value_of(x, scan::rest(scan::front(s, e), key.size)) else {
+    let Some(v) = value_of(x.sort, scan::rest(scan::front(s, e), key.size)) else {
         return Met::Wrong;
     };
-    if (v < least) | (most < v) {
+    if (v < x.least) | (x.most < v) {
         return Met::Wrong;
     }
     Met::Says(v, e)
 }
 
-pub fn meet(x: Next, s: &[u8]) -> Met
-    ensures { result ≡ met_of x s.now }
+pub fn meet(x: Option<NextLine>, s: &[u8]) -> Met
+    ensures { result ≡ met_of (next_by x) s.now }
 {
     match x {
-        Next::Line(k, sort, least, most) => line_says(k, sort, least, most, s),
-        Next::Done => Met::Over,
+        Some(line) => line_says(line, s),
+        None => Met::Over,
     }
 }
 
@@ -116,16 +114,16 @@ fn put_key(out: &mut [u8], at: usize, k: Key) -> usize
 }
 
 // The line with a value; nothing where no line comes.
-pub fn put_next(out: &mut [u8], at: usize, x: Next, v: u64) -> usize
+pub fn put_next(out: &mut [u8], at: usize, x: Option<NextLine>, v: u64) -> usize
     requires { at + 20 < limit }
-    ensures { Puts out.old at (next_text x v) result out.new }
+    ensures { Puts out.old at (next_text (next_by x) v) result out.new }
 {
     match x {
-        Next::Line(k, sort, _, _) => {
-            let a = put_key(out, at, k);
-            let b = put_value(out, a, sort, v);
+        Some(line) => {
+            let a = put_key(out, at, line.key);
+            let b = put_value(out, a, line.sort, v);
             put::put_byte(out, b, b'\n')
         }
-        Next::Done => at,
+        None => at,
     }
 }

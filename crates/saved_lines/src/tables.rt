@@ -1,10 +1,9 @@
 // The tables: which line comes next, by the values of the lines above.
 ghost use Rattle.std.specs.Prelude.{max, ◌≤◌, take, get_or, ◌≡◌};
 ghost use Rattle.saved_lines.specs.Tables.{apart_of, amount_line, second_line, form_lines, head_lines, order_lines, next_of};
-ghost use Rattle.saved_lines.specs.Values.{Small};
-ghost use Rattle.saved_lines.specs.declared.Next.{Next as NextLine};
+ghost use Rattle.saved_lines.specs.Values.{Done, Line, next_by, Small};
 
-use crate::{Above, Key, MOST_AMOUNT, Next, Sort, Table, ZERO_AMOUNT};
+use crate::{Above, Key, MOST_AMOUNT, NextLine, Sort, Table, ZERO_AMOUNT};
 
 const FIRST: u64 = value_bounds::FIRST_INSTANT as u64;
 
@@ -22,20 +21,31 @@ fn apart_of(kind: u64) -> u64
     MFRR_APART
 }
 
-fn amount_line(k: Key) -> Next
-    ensures { result ≡ amount_line k }
+fn line(key: Key, sort: Sort, least: u64, most: u64) -> Option<NextLine>
+    ensures { next_by result ≡ Line key sort least most }
 {
-    Next::Line(k, Sort::Amount, 1, ZERO_AMOUNT + MOST_AMOUNT)
+    Some(NextLine {
+        key,
+        sort,
+        least,
+        most,
+    })
+}
+
+fn amount_line(k: Key) -> Option<NextLine>
+    ensures { next_by result ≡ amount_line k }
+{
+    line(k, Sort::Amount, 1, ZERO_AMOUNT + MOST_AMOUNT)
 }
 
 // Market: an amount. mFRR has one variation, and 0 stands for the second.
-fn second_line(kind: u64) -> Next
-    ensures { result ≡ second_line kind }
+fn second_line(kind: u64) -> Option<NextLine>
+    ensures { next_by result ≡ second_line kind }
 {
     if kind == 0 {
         return amount_line(Key::Var2);
     }
-    Next::Line(Key::Var2, Sort::Amount, ZERO_AMOUNT, ZERO_AMOUNT)
+    line(Key::Var2, Sort::Amount, ZERO_AMOUNT, ZERO_AMOUNT)
 }
 
 fn later(a: u64, b: u64) -> u64
@@ -47,15 +57,15 @@ fn later(a: u64, b: u64) -> u64
     a
 }
 
-fn order_line(a: Above, v: [u64; 18], n: usize) -> Next
+fn order_line(a: Above, v: [u64; 18], n: usize) -> Option<NextLine>
     requires { (n ≤ 18) × Small v }
-    ensures { result ≡ get_or (order_lines a (take n v)) n NextLine.Done }
+    ensures { next_by result ≡ get_or (order_lines a (take n v)) n Done }
 {
     match n {
-        0 => Next::Line(Key::Number, Sort::Whole, a.least, value_bounds::MOST_NUMBER),
-        1 => Next::Line(Key::Kind, Sort::Letter, 0, 1),
-        2 => Next::Line(Key::Start, Sort::Whole, FIRST, LAST - apart_of(v[1])),
-        3 => Next::Line(
+        0 => line(Key::Number, Sort::Whole, a.least, value_bounds::MOST_NUMBER),
+        1 => line(Key::Kind, Sort::Letter, 0, 1),
+        2 => line(Key::Start, Sort::Whole, FIRST, LAST - apart_of(v[1])),
+        3 => line(
             Key::End,
             Sort::Whole,
             later(a.end, v[2] + apart_of(v[1])),
@@ -63,34 +73,34 @@ fn order_line(a: Above, v: [u64; 18], n: usize) -> Next
         ),
         4 => amount_line(Key::Var1),
         5 => second_line(v[1]),
-        6 => Next::Line(Key::Struck, Sort::Whole, 0, 1),
-        _ => Next::Done,
+        6 => line(Key::Struck, Sort::Whole, 0, 1),
+        _ => None,
     }
 }
 
-fn head_line(n: usize) -> Next
-    ensures { result ≡ get_or head_lines n NextLine.Done }
+fn head_line(n: usize) -> Option<NextLine>
+    ensures { next_by result ≡ get_or head_lines n Done }
 {
     match n {
-        0 => Next::Line(Key::Floor, Sort::Whole, 0, 4294967295),
-        1 => Next::Line(Key::Count, Sort::Whole, 0, 96),
-        _ => Next::Done,
+        0 => line(Key::Floor, Sort::Whole, 0, 4294967295),
+        1 => line(Key::Count, Sort::Whole, 0, 96),
+        _ => None,
     }
 }
 
-fn form_line(n: usize) -> Next
-    ensures { result ≡ get_or form_lines n NextLine.Done }
+fn form_line(n: usize) -> Option<NextLine>
+    ensures { next_by result ≡ get_or form_lines n Done }
 {
     match n {
-        0 => Next::Line(Key::Form, Sort::Whole, 1, 1),
-        _ => Next::Done,
+        0 => line(Key::Form, Sort::Whole, 1, 1),
+        _ => None,
     }
 }
 
 // The line after those with the first n values.
-pub fn next_of(t: Table, a: Above, v: [u64; 18], n: usize) -> Next
+pub fn next_of(t: Table, a: Above, v: [u64; 18], n: usize) -> Option<NextLine>
     requires { (n ≤ 18) × Small v }
-    ensures { result ≡ next_of t a (take n v) }
+    ensures { next_by result ≡ next_of t a (take n v) }
 {
     match t {
         Table::Form => form_line(n),

@@ -1,4 +1,5 @@
 -- What was saved is read back, and only that: of any ledger that fits, in which no order is struck in part. Assumes nothing.
+use Rattle.std.specs.Prelude.{None, Option, Some}
 use Prim.Native.Nat.{ℕ, zero, suc, ◌+◌, ◌-◌, ◌*◌, ◌≤◌}
 use Rattle.book_ledger.specs.Ledger.{Ledger}
 use Rattle.book_order.specs.Orders.{is_partial}
@@ -29,7 +30,6 @@ use lib.Dec.{eqb}
 use lib.ListN.{length, length-append}
 use mathlib.Core.Bool.{true, false}
 use mathlib.Core.List.{List, [], ◌∷◌, ◌++◌, append-nil, append_assoc}
-use mathlib.Core.Option.{Option, none, some}
 use mathlib.Core.Path.{◌≡◌, refl, sym, ap, ap₂, ◌∙◌}
 use native.Mathlib.Omega.{arith}
 
@@ -214,9 +214,9 @@ head_two (v ∷ []) p = let q = p.1 in let z : ◌≡◌ {A = ℕ} 0 1 = cc in a
 head_two (v ∷ w ∷ []) p = record { floor_fits = p.0.1; few = p.1.0.1; are = refl }
 head_two (v ∷ w ∷ x ∷ vs) p = absurd p.1.1.0
 
-unit_told : (o : Option (List ℕ)) (n : ℕ) (s u : List ℕ) (m : ℕ) (rest : List ℕ) → unit_read o n s ≡ good u m rest → (o ≡ some u) × (s ≡ rest)
-unit_told none n s u m rest e = let z : ◌≡◌ {A = ℕ} 0 1 = cc in absurd (omega arith)
-unit_told (some v) n s u m rest e = let q : v ≡ u = cc in (rw q, cc)
+unit_told : (o : Option (List ℕ)) (n : ℕ) (s u : List ℕ) (m : ℕ) (rest : List ℕ) → unit_read o n s ≡ good u m rest → (o ≡ Some u) × (s ≡ rest)
+unit_told None n s u m rest e = let z : ◌≡◌ {A = ℕ} 0 1 = cc in absurd (omega arith)
+unit_told (Some v) n s u m rest e = let q : v ≡ u = cc in (rw q, cc)
 
 head_own : (s : List ℕ) (h : Top) (m : ℕ) (rest : List ℕ) → read_head s ≡ good h m rest → HeadOwn s h rest
 unfolding read_head read_unit head_text

@@ -1,4 +1,5 @@
 -- A text's first bad line is decided by the lines down to it. Assumes nothing.
+use Rattle.std.specs.Prelude.{None, Option, Some}
 use Prim.Native.Nat.{ℕ, zero, suc, ◌+◌, ◌-◌, ◌≤◌, ◌<◌}
 use Rattle.book_ledger.specs.Ledger.{Ledger}
 use Rattle.saved.specs.Orders.{order_from}
@@ -12,8 +13,7 @@ use Rattle.saved_lines.specs.declared.Above.{Above}
 use Rattle.saved_lines.specs.declared.Key.{Key}
 use Rattle.saved_lines.specs.declared.Met.{Met}
 use Rattle.saved_lines.specs.declared.Met.TheVariants.{Says, Wrong, Over}
-use Rattle.saved_lines.specs.declared.Next.{Next}
-use Rattle.saved_lines.specs.declared.Next.TheVariants.{Line, Done}
+use Rattle.saved_lines.specs.Values.{Next, Line, Done}
 use Rattle.saved_lines.specs.declared.Sort.{Sort}
 use Rattle.saved_lines.specs.declared.Table.{Table}
 use Rattle.saved_lines.specs.declared.Table.TheVariants.{Form, Head as HeadTable, Order as OrderTable}
@@ -21,15 +21,12 @@ use Rattle.saved_theorems.proofs.Refused.{From, from_then, from_lower, item_from
 use Rattle.saved_theorems.specs.Restart.{Agree}
 use Rattle.text.proofs.Tests.{by_test, by_le, or_parts}
 use Rattle.text.specs.Bytes.{bytes, is, any, upto, starts}
-use Rattle.text.specs.declared.digits.Digits.{Digits}
-use Rattle.text.specs.declared.digits.Digits.TheVariants.{Are, Not}
 use Rattle.text_keyline.specs.Keylines.{line_of, below, unit_at}
 use borrow.Author.Tests.{eqb-true, ne_eqb}
 use lib.Dec.{eqb}
 use lib.ListN.{length, length-append}
 use mathlib.Core.Bool.{Bool, true, false, cond, false≢true}
 use mathlib.Core.List.{List, [], ◌∷◌, ◌++◌}
-use mathlib.Core.Option.{Option, none, some}
 use mathlib.Core.Path.{◌≡◌, refl, sym, ap, ◌∙◌}
 use native.Mathlib.Omega.{arith}
 
@@ -57,13 +54,13 @@ module _ (s t : List ℕ) (ends : any (is 10) s ≡ any (is 10) t) (lines : upto
   unfolding line_value
   value_alike k x lo hi = rw (line_alike (key_text k) (key_clean k), lines)
 
-  in_alike : (d : Digits) → met_in d s ≡ met_in d t
-  in_alike (Are v) = ap (λ (l : List ℕ). Says v (length l)) lines
-  in_alike Not = refl
+  in_alike : (d : Option ℕ) → met_in d s ≡ met_in d t
+  in_alike (Some v) = ap (λ (l : List ℕ). Says v (length l)) lines
+  in_alike None = refl
 
   met_alike : (x : Next) → met_of x s ≡ met_of x t
   met_alike Done = refl
-  met_alike (Line k x lo hi) = ap (λ (d : Digits). met_in d s) (value_alike k x lo hi) ∙ in_alike (line_value k x lo hi t)
+  met_alike (Line k x lo hi) = ap (λ (d : Option ℕ). met_in d s) (value_alike k x lo hi) ∙ in_alike (line_value k x lo hi t)
 
   unit_alike : unit_at s ≡ unit_at t
   unfolding unit_at any
@@ -146,8 +143,8 @@ item_alike t a n m s u g =
 -- ---- the unit's line
 
 unit_lines : (o : Option (List ℕ)) (n m : ℕ) (s t : List ℕ) → Agree (m - suc n) s t → Alike m (unit_read o n s) (unit_read o n t)
-unit_lines none n m s t g = λ z. refl
-unit_lines (some u) n m s t g = λ z. (t, refl, g)
+unit_lines None n m s t g = λ z. refl
+unit_lines (Some u) n m s t g = λ z. (t, refl, g)
 
 named_alike : (n m : ℕ) (s t : List ℕ) → n < m → Agree (m - n) s t → Alike m (read_unit n s) (read_unit n t)
 unfolding read_unit

@@ -1,11 +1,12 @@
 -- What is refused: a text with its first bad line and the all-zero book, and a save that changes no byte. Assumes nothing.
+use Rattle.std.specs.Prelude.{None, Option, Some}
 use Prim.Native.Nat.{ℕ, zero, suc, ◌+◌, ◌≤◌}
 use Rattle.book.specs.Places.{shelf, zero_book, formed_book}
 use Rattle.book.specs.declared.Book.{Book}
 use Rattle.book_ledger.specs.Ledger.{Ledger}
 use Rattle.saved.specs.Reads.{Read, good, bad, and_then, ended, lined, read_item, unit_read, read_unit}
 use Rattle.saved.specs.Saved.{above, nothing, read_order, read_orders, read_head, read_rest, read_book, read_as, read_of, text_of, has_partial, save_of, saved_in}
-use Rattle.saved.specs.declared.Saved.TheVariants.{To, Refused}
+use Rattle.saved.specs.Saved.{To, Refused}
 use Rattle.saved_lines.specs.Items.{Lines, good as good_lines, bad as bad_line, read_from}
 use Rattle.saved_lines.specs.Tables.{next_of}
 use Rattle.saved_lines.specs.declared.Above.{Above}
@@ -18,7 +19,6 @@ use lib.Dec.{eqb, leb, ltb}
 use lib.ListN.{length, take, drop}
 use mathlib.Core.Bool.{Bool, true, false, not, ◌&&◌, cond}
 use mathlib.Core.List.{List, [], ◌++◌}
-use mathlib.Core.Option.{Option, none, some}
 use mathlib.Core.Path.{◌≡◌, refl, sym, ◌∙◌}
 use native.Mathlib.Omega.{arith}
 
@@ -51,8 +51,8 @@ unfolding read_unit
 unit_from n s = by_unit (unit_at s)
   where
     by_unit : (o : Option (List ℕ)) → From n (unit_read o n (below s))
-    by_unit none = omega arith
-    by_unit (some u) = omega arith
+    by_unit None = omega arith
+    by_unit (Some u) = omega arith
 
 pub order_from : (floor least n : ℕ) (s : List ℕ) → From n (read_order floor least n s)
 unfolding read_order

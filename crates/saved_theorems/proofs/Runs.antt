@@ -4,7 +4,7 @@ use Rattle.book.proofs.Formed.{shelf_book}
 use Rattle.book.specs.Answers.{outcome, call_number, next_of}
 use Rattle.book.specs.Places.{book_of, shelf, formed_book}
 use Rattle.book.specs.declared.Book.{Book}
-use Rattle.book.specs.declared.Outcome.{Outcome}
+use Rattle.book.specs.Answers.{Outcome}
 use Rattle.book_ledger.specs.Calls.{Call, command, revoke, close, ask, deed_of, names}
 use Rattle.book_ledger.specs.Demand.{wants_place}
 use Rattle.book_ledger.specs.Keepers.{Keeper, run, answers}
@@ -15,8 +15,8 @@ use Rattle.book_theorems.proofs.Theorems.{fresh_carries}
 use Rattle.book_theorems.specs.Books.{books, book_for}
 use Rattle.saved.specs.Reads.{Read, good, bad}
 use Rattle.saved.specs.Saved.{read_book, read_as, read_of, text_of, has_partial, save_of, saved_in}
-use Rattle.saved.specs.declared.Saved.{Saved}
-use Rattle.saved.specs.declared.Saved.TheVariants.{To, Refused}
+use Rattle.saved.specs.Saved.{Saved}
+use Rattle.saved.specs.Saved.{To, Refused}
 use Rattle.saved_theorems.proofs.Exact.{text_read, text_only}
 use Rattle.saved_theorems.specs.Restart.{Sized, Turn, call, restart, read_back, turn_next, restarting, calls_of, turn_names, timely}
 use Rattle.book_order.specs.Orders.{Name}

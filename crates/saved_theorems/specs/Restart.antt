@@ -2,13 +2,13 @@
 use Rattle.std.specs.Prelude.{ℕ, zero, suc, ◌≤◌, leb, length, take, Bool, true, false, List, [], ◌∷◌, ◌≡◌}
 use Rattle.book.specs.Answers.{call_number, next_of, asked_of}
 use Rattle.book.specs.declared.Book.{Book}
-use Rattle.book.specs.declared.InForce.{InForce}
+use Rattle.book.specs.Answers.{InForce}
 use Rattle.book_ledger.specs.Calls.{Call, command, revoke, close, ask, names}
 use Rattle.book_ledger.specs.Keepers.{Keeper}
 use Rattle.book_order.specs.Orders.{Name}
 use Rattle.saved.specs.Saved.{read_of, save_of, saved_in}
-use Rattle.saved.specs.declared.Saved.{Saved}
-use Rattle.saved.specs.declared.Saved.TheVariants.{To, Refused}
+use Rattle.saved.specs.Saved.{Saved}
+use Rattle.saved.specs.Saved.{To, Refused}
 use Rattle.text.specs.Bytes.{is, any, upto}
 use Rattle.text_keyline.specs.Keylines.{below}
 

@@ -1,10 +1,10 @@
 -- Digits that were read, written again: the same digits. Shown once, over the number of digits. Assumes nothing.
+use Rattle.std.specs.Prelude.{Some}
 use Prim.Native.Nat.{ℕ, zero, suc, ◌+◌, ◌-◌, ◌*◌, ◌/◌, ◌%◌, ◌^◌, ◌≤◌, ◌<◌}
 use Rattle.text.proofs.Numerals.{digit_range, taken, told, whole}
 use Rattle.text.proofs.Tests.{by_le, and_parts}
 use Rattle.text.specs.Bytes.{all, is_digit}
 use Rattle.text.specs.Digits.{number_from, number_in, digits_of, digits_text, whole_text}
-use Rattle.text.specs.declared.digits.Digits.TheVariants.{Are}
 use lib.Dec.{lit<}
 use lib.ListN.{length, get_or}
 use mathlib.Core.Bool.{true}
@@ -59,7 +59,7 @@ digits_back (b ∷ d) h =
     (ap (digits_text (length d)) n ∙ digits_shift (length d) (b - 48) (number_in d) ∙ digits_back d o.1)
 
 -- and so a text that was read as digits is the number's own
-pub read_back : (most : ℕ) (s : List ℕ) (n : ℕ) → digits_of most s ≡ Are n → digits_text (length s) n ≡ s
+pub read_back : (most : ℕ) (s : List ℕ) (n : ℕ) → digits_of most s ≡ Some n → digits_text (length s) n ≡ s
 read_back most s n e =
     let t = told most s n e in
     ap (digits_text (length s)) (sym t.value) ∙ digits_back s t.all_digits

@@ -6,8 +6,8 @@ use Rattle.text.specs.Bytes.{part, same, upto, past, any, all, skip, starts}
 use borrow.Author.Tests.{eq-eqb, ne_eqb, eqb-true}
 use lib.Dec.{eqb}
 use lib.ListN.{length, get_or, take, drop, length-append, length-drop, length-take, drop_of_length-le, take-append-drop}
-use lib.Seq.{drop-cons, get_or-take, take_all, drop-drop, take-take, take-nil}
-use mathlib.Core.Bool.{Bool, true, false, ◌&&◌, ◌||◌, and_assoc, and-true, and-false, or_assoc, or-false, false≢true}
+use lib.Seq.{drop-cons, drop-append_seam, get_or-take, take_all, drop-drop, take-take, take-nil}
+use mathlib.Core.Bool.{Bool, true, false, ◌&&◌, and_assoc, and-true, and-false, false≢true}
 use mathlib.Core.List.{List, [], ◌∷◌, ◌++◌, append-nil}
 use mathlib.Core.Path.{◌≡◌, refl, sym, ap, ap₂, ◌∙◌}
 use native.Mathlib.Nat.{le_refl, add-zero, sub-zero, suc-sub-suc, zero-sub}
@@ -115,32 +115,21 @@ pub all_end : {A : Type 0} (p : A → Bool) (s : List A) (i : ℕ) → length s 
 unfolding all
 all_end p s i h = rw (drop_of_length-le s h)
 
--- eight tests, as one
-pub all_eight : {A : Type 0} (p : A → Bool) (d : A) (s : List A) (i : ℕ) → i + 8 ≤ length s
-    → (p (get_or s i d)
-    && p (get_or s (i + 1) d)
-    && p (get_or s (i + 2) d)
-    && p (get_or s (i + 3) d)
-    && p (get_or s (i + 4) d)
-    && p (get_or s (i + 5) d)
-    && p (get_or s (i + 6) d)
-    && p (get_or s (i + 7) d))
-    ≡ all p (part i (i + 8) s)
+-- eight tests of eight elements, as one
+pub all_of_eight : {A : Type 0} (p : A → Bool) (d : A) (s : List A) → length s ≡ 8
+    → (p (get_or s 0 d)
+    && p (get_or s 1 d)
+    && p (get_or s 2 d)
+    && p (get_or s 3 d)
+    && p (get_or s 4 d)
+    && p (get_or s 5 d)
+    && p (get_or s 6 d)
+    && p (get_or s 7 d))
+    ≡ all p s
 unfolding all
-all_eight p d s i h = rw (eight d s i h) (simp (and_assoc, and-true))
-
-pub any_eight : {A : Type 0} (p : A → Bool) (d : A) (s : List A) (i : ℕ) → i + 8 ≤ length s
-    → (p (get_or s i d)
-    || p (get_or s (i + 1) d)
-    || p (get_or s (i + 2) d)
-    || p (get_or s (i + 3) d)
-    || p (get_or s (i + 4) d)
-    || p (get_or s (i + 5) d)
-    || p (get_or s (i + 6) d)
-    || p (get_or s (i + 7) d))
-    ≡ any p (part i (i + 8) s)
-unfolding any
-any_eight p d s i h = rw (eight d s i h) (simp (or_assoc, or-false))
+all_of_eight p d s h =
+    let e : s ≡ get_or s 0 d ∷ each d s 0 7 1 = sym (take_all 8 s (omega arith)) ∙ eight d s 0 (omega arith) in
+    ◌∙◌ {b = all p (get_or s 0 d ∷ each d s 0 7 1)} (simp (and_assoc, and-true)) (ap (all p) (sym e))
 
 -- ---- the first n of a list, one by one
 
@@ -202,10 +191,6 @@ module _ {A : Type 0} (p : A → Bool) where
   skip_append [] b h = refl
   skip_append (x ∷ a) b h = let o = and_parts (p x) (all p a) h in rw o.0 (skip_append a b o.1)
 
-  -- k at a time
-  pub skip_over : (s : List A) (i k : ℕ) → all p (part i (i + k) s) ≡ true → skip p (drop i s) ≡ skip p (drop (i + k) s)
-  skip_over s i k h = ap (skip p) (drop_over s i k) ∙ skip_append (part i (i + k) s) (drop (i + k) s) h
-
   -- past what p never is
   pub upto_append : (a b : List A) → any p a ≡ false → upto p (a ++ b) ≡ a ++ upto p b
   unfolding any upto
@@ -253,16 +238,6 @@ module _ {A : Type 0} (p : A → Bool) where
   pub all_append : (a b : List A) → all p a ≡ true → all p b ≡ true → all p (a ++ b) ≡ true
   all_append a b h k = all_cut a b ∙ rw (h, k)
 
-  -- k at a time
-  all_next : (s : List A) (i k : ℕ) → all p (drop i s) ≡ (all p (part i (i + k) s) && all p (drop (i + k) s))
-  all_next s i k = ap (all p) (drop_over s i k) ∙ all_cut (part i (i + k) s) (drop (i + k) s)
-
-  pub all_stop : (s : List A) (i k : ℕ) → all p (part i (i + k) s) ≡ false → all p (drop i s) ≡ false
-  all_stop s i k h = all_next s i k ∙ rw h
-
-  pub all_over : (s : List A) (i k : ℕ) → all p (part i (i + k) s) ≡ true → all p (drop i s) ≡ all p (drop (i + k) s)
-  all_over s i k h = all_next s i k ∙ rw h
-
   -- all of q, which p never is, so none of p
   pub all_none : (q : A → Bool) → ((x : A) → q x ≡ true → p x ≡ false) → (a : List A) → all q a ≡ true → any p a ≡ false
   unfolding any all
@@ -278,6 +253,17 @@ module _ {A : Type 0} (p : A → Bool) where
   all_weaker q f (x ∷ a) h =
       let o = and_parts (q x) (all q a) h in
       rw (f x o.0) (all_weaker q f a o.1)
+
+-- what stands from i on is a, of k elements, and then b
+module _ {A : Type 0} (s : List A) (i k : ℕ) (a b : List A) (e : drop i s ≡ a ++ b) (n : length a ≡ k) where
+  pub chunk_rest : b ≡ drop (i + k) s
+  chunk_rest = sym (drop-append_seam a b) ∙ rw (n, ← e) (drop-drop k i s)
+
+  pub chunk_within : i ≤ length s → i + k ≤ length s
+  chunk_within h = omega (arith, ap length e, length-append a b, length-drop i s)
+
+  pub chunk_skipped : (p : A → Bool) → all p a ≡ true → skip p (drop i s) ≡ skip p (drop (i + k) s)
+  chunk_skipped p h = rw (← chunk_rest, e) (skip_append p a b h)
 
 -- ---- two texts, byte by byte
 

@@ -1,14 +1,15 @@
 -- Runs at the front of a text: the loop that counts one, and a line that should be a run and then its end.
 -- Assumes nothing.
 use Prim.Native.Nat.{ℕ, zero, suc, ◌+◌, ◌≤◌, ◌<◌}
+use Rattle.std.specs.List.{prefix_len, take_while}
 use Rattle.text.proofs.Cuts.{skip_here, skip_none, skip_length, all_none}
 use Rattle.text.proofs.Tests.{by_test, and_parts, or_parts, same_if, eqb_tells, itself}
 use Rattle.text.specs.Bytes.{is, upto, any, all, skip, run_of}
 use borrow.Author.Tests.{eq-eqb, ne_eqb}
 use lib.Dec.{eqb}
-use lib.ListN.{length, get_or, take, drop, length-drop, drop_of_length-le}
+use lib.ListN.{length, get_or, take, drop, length-drop, length-take, drop_of_length-le}
 use lib.Seq.{drop-cons}
-use mathlib.Core.Bool.{Bool, true, false, ◌||◌, true≢false}
+use mathlib.Core.Bool.{Bool, true, false, not, ◌||◌, true≢false}
 use mathlib.Core.List.{List, [], ◌∷◌, ◌++◌}
 use mathlib.Core.Path.{◌≡◌, refl, sym, ap, ◌∙◌}
 use native.Mathlib.Numerals.{add-one}
@@ -131,3 +132,34 @@ module _ {A : Type 0} (p : A → Bool) where
 
   pub any_past : (a v : List A) → any p a ≡ false → any p (a ++ v) ≡ any p v
   any_past a v n = any_both p a v ∙ rw n
+
+-- ---- a run, counted
+
+run_prefix : (p : ℕ → Bool) (s : List ℕ) → prefix_len p s ≡ run_of p s
+unfolding skip
+run_prefix p [] = refl
+run_prefix p (x ∷ s) =
+    by_test (p x)
+    (λ e. rw e (omega (arith, run_prefix p s, skip_length p s)))
+    (λ e. rw e (omega arith))
+
+-- what is taken while p holds is the run
+pub run_taken : (p : ℕ → Bool) (s : List ℕ) → length (take_while p s) ≡ run_of p s
+run_taken p s = omega (arith, run_prefix p s, length-take (prefix_len p s) s)
+
+pub taken_length : (p : ℕ → Bool) (s : List ℕ) → length (take_while p s) ≤ length s
+taken_length p s = omega (arith, length-take (prefix_len p s) s)
+
+-- i bytes of the run, and how many of the rest are of it
+pub run_on : (p : ℕ → Bool) (s : List ℕ) (i r : ℕ) → i ≤ length s → skip p s ≡ skip p (drop i s) → r ≡ length (take_while p (drop i s)) → i + r ≡ run_of p s
+run_on p s i r h so_far e =
+    omega (arith, e, run_taken p (drop i s), ap length so_far, length-drop i s, skip_length p (drop i s))
+
+-- the run of p is what stands before the first of q, where p is what is not q
+pub run_before : (p q : ℕ → Bool) → ((x : ℕ) → p x ≡ not (q x)) → (s : List ℕ) → run_of p s ≡ length (upto q s)
+unfolding skip upto
+run_before p q f [] = refl
+run_before p q f (x ∷ s) =
+    by_test (q x)
+    (λ e. let n : p x ≡ false = f x ∙ rw e in rw (e, n) (omega arith))
+    (λ e. let y : p x ≡ true = f x ∙ rw e in rw (e, y) (omega (arith, run_before p q f s, skip_length p s)))

@@ -10,3 +10,4 @@ pub mod Tables
 pub mod Fronts
 pub mod Loads
 pub mod Determined
+pub mod Chains

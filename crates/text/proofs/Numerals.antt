@@ -1,15 +1,15 @@
 -- Digits: one step along them, what is told of digits that were read, and that digits which are written read back.
 -- All of it is shown once, over the number of digits. Assumes nothing.
+use Rattle.std.specs.Prelude.{None, Some}
 use Prim.Native.Nat.{ℕ, zero, suc, ◌+◌, ◌-◌, ◌*◌, ◌/◌, ◌%◌, ◌^◌, min, ◌≤◌, ◌<◌}
 use Rattle.text.proofs.Cuts.{drop_step, skip_length}
 use Rattle.text.proofs.Fronts.{run_here, run_end}
-use Rattle.text.proofs.Tests.{by_le, and_parts, within_tells, untold}
+use Rattle.text.proofs.Tests.{by_le, and_parts, within_tells}
 use Rattle.text.specs.Bytes.{all, is_digit, skip, upto, first_of, run_of}
 use Rattle.text.specs.Digits.{number_from, number_in, digits_of, lead_of, digits_text, whole_text}
-use Rattle.text.specs.declared.digits.Digits.TheVariants.{Are, Not}
-use borrow.Author.Tests.{le-leb, lt-leb, leb-true, ne_eqb, lt-ltb, le-ltb, ltb-true, ltb-false}
+use borrow.Author.Tests.{le-leb, lt-leb, leb-true, ne_eqb, lt-ltb, le-ltb}
 use lib.Arith.{mod-mul}
-use lib.Dec.{leb, ltb, lit<}
+use lib.Dec.{leb, lit<}
 use lib.ListN.{length, get_or, take, drop, length-drop, drop_of_length-le}
 use lib.Seq.{take-suc}
 use mathlib.Core.Bool.{Bool, true, false, ◌&&◌, and-false, cond, true≢false}
@@ -28,12 +28,6 @@ digit_range b e = (within_tells 48 57 b).0 e
 pub digit_yes : (b : ℕ) → 48 ≤ b → b ≤ 57 → is_digit b ≡ true
 digit_yes b h k = (within_tells 48 57 b).1 (h, k)
 
-pub digit_low : (b : ℕ) → b < 48 → is_digit b ≡ false
-digit_low b h = untold (within_tells 48 57 b) (λ p. omega arith)
-
-pub digit_high : (b : ℕ) → 57 < b → is_digit b ≡ false
-digit_high b h = untold (within_tells 48 57 b) (λ p. omega arith)
-
 -- ---- reading
 
 pub number_step : (acc : ℕ) (s : List ℕ) (i : ℕ) → i < length s → number_from acc (drop i s) ≡ number_from (acc * 10 + (get_or s i 0 - 48)) (drop (i + 1) s)
@@ -44,26 +38,23 @@ pub number_end : (acc : ℕ) (s : List ℕ) (i : ℕ) → length s ≤ i → num
 unfolding number_from
 number_end acc s i h = rw (drop_of_length-le s h)
 
--- one more digit: what is written stays below the next power of ten, and below ten of them it fits
+-- one more digit: what is written stays below the next power of ten
 pub grows : (i acc b : ℕ) → acc < 10 ^ i → is_digit b ≡ true → acc * 10 + (b - 48) < 10 ^ (i + 1)
 grows i acc b h e = rw add-one (omega (arith, digit_range b e, pow-suc 10 i))
 
-pub small : (i acc : ℕ) → acc < 10 ^ i → i ≤ 10 → acc < 10000000000
-small i acc h k = omega (arith, pow-le-pow_right {n = 10} (lit< tt) k)
-
-pub refused_empty : (most : ℕ) (s : List ℕ) → length s ≡ 0 → Not ≡ digits_of most s
+pub refused_empty : (most : ℕ) (s : List ℕ) → length s ≡ 0 → None ≡ digits_of most s
 unfolding digits_of
 refused_empty most s e = rw e
 
-pub refused_long : (most : ℕ) (s : List ℕ) → most < length s → Not ≡ digits_of most s
+pub refused_long : (most : ℕ) (s : List ℕ) → most < length s → None ≡ digits_of most s
 unfolding digits_of
 refused_long most s h = simp (lt-leb _ _ h, and-false)
 
-pub refused_other : (most : ℕ) (s : List ℕ) → all is_digit s ≡ false → Not ≡ digits_of most s
+pub refused_other : (most : ℕ) (s : List ℕ) → all is_digit s ≡ false → None ≡ digits_of most s
 unfolding digits_of
 refused_other most s e = simp (e, and-false)
 
-pub taken : (most : ℕ) (s : List ℕ) → 1 ≤ length s → length s ≤ most → all is_digit s ≡ true → Are (number_in s) ≡ digits_of most s
+pub taken : (most : ℕ) (s : List ℕ) → 1 ≤ length s → length s ≤ most → all is_digit s ≡ true → Some (number_in s) ≡ digits_of most s
 unfolding digits_of
 taken most s h k e = simp (e, le-leb _ _ h, le-leb _ _ k)
 
@@ -98,21 +89,13 @@ module _ (s : List ℕ) (most i v : ℕ) (low : i ≤ most) (so_far : skip is_di
   led : i ≡ min most (run_of is_digit s) → record { count = i; value = v } ≡ lead_of most s
   led e = rw (read, ← e)
 
-  pub lead_here : (ltb i (length s) && ltb i most) ≡ true → is_digit (get_or s i 0) ≡ false → record { count = i; value = v } ≡ lead_of most s
-  lead_here t n =
-      let h = and_parts (ltb i (length s)) (ltb i most) t in
-      led (omega (arith, run_here is_digit s i so_far (ltb-true _ _ h.0) n))
+  pub lead_here : i < length s → is_digit (get_or s i 0) ≡ false → record { count = i; value = v } ≡ lead_of most s
+  lead_here h n = led (omega (arith, run_here is_digit s i so_far h n))
 
-  pub lead_end : i ≤ length s → (ltb i (length s) && ltb i most) ≡ false → record { count = i; value = v } ≡ lead_of most s
-  lead_end h n =
-      by_le (length s) i (λ k. led (omega (arith, run_end is_digit s i so_far h k)))
-      (λ k. let m : ltb i most ≡ false = rw (lt-ltb i (length s) k) at n in led (omega (
-        arith,
-        ltb-false i most m,
-        ap length so_far,
-        skip_length is_digit (drop i s),
-        length-drop i s,
-      )))
+  pub lead_end : i ≡ min (length s) most → record { count = i; value = v } ≡ lead_of most s
+  lead_end e =
+      by_le (length s) i (λ k. led (omega (arith, run_end is_digit s i so_far (omega arith) k)))
+      (λ k. led (omega (arith, ap length so_far, skip_length is_digit (drop i s), length-drop i s)))
 
 -- digits write less than the power of ten of their count
 number_below : (acc : ℕ) (s : List ℕ) → all is_digit s ≡ true → number_from acc s < (acc + 1) * 10 ^ length s
@@ -132,11 +115,11 @@ pub record Told (most : ℕ) (s : List ℕ) (n : ℕ) : Type 0 where
   pub value : number_in s ≡ n
   pub low : n < 10 ^ length s
 
-yes : (t : Bool) (v n : ℕ) → cond t (Are v) Not ≡ Are n → (t ≡ true) × (v ≡ n)
+yes : (t : Bool) (v n : ℕ) → cond t (Some v) None ≡ Some n → (t ≡ true) × (v ≡ n)
 yes true v n e = (refl, cc)
 yes false v n e = let z : ◌≡◌ {A = ℕ} 0 1 = cc in absurd (omega arith)
 
-pub told : (most : ℕ) (s : List ℕ) (n : ℕ) → digits_of most s ≡ Are n → Told most s n
+pub told : (most : ℕ) (s : List ℕ) (n : ℕ) → digits_of most s ≡ Some n → Told most s n
 unfolding digits_of
 told most s n e =
     let y = yes _ _ _ e in
@@ -150,7 +133,7 @@ told most s n e =
       low = omega (arith, number_below 0 s p.1, y.1);
     }
 
-pub below : (most : ℕ) (s : List ℕ) (n : ℕ) → digits_of most s ≡ Are n → n < 10 ^ most
+pub below : (most : ℕ) (s : List ℕ) (n : ℕ) → digits_of most s ≡ Some n → n < 10 ^ most
 below most s n e =
     let t = told most s n e in
     omega (arith, t.low, pow-le-pow_right {n = 10} (lit< tt) t.short)
@@ -192,9 +175,9 @@ pub number_back : (k n : ℕ) → n < 10 ^ k → number_in (digits_text k n) ≡
 number_back k n b = number_text 0 k n ∙ omega (arith, mod-eq_of_lt b)
 
 -- n written with enough digits reads back as n
-pub text_back : (most k n : ℕ) → 1 ≤ k → k ≤ most → n < 10 ^ k → digits_of most (digits_text k n) ≡ Are n
+pub text_back : (most k n : ℕ) → 1 ≤ k → k ≤ most → n < 10 ^ k → digits_of most (digits_text k n) ≡ Some n
 text_back most k n h l b =
-    sym (taken most (digits_text k n) (rw length_text h) (rw length_text l) (all_text k n)) ∙ ap Are (number_back k n b)
+    sym (taken most (digits_text k n) (rw length_text h) (rw length_text l) (all_text k n)) ∙ ap Some (number_back k n b)
 
 -- a byte that is no digit first stands past the digits
 pub first_past : (b : ℕ) (s t : List ℕ) → is_digit b ≡ false → all is_digit s ≡ true → first_of b (s ++ t) ≡ length s + first_of b t
@@ -279,7 +262,7 @@ whole_some most n =
     omega (arith, ap length w.text, length_text w.count n, w.some)
 
 -- n written without leading zeros reads back as n
-pub whole_back : (most k n : ℕ) → k + 1 ≤ most → n < 10 ^ (k + 1) → digits_of most (whole_text k n) ≡ Are n
+pub whole_back : (most k n : ℕ) → k + 1 ≤ most → n < 10 ^ (k + 1) → digits_of most (whole_text k n) ≡ Some n
 whole_back most k n h b =
     let w = whole k n in
     ap (digits_of most) w.text ∙ text_back most w.count n w.some (omega (arith, w.few)) (w.holds b)

@@ -1,5 +1,7 @@
 -- Runs of stores into a buffer: one put after another, a text byte by byte, the digits of a number, and the whole write.
 -- Assumes nothing.
+use Rattle.std.specs.Prelude.{Ok, Err}
+use Rattle.refusal.specs.declared.Refusal.TheVariants.{NoRoom}
 use Prim.Native.Nat.{ℕ, zero, suc, ◌+◌, ◌-◌, ◌/◌, ◌%◌, min, ◌≤◌, ◌<◌}
 use Rattle.text.proofs.Cuts.{tail}
 use Rattle.text.proofs.Numerals.{length_text, digits_last}
@@ -7,7 +9,6 @@ use Rattle.text.proofs.Tests.{by_le}
 use Rattle.text.specs.Bytes.{part}
 use Rattle.text.specs.Digits.{digits_text, whole_text}
 use Rattle.text.specs.Puts.{wrote_of, buffer_of, room_of, Puts}
-use Rattle.text.specs.declared.put.Wrote.TheVariants.{To, NoRoom}
 use borrow.Author.Tests.{le-leb, lt-leb}
 use lib.ListN.{length, get_or, take, drop, set, replicate, length-append, length-drop, length-replicate, drop_of_length-le, take-append-drop}
 use lib.Seq.{sets, sets-eq, set_out, set_comm, set-set, length-sets, length-take-le, take-suc, take-add, drop-drop}
@@ -21,9 +22,6 @@ use native.Mathlib.Omega.{arith}
 sets_past : (l : List ℕ) (at : ℕ) (t : List ℕ) → length l ≤ at → sets l at t ≡ l
 sets_past l at [] h = refl
 sets_past l at (b ∷ t) h = rw (set_out l at b h) (sets_past l (suc at) t (omega arith))
-
-pub put_past : (l : List ℕ) (at b : ℕ) → length l ≤ at → l ≡ sets l at (b ∷ [])
-put_past l at b h = sym (sets_past l at (b ∷ []) h)
 
 pub sets_append : (l : List ℕ) (at : ℕ) (t u : List ℕ) → sets (sets l at t) (at + length t) u ≡ sets l at (t ++ u)
 sets_append l at [] u = rw add-zero
@@ -182,7 +180,7 @@ part_back l m t e = rw (e, none_put 0 t)
 
 module _ (l m t : List ℕ) (at n : ℕ) (first : Puts [] 0 t n m) where
   -- there is no room, and nothing was changed
-  pub refused_write : length (m ++ l) < at + n → (NoRoom n ≡ wrote_of l at t) × (m ++ l ≡ buffer_of l at t)
+  pub refused_write : length (m ++ l) < at + n → (Err (NoRoom n) ≡ wrote_of l at t) × (m ++ l ≡ buffer_of l at t)
   unfolding wrote_of buffer_of
   refused_write h =
       let e = part_back l m t first.1 in
@@ -193,7 +191,7 @@ module _ (l m t : List ℕ) (at n : ℕ) (first : Puts [] 0 t n m) where
   -- there is, and what came back of the part from the place on stands behind what stood before it
   pub done_write : (r : ℕ) (m₂ : List ℕ) → at + n ≤ length (m ++ l)
       → Puts (take (length (m ++ l) - at) (drop at (m ++ l))) 0 t r m₂
-      → (To (at + n) ≡ wrote_of l at t) × (take at (m ++ l) ++ (m₂ ++ drop (length (m ++ l) - at) (drop at (m ++ l))) ≡ buffer_of l at t)
+      → (Ok (at + n) ≡ wrote_of l at t) × (take at (m ++ l) ++ (m₂ ++ drop (length (m ++ l) - at) (drop at (m ++ l))) ≡ buffer_of l at t)
   unfolding wrote_of buffer_of
   done_write r m₂ h second =
       let e = part_back l m t first.1 in

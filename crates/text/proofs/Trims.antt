@@ -1,15 +1,16 @@
 -- Trimming: its steps from both ends, and what it leaves as it is.
 -- Assumes nothing.
-use Prim.Native.Nat.{ℕ, zero, suc, ◌-◌, ◌≤◌, ◌<◌}
+use Prim.Native.Nat.{ℕ, ◌-◌, ◌≤◌}
+use Rattle.std.specs.List.{prefix_len, take_while}
+use Rattle.std.proofs.lemmas.Grind.{reverse_onto}
+use Rattle.std.proofs.lemmas.List.{reverse-reverse, length-reverse}
 use Rattle.text.proofs.Cuts.{tail, front_count, skip_drop, same_refl, same_true}
 use Rattle.text.proofs.Tests.{by_test, and_parts, or_parts}
 use Rattle.text.specs.Bytes.{any, all, skip, keep, skip_end, is_blank, is_plain, trim, same, tidy}
-use lib.ListN.{length, get_or, take, drop, length-take}
-use lib.Seq.{take-suc}
+use lib.ListN.{length, take, drop, length-append, length-take}
 use mathlib.Core.Bool.{Bool, true, false}
-use mathlib.Core.List.{List, [], ◌∷◌, ◌++◌}
+use mathlib.Core.List.{List, [], ◌∷◌, ◌++◌, reverse}
 use mathlib.Core.Path.{◌≡◌, refl, sym, ap, ◌∙◌}
-use native.Mathlib.Nat.{not-suc-le-zero}
 use native.Mathlib.Omega.{arith}
 
 module _ {A : Type 0} (p : A → Bool) where
@@ -75,6 +76,20 @@ module _ {A : Type 0} (p : A → Bool) where
   end_last [] c h = rw h
   end_last (x ∷ a) c h = ap (keep p x) (end_last a c h)
 
+  end_back : (r : List A) → length (skip_end p (reverse r)) ≡ length r - prefix_len p r
+  unfolding skip_end
+  end_back [] = refl
+  end_back (x ∷ r) =
+      by_test (p x)
+      (λ e. rw (reverse_onto r x [], e) (omega (arith, ap length (end_last (reverse r) x e), end_back r)))
+      (λ e. rw (reverse_onto r x [], e, end_stop (reverse r) x [] e) (omega (arith, length-append (reverse r) (x ∷ []), length-reverse r)))
+
+  -- what is left, by how many p holds of at the end
+  pub end_taken : (s : List A) → length s - length (take_while p (reverse s)) ≡ length (skip_end p s)
+  end_taken s =
+      let r = rw reverse-reverse at (end_back (reverse s)) in
+      omega (arith, r, length-reverse s, length-take (prefix_len p (reverse s)) (reverse s))
+
   keep_take : (x : A) (t s : List A) → t ≡ take (length t) s → keep p x t ≡ take (length (keep p x t)) (x ∷ s)
   keep_take x [] s h = by_test (p x) (λ e. rw e) (λ e. rw e)
   keep_take x (y ∷ ys) s h = ap (λ (l : List A). x ∷ l) h
@@ -99,21 +114,6 @@ module _ {A : Type 0} (p : A → Bool) where
   end_all (x ∷ a) n =
       let o = or_parts (p x) (any p a) n in
       rw (end_all a o.1) (keep_no x a o.0)
-
--- one step down from the end
-module _ {A : Type 0} (p : A → Bool) (d : A) (s : List A) where
-  pub end_on : (e : ℕ) → 0 < e → e ≤ length s → p (get_or s (e - 1) d) ≡ true → skip_end p (take e s) ≡ skip_end p (take (e - 1) s)
-  end_on zero h k t = absurd (not-suc-le-zero h)
-  end_on (suc e) h k t =
-      let n : suc e - 1 ≡ e = omega arith in
-      rw (n, take-suc s e d k) (end_last p (take e s) (get_or s e d) (rw n at t))
-
-  pub end_here : (e : ℕ) → 0 < e → e ≤ length s → p (get_or s (e - 1) d) ≡ false → skip_end p (take e s) ≡ take e s
-  unfolding skip_end
-  end_here zero h k t = absurd (not-suc-le-zero h)
-  end_here (suc e) h k t =
-      let n : suc e - 1 ≡ e = omega arith in
-      rw (take-suc s e d k) (end_stop p (take e s) (get_or s e d) [] (rw n at t))
 
 -- ---- both ends
 

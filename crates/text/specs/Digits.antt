@@ -1,8 +1,6 @@
 -- Decimal digits: the number that they write, and the digits that write a number. Shown once, over the number of digits.
-use Rattle.std.specs.Prelude.{ℕ, zero, suc, ◌+◌, ◌-◌, ◌*◌, ◌/◌, ◌%◌, ◌^◌, min, leb, ltb, length, take, ◌&&◌, cond, List, [], ◌∷◌}
+use Rattle.std.specs.Prelude.{ℕ, zero, suc, ◌+◌, ◌-◌, ◌*◌, ◌/◌, ◌%◌, ◌^◌, min, leb, ltb, length, take, ◌&&◌, cond, List, [], ◌∷◌, None, Option, Some}
 use Rattle.text.specs.Bytes.{all, is_digit, run_of}
-use Rattle.text.specs.declared.digits.Digits.{Digits}
-use Rattle.text.specs.declared.digits.Digits.TheVariants.{Are, Not}
 use Rattle.text.specs.declared.digits.Led.{Led}
 
 -- the number that digits write, first digit first, after those that already wrote acc
@@ -14,8 +12,8 @@ abbrev pub number_in : List ℕ → ℕ
 number_in s = number_from 0 s
 
 -- 1 to most digits and nothing else
-unfoldable pub digits_of : ℕ → List ℕ → Digits
-digits_of most s = cond (leb 1 (length s) && leb (length s) most && all is_digit s) (Are (number_in s)) Not
+unfoldable pub digits_of : ℕ → List ℕ → Option ℕ
+digits_of most s = cond (leb 1 (length s) && leb (length s) most && all is_digit s) (Some (number_in s)) None
 
 -- the digits that a text begins with, at most `most` of them: how many, and the number that they write
 abbrev pub lead_of : ℕ → List ℕ → Led

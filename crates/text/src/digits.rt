@@ -3,44 +3,31 @@ ghost use Rattle.std.specs.Prelude.{◌^◌, ◌≤◌, ◌<◌, ◌≡◌};
 ghost use Rattle.text.specs.Bytes.{is_digit};
 ghost use Rattle.text.specs.Digits.{digits_of, lead_of, digits_text, whole_text};
 
-// The number that digits write, or that they are none.
-#[derive(Clone, Copy)]
-pub enum Digits {
-    Are(u64),
-    Not,
-}
-
 pub fn is_digit(b: u8) -> bool
     ensures { result ≡ is_digit b }
 {
-    match b {
-        b'0'..=b'9' => true,
-        _ => false,
-    }
+    matches!(b, b'0'..=b'9')
 }
 
 // The number that s writes, where it is 1 to most digits and nothing else.
-pub fn read_digits(s: &[u8], most: usize) -> Digits
+pub fn read_digits(s: &[u8], most: usize) -> Option<u64>
     requires { most ≤ 10 }
     ensures { result ≡ digits_of most s.now }
 {
     if s.len() == 0 {
-        return Digits::Not;
+        return None;
     }
     if most < s.len() {
-        return Digits::Not;
+        return None;
     }
     let mut acc: u64 = 0;
-    let mut i = 0;
-    while i < s.len() {
-        let b = s[i];
+    for &b in s {
         if !is_digit(b) {
-            return Digits::Not;
+            return None;
         }
-        acc = acc * 10 + (b - 48) as u64;
-        i += 1;
+        acc = acc * 10 + u64::from(b - b'0');
     }
-    Digits::Are(acc)
+    Some(acc)
 }
 
 // The digits that a text begins with: how many, and the number that they write.
@@ -56,16 +43,14 @@ pub fn lead(s: &[u8], most: usize) -> Led
     ensures { result ≡ lead_of most s.now }
 {
     let mut value: u64 = 0;
-    let mut i = 0;
-    while (i < s.len()) & (i < most) {
-        let b = s[i];
-        if !is_digit(b) {
-            break;
+    let end = s.len().min(most);
+    for i in 0..end {
+        if !is_digit(s[i]) {
+            return Led { count: i, value };
         }
-        value = value * 10 + (b - 48) as u64;
-        i += 1;
+        value = value * 10 + u64::from(s[i] - b'0');
     }
-    Led { count: i, value }
+    Led { count: end, value }
 }
 
 pub fn pow10(k: usize) -> u64
@@ -92,12 +77,10 @@ pub fn whole_size(n: u64, k: usize) -> usize
     requires { k ≤ 9 }
     ensures { (1 ≤ result) × (result ≤ 10) × (whole_text k n ≡ digits_text result n) }
 {
-    let mut j = 1;
-    while j <= k {
+    for j in 1..=k {
         if n < pow10(j) {
             return j;
         }
-        j += 1;
     }
-    j
+    k + 1
 }

@@ -8,20 +8,12 @@ ghost use Rattle.std.proofs.lemmas.List.Edits.{sets};
 
 use crate::{digits, words};
 
-// What a write answers: the place past what was written, or how many bytes it would have taken.
-#[derive(Clone, Copy)]
-pub enum Wrote {
-    To(usize),
-    NoRoom(usize),
-}
-
 pub fn put_byte(out: &mut [u8], at: usize, b: u8) -> usize
     requires { at + 1 < limit }
     ensures { (result ≡ at + 1) × (out.new ≡ sets out.old at (b ∷ [])) }
 {
     if at < out.len() {
         out[at] = b;
-        return at + 1;
     }
     at + 1
 }
@@ -30,14 +22,7 @@ pub fn put_byte(out: &mut [u8], at: usize, b: u8) -> usize
 fn room_for(out: &[u8], at: usize, n: usize) -> usize
     ensures { result ≡ min n (length out.now - at) }
 {
-    if out.len() <= at {
-        return 0;
-    }
-    let room = out.len() - at;
-    if n <= room {
-        return n;
-    }
-    room
+    n.min(out.len().saturating_sub(at))
 }
 
 // Eight bytes of t from i on, put at a place as one number: all are read before one is written, so that they are moved at once.
@@ -53,10 +38,8 @@ fn put_few(out: &mut [u8], at: usize, t: &[u8], n: usize)
     requires { (at + n ≤ length out.old) × (n ≤ length t.now) }
     ensures { out.new ≡ sets out.old at (take n t.now) }
 {
-    let mut i = 0;
-    while i < n {
+    for i in 0..n {
         out[at + i] = t[i];
-        i += 1;
     }
 }
 
@@ -69,13 +52,10 @@ fn put_first(out: &mut [u8], at: usize, t: &[u8], n: usize)
         put_few(out, at, t, n);
         return;
     }
-    let last = n - 8;
-    let mut i = 0;
-    while i < last {
-        put_eight(out, at + i, t, i);
-        i += 8;
+    for k in 0..(n - 1) / 8 {
+        put_eight(out, at + 8 * k, t, 8 * k);
     }
-    put_eight(out, at + last, t, last);
+    put_eight(out, at + n - 8, t, n - 8);
 }
 
 // One test of the room for the whole text.
@@ -95,12 +75,10 @@ fn put_digits_clipped(out: &mut [u8], at: usize, k: usize, n: u64) -> usize
     requires { (at + k < limit) × (k ≤ 10) }
     ensures { (result ≡ at + k) × (out.new ≡ sets out.old at (digits_text k n)) }
 {
-    let mut j = k;
     let mut m = n;
-    while 0 < j {
-        j -= 1;
-        put_byte(out, at + j, 48 + (m % 10) as u8);
-        m = m / 10;
+    for j in (0..k).rev() {
+        put_byte(out, at + j, b'0' + (m % 10) as u8);
+        m /= 10;
     }
     at + k
 }
@@ -113,17 +91,16 @@ pub fn put_digits(out: &mut [u8], at: usize, k: usize, n: u64) -> usize
     if out.len() < at + k {
         return put_digits_clipped(out, at, k, n);
     }
-    let mut j = k;
     let mut m = n;
-    while 1 < j {
-        j -= 2;
+    for i in 0..k / 2 {
+        let j = k - 2 * i - 2;
         let two = m % 100;
-        out[at + j] = 48 + (two / 10) as u8;
-        out[at + j + 1] = 48 + (two % 10) as u8;
-        m = m / 100;
+        out[at + j] = b'0' + (two / 10) as u8;
+        out[at + j + 1] = b'0' + (two % 10) as u8;
+        m /= 100;
     }
-    if j == 1 {
-        out[at] = 48 + (m % 10) as u8;
+    if k % 2 == 1 {
+        out[at] = b'0' + (m % 10) as u8;
     }
     at + k
 }

@@ -1,5 +1,5 @@
 // Looking at bytes and handing on parts of them.
-ghost use Rattle.std.specs.Prelude.{◌+◌, ◌≤◌, ◌<◌, length, take, drop, ◌≡◌};
+ghost use Rattle.std.specs.Prelude.{ℕ, ◌+◌, ◌≤◌, ◌<◌, Bool, not, length, take, drop, reverse, take_while, ◌≡◌};
 ghost use Rattle.text.specs.Bytes.{part, same, starts, all, any, is, run_of, skip_end, first_of, trim, is_blank};
 
 use crate::words;
@@ -34,12 +34,10 @@ fn few_alike(a: &[u8], b: &[u8], n: usize) -> bool
     requires { (n ≤ length a.now) × (n ≤ length b.now) }
     ensures { result ≡ same (take n a.now) (take n b.now) }
 {
-    let mut i = 0;
-    while i < n {
+    for i in 0..n {
         if a[i] != b[i] {
             return false;
         }
-        i += 1;
     }
     true
 }
@@ -55,132 +53,129 @@ fn alike(a: &[u8], b: &[u8], n: usize) -> bool
     if n < 8 {
         return fours_alike(a, b, n);
     }
-    let last = n - 8;
-    let mut i = 0;
-    while i < last {
-        if !eight_alike(a, b, i) {
+    for k in 0..(n - 1) / 8 {
+        if !eight_alike(a, b, 8 * k) {
             return false;
         }
-        i += 8;
     }
-    eight_alike(a, b, last)
+    eight_alike(a, b, n - 8)
 }
 
 // Whether two texts are the same, byte by byte.
 pub fn same(a: &[u8], b: &[u8]) -> bool
     ensures { result ≡ same a.now b.now }
 {
-    if a.len() != b.len() {
-        return false;
-    }
-    alike(a, b, a.len())
+    a.len() == b.len() && alike(a, b, a.len())
 }
 
 // Whether s begins with t.
 pub fn starts(t: &[u8], s: &[u8]) -> bool
     ensures { result ≡ starts t.now s.now }
 {
-    if s.len() < t.len() {
-        return false;
-    }
-    alike(t, s, t.len())
+    t.len() <= s.len() && alike(t, s, t.len())
 }
 
-// Whether one of the eight bytes from i on is b, tested without a branch between them.
-fn eight_have(s: &[u8], i: usize, b: u8) -> bool
-    requires { i + 8 ≤ length s.now }
-    ensures { result ≡ any (is b) (part i (i + 8) s.now) }
+// A test on a byte. Eight bytes are tested at a time, so a test should have no branch in it.
+pub trait ByteTest {
+    ghost passes: { Self → ℕ → Bool };
+
+    fn passes(&self, b: u8) -> bool
+        ensures { result ≡ passes self.now b };
+}
+
+// Whether it is this byte.
+#[derive(Clone, Copy)]
+pub struct IsByte(pub u8);
+
+impl ByteTest for IsByte {
+    ghost passes = { λ t. is t.0 };
+
+    fn passes(&self, b: u8) -> bool {
+        b == self.0
+    }
+}
+
+// Whether it is another byte.
+#[derive(Clone, Copy)]
+struct NotByte(u8);
+
+impl ByteTest for NotByte {
+    ghost passes = { λ t b. not (is t.0 b) };
+
+    fn passes(&self, b: u8) -> bool {
+        b != self.0
+    }
+}
+
+// Whether all of eight bytes pass, without a branch between the tests: compiled to one test of eight bytes at once.
+fn eight_pass<T: ByteTest>(eight: &[u8], test: &T) -> bool
+    requires { length eight.now ≡ 8 }
+    ensures { result ≡ all (T.passes test.now) eight.now }
 {
-    (s[i] == b)
-        | (s[i + 1] == b)
-        | (s[i + 2] == b)
-        | (s[i + 3] == b)
-        | (s[i + 4] == b)
-        | (s[i + 5] == b)
-        | (s[i + 6] == b)
-        | (s[i + 7] == b)
+    test.passes(eight[0])
+        & test.passes(eight[1])
+        & test.passes(eight[2])
+        & test.passes(eight[3])
+        & test.passes(eight[4])
+        & test.passes(eight[5])
+        & test.passes(eight[6])
+        & test.passes(eight[7])
+}
+
+// How many bytes from the start pass, one by one.
+fn few_run<T: ByteTest>(s: &[u8], test: &T) -> usize
+    ensures { result ≡ length (take_while (T.passes test.now) s.now) }
+{
+    s.iter().take_while(|b| test.passes(**b)).count()
+}
+
+// How many bytes from the start pass: eight at a time, and the rest one by one.
+pub fn run<T: ByteTest>(s: &[u8], test: &T) -> usize
+    ensures { result ≡ run_of (T.passes test.now) s.now }
+{
+    let mut n = 0;
+    for eight in s.chunks_exact(8) {
+        if !eight_pass(eight, test) {
+            break;
+        }
+        n += 8;
+    }
+    n + few_run(&s[n..], test)
 }
 
 // How many bytes stand before the first b: all where there is none.
 pub fn first(s: &[u8], b: u8) -> usize
     ensures { result ≡ first_of b s.now }
 {
-    let mut i = 0;
-    while 8 <= s.len() - i {
-        if eight_have(s, i, b) {
-            break;
-        }
-        i += 8;
-    }
-    while i < s.len() {
-        if s[i] == b {
-            return i;
-        }
-        i += 1;
-    }
-    i
-}
-
-// Whether all eight bytes from i on are b: the number of eight such bytes is b times that of eight ones.
-fn eight_are(s: &[u8], i: usize, b: u8) -> bool
-    requires { i + 8 ≤ length s.now }
-    ensures { result ≡ all (is b) (part i (i + 8) s.now) }
-{
-    words::eight(s, i) == b as u64 * 72340172838076673
+    run(s, &NotByte(b))
 }
 
 // How many blanks it begins with: a padded label is followed by many.
 pub fn lead(s: &[u8]) -> usize
     ensures { result ≡ run_of is_blank s.now }
 {
-    let mut n = 0;
-    while 8 <= s.len() - n {
-        if !eight_are(s, n, b' ') {
-            break;
-        }
-        n += 8;
-    }
-    while n < s.len() {
-        if s[n] != b' ' {
-            return n;
-        }
-        n += 1;
-    }
-    n
+    run(s, &IsByte(b' '))
 }
 
 // Whether all bytes are zero: unused room is long.
 pub fn are_zero(s: &[u8]) -> bool
     ensures { result ≡ all (is 0) s.now }
 {
-    let mut i = 0;
-    while 8 <= s.len() - i {
-        if !eight_are(s, i, 0) {
-            return false;
-        }
-        i += 8;
-    }
-    while i < s.len() {
-        if s[i] != 0 {
-            return false;
-        }
-        i += 1;
-    }
-    true
+    run(s, &IsByte(0)) == s.len()
 }
 
 // How long it is without the blanks that it ends with.
 pub fn filled(s: &[u8]) -> usize
     ensures { result ≡ length (skip_end is_blank s.now) }
 {
-    let mut e = s.len();
-    while 0 < e {
-        if s[e - 1] != b' ' {
-            return e;
-        }
-        e -= 1;
-    }
-    e
+    s.len() - blanks_at_end(s)
+}
+
+// How many blanks it ends with.
+fn blanks_at_end(s: &[u8]) -> usize
+    ensures { result ≡ length (take_while is_blank (reverse s.now)) }
+{
+    s.iter().rev().take_while(|b| **b == b' ').count()
 }
 
 // The part without the blanks at its two ends.
@@ -197,18 +192,12 @@ pub fn trim(s: &[u8]) -> &[u8]
 pub fn front(s: &[u8], n: usize) -> &[u8]
     ensures { result.now ≡ take n s.now }
 {
-    if n < s.len() {
-        return &s[..n];
-    }
-    s
+    &s[..n.min(s.len())]
 }
 
 // What stands after the first n bytes.
 pub fn rest(s: &[u8], n: usize) -> &[u8]
     ensures { result.now ≡ drop n s.now }
 {
-    if n < s.len() {
-        return &s[n..];
-    }
-    &s[0..0]
+    &s[n.min(s.len())..]
 }

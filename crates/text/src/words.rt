@@ -33,10 +33,8 @@ pub fn upto(s: &[u8], i: usize) -> u64
         return eight(s, i);
     }
     let mut w: u64 = 0;
-    let mut k = s.len();
-    while i < k {
-        k -= 1;
-        w = w * 256 + s[k] as u64;
+    for k in (i..s.len()).rev() {
+        w = w * 256 + u64::from(s[k]);
     }
     w
 }

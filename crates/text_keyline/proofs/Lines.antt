@@ -1,11 +1,9 @@
 -- The ways through the readers of a line: after its key it should be a run of bytes of a kind, and then LF (10); and the line of a unit.
 -- Assumes nothing.
+use Rattle.std.specs.Prelude.{None, Option, Some}
 use Prim.Native.Nat.{ℕ, ◌+◌, ◌-◌, ◌≤◌, ◌<◌}
 use Rattle.text_keyline.proofs.Values.{upto_less, other_key, line_told}
 use Rattle.text_keyline.specs.Keylines.{line_of, value_in, below, line_text, if_unit, unit_at, if_named, named_to}
-use Rattle.text_keyline.specs.declared.Line.TheVariants.{Ends, Bad}
-use Rattle.text_keyline.specs.declared.Line.{Line}
-use Rattle.text_keyline.specs.declared.Named.TheVariants.{To, Not as NotNamed}
 use Rattle.value_name.specs.Names.{is_unit_byte, is_unit}
 use Rattle.text.proofs.Cuts.{tail, front_count, starts_cut, starts_length, starts_same, same_refl, all_none, any_append, any_seam, upto_seam, past_seam}
 use Rattle.text.proofs.Fronts.{run_front, run_open, run_line, run_more, upto_past, any_past}
@@ -17,7 +15,6 @@ use lib.ListN.{length, get_or, take, drop, length-append, length-drop}
 use lib.Seq.{take-append_seam, drop-append_seam, get_or-drop}
 use mathlib.Core.Bool.{Bool, true, false, ◌||◌, not, cond, and-false, false≢true}
 use mathlib.Core.List.{List, [], ◌∷◌, ◌++◌, append_assoc}
-use mathlib.Core.Option.{none, some}
 use mathlib.Core.Path.{◌≡◌, refl, sym, ap, ◌∙◌}
 use native.Mathlib.Omega.{arith}
 
@@ -39,7 +36,7 @@ module _ (key s : List ℕ) (clean : any (is 10) key ≡ false) (begins : starts
   pub line_first : first_of 10 s ≡ length key + first_of 10 rest
   line_first = ap length line_upto ∙ length-append key (upto (is 10) rest)
 
-  pub ended_line : any (is 10) rest ≡ true → line_of key s ≡ Ends (first_of 10 s)
+  pub ended_line : any (is 10) rest ≡ true → line_of key s ≡ Some (first_of 10 s)
   unfolding line_of
   ended_line y = rw (begins, line_any, y)
 
@@ -48,7 +45,7 @@ module _ (key s : List ℕ) (clean : any (is 10) key ≡ false) (begins : starts
     counted = run ∙ ap (λ (l : List ℕ). run_of p l) (tail s (length key))
 
     -- no LF
-    pub line_open : length key + m ≡ length s → Bad ≡ line_of key s
+    pub line_open : length key + m ≡ length s → None ≡ line_of key s
     unfolding line_of
     line_open e =
         let n : any (is 10) s ≡ false = line_any ∙ run_open p 10 stop rest (omega (arith, counted, length-drop (length key) s)) in
@@ -76,8 +73,8 @@ module _ (key s : List ℕ) (clean : any (is 10) key ≡ false) (begins : starts
         pub line_place : length key + m ≡ first_of 10 s
         line_place = omega (arith, line_first, ap length seen.0, front_count rest m (omega (arith, inside)))
 
-        pub line_ends : line_of key s ≡ Ends (length key + m)
-        line_ends = ended_line seen.1 ∙ ap Ends (sym line_place)
+        pub line_ends : line_of key s ≡ Some (length key + m)
+        line_ends = ended_line seen.1 ∙ ap Some (sym line_place)
 
 -- ---- a whole line, with its key and its value: what was written is read, and only that
 
@@ -94,7 +91,7 @@ starts_own a b = starts_same a (a ++ b) ∙ ap (same a) (take-append_seam a b) �
 
 -- what is told by a line that was written
 pub record Written (key v rest : List ℕ) : Type 0 where
-  pub line_is : line_of key (line_text key v ++ rest) ≡ Ends (first_of 10 (line_text key v ++ rest))
+  pub line_is : line_of key (line_text key v ++ rest) ≡ Some (first_of 10 (line_text key v ++ rest))
   pub value_is : value_in key (line_text key v ++ rest) ≡ v
   pub below_is : below (line_text key v ++ rest) ≡ rest
 
@@ -114,7 +111,7 @@ line_back key v rest k c =
       below_is = ap below seam ∙ past_seam (is 10) (key ++ v) 10 rest clean refl;
     }
 
-pub line_own : (key s : List ℕ) (e : ℕ) → any (is 10) key ≡ false → line_of key s ≡ Ends e → s ≡ line_text key (value_in key s) ++ below s
+pub line_own : (key s : List ℕ) (e : ℕ) → any (is 10) key ≡ false → line_of key s ≡ Some e → s ≡ line_text key (value_in key s) ++ below s
 line_own key s e k i =
     let t = line_told key s e i in
     let first : upto (is 10) s ≡ key ++ value_in key s =
@@ -132,12 +129,12 @@ unit_clean = refl
 abbrev unit_value : List ℕ → List ℕ
 unit_value s = value_in (bytes "unit=") s
 
-no_unit : (l : Line) (v s : List ℕ) → is_unit v ≡ false → NotNamed ≡ if_named (if_unit l v) s
-no_unit Bad v s n = refl
-no_unit (Ends e) v s n = rw n
+no_unit : (l : Option ℕ) (v s : List ℕ) → is_unit v ≡ false → None ≡ if_named (if_unit l v) s
+no_unit None v s n = refl
+no_unit (Some e) v s n = rw n
 
 module _ (s : List ℕ) (b : Bool) (told : b ≡ starts (bytes "unit=") s) where
-  pub unit_key : b ≡ false → NotNamed ≡ named_to s
+  pub unit_key : b ≡ false → None ≡ named_to s
   unfolding unit_at
   unit_key n = rw (sym (other_key (bytes "unit=") s b told n))
 
@@ -145,7 +142,7 @@ module _ (s : List ℕ) (b : Bool) (told : b ≡ starts (bytes "unit=") s) where
     unit_begins : starts (bytes "unit=") s ≡ true
     unit_begins = sym told ∙ yes
 
-    pub unit_open : 5 + m ≡ length s → NotNamed ≡ named_to s
+    pub unit_open : 5 + m ≡ length s → None ≡ named_to s
     unfolding unit_at
     unit_open e = rw (sym (line_open (bytes "unit=") s unit_clean unit_begins is_unit_byte refl m run e))
 
@@ -179,12 +176,12 @@ module _ (s : List ℕ) (b : Bool) (told : b ≡ starts (bytes "unit=") s) where
           let w = line_more (bytes "unit=") s unit_clean unit_begins is_unit_byte refl m run n g in
           simp (w, and-false)
 
-      pub unit_not : refused ≡ true → NotNamed ≡ named_to s
+      pub unit_not : refused ≡ true → None ≡ named_to s
       unfolding unit_at
       unit_not r =
           no_unit (line_of (bytes "unit=") s) (unit_value s) s (by_eq (get_or s (5 + m) 0) 10 (unit_size r) unit_other)
 
-      pub unit_is : refused ≡ false → To (5 + m) ≡ named_to s
+      pub unit_is : refused ≡ false → Some (5 + m) ≡ named_to s
       unfolding unit_at is_unit
       unit_is r =
           let o = or_parts (eqb m 0 || ltb 16 m) (not (eqb (get_or s (5 + m) 0) 10)) r in
@@ -198,20 +195,20 @@ module _ (s : List ℕ) (b : Bool) (told : b ≡ starts (bytes "unit=") s) where
           ap (all is_unit_byte) v.0
           ∙ run_front is_unit_byte m (drop 5 s) (counted (bytes "unit=") s unit_clean unit_begins is_unit_byte refl m run) in
           rw (line_ends (bytes "unit=") s unit_clean unit_begins is_unit_byte refl m run n g, w, a)
-          (ap To (line_place (bytes "unit=") s unit_clean unit_begins is_unit_byte refl m run n g))
+          (ap Some (line_place (bytes "unit=") s unit_clean unit_begins is_unit_byte refl m run n g))
 
 -- a unit that was read is what stands in its line, past the five bytes of the key
-pub unit_told : (s u : List ℕ) → unit_at s ≡ some u → (u ≡ value_in (bytes "unit=") s) × (5 ≤ first_of 10 s) × (first_of 10 s < length s)
+pub unit_told : (s u : List ℕ) → unit_at s ≡ Some u → (u ≡ value_in (bytes "unit=") s) × (5 ≤ first_of 10 s) × (first_of 10 s < length s)
 unfolding unit_at
 unit_told s u e = at_line (line_of (bytes "unit=") s) refl e
   where
-    chosen : (b : Bool) (v : List ℕ) → cond b (some v) none ≡ some u → u ≡ v
+    chosen : (b : Bool) (v : List ℕ) → cond b (Some v) None ≡ Some u → u ≡ v
     chosen true v e = cc
     chosen false v e = let z : ◌≡◌ {A = ℕ} 0 1 = cc in absurd (omega arith)
 
-    at_line : (l : Line) → line_of (bytes "unit=") s ≡ l → if_unit l (unit_value s) ≡ some u → (u ≡ unit_value s) × (5 ≤ first_of 10 s) × (first_of 10 s < length s)
-    at_line Bad i e = let z : ◌≡◌ {A = ℕ} 0 1 = cc in absurd (omega arith)
-    at_line (Ends k) i e =
+    at_line : (l : Option ℕ) → line_of (bytes "unit=") s ≡ l → if_unit l (unit_value s) ≡ Some u → (u ≡ unit_value s) × (5 ≤ first_of 10 s) × (first_of 10 s < length s)
+    at_line None i e = let z : ◌≡◌ {A = ℕ} 0 1 = cc in absurd (omega arith)
+    at_line (Some k) i e =
         let w = line_told (bytes "unit=") s k i in
         (chosen (is_unit (unit_value s)) (unit_value s) e, omega (arith, line_first (bytes "unit=") s unit_clean w.0), upto_less s w.1)
 
@@ -223,22 +220,22 @@ unit_plain u e =
     (and_parts (within 1 16 (length u)) (all is_unit_byte u) e).1
 
 pub unit_back : (u rest : List ℕ) → is_unit u ≡ true
-    → (unit_at (line_text (bytes "unit=") u ++ rest) ≡ some u) × (below (line_text (bytes "unit=") u ++ rest) ≡ rest)
+    → (unit_at (line_text (bytes "unit=") u ++ rest) ≡ Some u) × (below (line_text (bytes "unit=") u ++ rest) ≡ rest)
 unfolding unit_at
 unit_back u rest e =
     let w = line_back (bytes "unit=") u rest unit_clean (unit_plain u e) in
     (rw (w.line_is, w.value_is, e), w.below_is)
 
-pub unit_own : (s u : List ℕ) → unit_at s ≡ some u → (is_unit u ≡ true) × (s ≡ line_text (bytes "unit=") u ++ below s)
+pub unit_own : (s u : List ℕ) → unit_at s ≡ Some u → (is_unit u ≡ true) × (s ≡ line_text (bytes "unit=") u ++ below s)
 unfolding unit_at
 unit_own s u e = at_line (line_of (bytes "unit=") s) refl e
   where
-    named : (b : Bool) (v : List ℕ) → is_unit v ≡ b → cond b (some v) none ≡ some u → (is_unit u ≡ true) × (v ≡ u)
+    named : (b : Bool) (v : List ℕ) → is_unit v ≡ b → cond b (Some v) None ≡ Some u → (is_unit u ≡ true) × (v ≡ u)
     named true v i e = let q : v ≡ u = cc in (rw q at i, q)
     named false v i e = let z : ◌≡◌ {A = ℕ} 0 1 = cc in absurd (omega arith)
 
-    at_line : (l : Line) → line_of (bytes "unit=") s ≡ l → if_unit l (unit_value s) ≡ some u → (is_unit u ≡ true) × (s ≡ line_text (bytes "unit=") u ++ below s)
-    at_line Bad i e = let z : ◌≡◌ {A = ℕ} 0 1 = cc in absurd (omega arith)
-    at_line (Ends k) i e =
+    at_line : (l : Option ℕ) → line_of (bytes "unit=") s ≡ l → if_unit l (unit_value s) ≡ Some u → (is_unit u ≡ true) × (s ≡ line_text (bytes "unit=") u ++ below s)
+    at_line None i e = let z : ◌≡◌ {A = ℕ} 0 1 = cc in absurd (omega arith)
+    at_line (Some k) i e =
         let n = named (is_unit (unit_value s)) (unit_value s) refl e in
         (n.0, line_own (bytes "unit=") s k unit_clean i ∙ ap (λ (l : List ℕ). line_text (bytes "unit=") l ++ below s) n.1)

@@ -7,35 +7,20 @@ ghost use Rattle.text.specs.Digits.{whole_text};
 ghost use Rattle.text.specs.Puts.{limit, Puts};
 ghost use Rattle.std.specs.Prelude.{◌+◌, ◌<◌, length, drop, ◌≡◌};
 
-use text::digits::Digits;
 use text::{put, scan};
 use value_name::{sequence, unit};
 
-// Where a text's first line ends, or that it is not such a line.
-#[derive(Clone, Copy)]
-pub enum Line {
-    Ends(usize),
-    Bad,
-}
-
-// Where the LF of the unit's line stands.
-#[derive(Clone, Copy)]
-pub enum Named {
-    To(usize),
-    Not,
-}
-
-pub fn line_of(key: &[u8], s: &[u8]) -> Line
+pub fn line_of(key: &[u8], s: &[u8]) -> Option<usize>
     ensures { result ≡ line_of key.now s.now }
 {
     if !scan::starts(key, s) {
-        return Line::Bad;
+        return None;
     }
     let end = scan::first(s, b'\n');
     if end == s.len() {
-        return Line::Bad;
+        return None;
     }
-    Line::Ends(end)
+    Some(end)
 }
 
 // What stands in the first line after its first n bytes: the value, where they are the key.
@@ -55,44 +40,44 @@ pub fn below(s: &[u8]) -> &[u8]
 }
 
 // A whole number from least to most, without leading zeros.
-pub fn whole(s: &[u8], least: u64, most: u64) -> Digits
+pub fn whole(s: &[u8], least: u64, most: u64) -> Option<u64>
     ensures { result ≡ whole_in least most s.now }
 {
-    let Digits::Are(n) = sequence::read(s) else {
-        return Digits::Not;
+    let Some(n) = sequence::read(s) else {
+        return None;
     };
     if (least <= n) & (n <= most) {
-        return Digits::Are(n);
+        return Some(n);
     }
-    Digits::Not
+    None
 }
 
 // The number in the first line, after its key.
-pub fn number(key: &[u8], most: u64, s: &[u8]) -> Digits
+pub fn number(key: &[u8], most: u64, s: &[u8]) -> Option<u64>
     ensures { result ≡ number_at key.now most s.now }
 {
-    let Line::Ends(_) = line_of(key, s) else {
-        return Digits::Not;
+    let Some(_) = line_of(key, s) else {
+        return None;
     };
     whole(value(s, key.len()), 1, most)
 }
 
 // Where the unit's line ends.
-pub fn unit_line(s: &[u8]) -> Named
+pub fn unit_line(s: &[u8]) -> Option<usize>
     ensures { result ≡ named_to s.now }
 {
     if !scan::starts(b"unit=", s) {
-        return Named::Not;
+        return None;
     }
     let size = unit::run(&s[5..]);
     let e = 5 + size;
     if e == s.len() {
-        return Named::Not;
+        return None;
     }
     if (size == 0) | (16 < size) | (s[e] != b'\n') {
-        return Named::Not;
+        return None;
     }
-    Named::To(e)
+    Some(e)
 }
 
 // A line with its key and its value, put at a place.

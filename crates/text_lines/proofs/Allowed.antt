@@ -1,11 +1,11 @@
 -- The bytes that are allowed, one line on: a line of bytes that can be printed, or one that opens with an accented label. Assumes nothing.
+use Rattle.std.specs.Prelude.{None, Some}
 use Prim.Native.Nat.{ℕ, suc, ◌+◌, ◌-◌, ◌≤◌, ◌<◌}
 use Rattle.text_lines.proofs.Spelt.{Accented, all_good, accented_cut, opens_rest, room_is, room_none}
 use Rattle.text_lines.proofs.Steps.{OneLine, after, not_bad, of_line, plain_not, run_length}
 use Rattle.text_lines.specs.Lines.{allowed, allowed_from, allowed_upto}
 use Rattle.text_lines.specs.Places.{not_plain, plain_run, line_run, break_of}
 use Rattle.text_lines.specs.Spellings.{Spelling, is_accented, begins_line, opens, label_room}
-use Rattle.text_lines.specs.declared.Break.TheVariants.{After, Bad}
 use Rattle.text.proofs.Cuts.{upto_take, upto_seam, past_seam, past_drop, any_seam, all_append}
 use Rattle.text.proofs.Tests.{by_test, and_parts, cond_le}
 use Rattle.text.specs.Bytes.{all, any, first_of, is, is_plain, past, trim, upto}
@@ -25,7 +25,7 @@ unfolding allowed
 plain_allowed b [] p = rw p
 plain_allowed b (c ∷ cs) p = rw p
 
-bad_here : (b : ℕ) (bs : List ℕ) → not_plain b ≡ true → break_of (b ∷ bs) ≡ Bad → allowed b bs ≡ false
+bad_here : (b : ℕ) (bs : List ℕ) → not_plain b ≡ true → break_of (b ∷ bs) ≡ None → allowed b bs ≡ false
 unfolding break_of allowed
 bad_here b [] t h =
     by_test (is 10 b) (λ e. absurd (not_bad (sym (rw e at h)))) (λ e. rw (not-true (is_plain b) t, e))
@@ -88,7 +88,7 @@ module _ (sp : List Spelling) where
   unfolding allowed_upto allowed_from
   empty_on = refl
 
-  break_on : (n m : ℕ) (r : List ℕ) → break_of r ≡ After m → allowed_from sp n r ≡ m + allowed_upto sp (drop m r)
+  break_on : (n m : ℕ) (r : List ℕ) → break_of r ≡ Some m → allowed_from sp n r ≡ m + allowed_upto sp (drop m r)
   unfolding break_of allowed_from
   break_on n m [] h = let e : 0 ≡ m = after h in rw (sym e) (omega (arith, empty_on))
   break_on n m (b ∷ []) h =
@@ -107,7 +107,7 @@ module _ (sp : List Spelling) where
       (λ u. absurd (not_bad (rw (t, u) at h))))
 
   -- a line that is all printable, whatever is left of a label's part
-  line_on : (n m : ℕ) (r : List ℕ) → break_of (drop (plain_run r) r) ≡ After m
+  line_on : (n m : ℕ) (r : List ℕ) → break_of (drop (plain_run r) r) ≡ Some m
       → allowed_from sp n r ≡ (plain_run r + m) + allowed_upto sp (drop (plain_run r + m) r)
   line_on n m r h =
       let k = plain_run r in
@@ -115,7 +115,7 @@ module _ (sp : List Spelling) where
       omega (arith, over_run n r, b, ap (allowed_upto sp) (drop-drop m k r))
 
   -- the run stops past what is left of a label's part: the byte there is the first that is not allowed
-  stop_on : (n : ℕ) (r : List ℕ) → break_of (drop (plain_run r) r) ≡ Bad → n ≤ plain_run r → allowed_from sp n r ≡ plain_run r
+  stop_on : (n : ℕ) (r : List ℕ) → break_of (drop (plain_run r) r) ≡ None → n ≤ plain_run r → allowed_from sp n r ≡ plain_run r
   unfolding allowed_from upto break_of
   stop_on n [] h k = refl
   stop_on n (b ∷ bs) h k =
@@ -231,7 +231,7 @@ module _ (sp : List Spelling) (good : all_good sp ≡ true) (r : List ℕ) where
       (λ o. subst (OneLine r) (sym (plain_run_lem o)) (record { inside = run_length r; clear = run_clear r }))
 
   -- where it ends, its bytes and those that end it are allowed
-  pub allowed_step : (n : ℕ) → break_of (drop (line_run sp r) r) ≡ After n
+  pub allowed_step : (n : ℕ) → break_of (drop (line_run sp r) r) ≡ Some n
       → allowed_upto sp r ≡ (line_run sp r + n) + allowed_upto sp (drop (line_run sp r + n) r)
   unfolding allowed_upto
   allowed_step n h =
@@ -240,7 +240,7 @@ module _ (sp : List Spelling) (good : all_good sp ≡ true) (r : List ℕ) where
       let k = far_run o in
       let j = length (accented o).front + 1 in
       let p = plain_run (beyond o) in
-      let b : break_of (drop p (beyond o)) ≡ After n = ap break_of (sym (past_is o p)) ∙ ap (λ (i : ℕ). break_of (drop i r)) (sym k) ∙ h in
+      let b : break_of (drop p (beyond o)) ≡ Some n = ap break_of (sym (past_is o p)) ∙ ap (λ (i : ℕ). break_of (drop i r)) (sym k) ∙ h in
       let e : j + p + n ≡ j + (p + n) = omega arith in
       let d : drop (j + p + n) r ≡ drop (p + n) (beyond o) = ap (λ (i : ℕ). drop i r) e ∙ past_is o (p + n) in
       rw k (omega (arith, far_allowed o, line_on sp (length (accented o).back) n (beyond o) b, ap (allowed_upto sp) d)))
@@ -249,14 +249,14 @@ module _ (sp : List Spelling) (good : all_good sp ≡ true) (r : List ℕ) where
       rw k (line_on sp (label_room sp (upto (is 10) r)) n r (ap (λ (i : ℕ). break_of (drop i r)) (sym k) ∙ h)))
 
   -- where it does not, the byte there is the first that is not allowed
-  pub allowed_stop : break_of (drop (line_run sp r) r) ≡ Bad → allowed_upto sp r ≡ line_run sp r
+  pub allowed_stop : break_of (drop (line_run sp r) r) ≡ None → allowed_upto sp r ≡ line_run sp r
   unfolding allowed_upto
   allowed_stop h =
       by_test (opens sp (upto (is 10) r))
       (λ o.
       let k = far_run o in
       let p = plain_run (beyond o) in
-      let b : break_of (drop p (beyond o)) ≡ Bad = ap break_of (sym (past_is o p)) ∙ ap (λ (i : ℕ). break_of (drop i r)) (sym k) ∙ h in
+      let b : break_of (drop p (beyond o)) ≡ None = ap break_of (sym (past_is o p)) ∙ ap (λ (i : ℕ). break_of (drop i r)) (sym k) ∙ h in
       let s = stop_on sp (length (accented o).back) (beyond o) b (omega (arith, past_equals sp r (accented o))) in
       rw k (omega (arith, far_allowed o, s)))
       (λ o.

@@ -1,14 +1,16 @@
 -- The laws that the four functions cite: the run of bytes that can be printed, what ends a line, a text's place, a separator.
 -- Assumes nothing.
+use Rattle.std.specs.Prelude.{None, Some}
 use Prim.Native.Nat.{ℕ, ◌+◌, ◌-◌, ◌≤◌, ◌<◌}
+use Rattle.std.proofs.Math.Bool.{not-not}
 use Rattle.text_lines.specs.Lines.{is_sep}
 use Rattle.text_lines.specs.Places.{HoldsText, trimmed_at, not_plain, plain_run, break_of}
 use Rattle.text_lines.specs.declared.Span.{Span}
-use Rattle.text_lines.specs.declared.Break.TheVariants.{After, Bad}
-use Rattle.text.proofs.Cuts.{drop_step, part_from, part_front, length_part, upto_here, upto_on, upto_over, upto_end, all_none, skip_drop}
+use Rattle.text.proofs.Cuts.{drop_step, part_from, part_front, length_part, skip_drop}
+use Rattle.text.proofs.Fronts.{run_before}
 use Rattle.text.proofs.Trims.{end_take, end_length}
 use Rattle.text.specs.Bytes.{part, all, is, is_blank, is_plain, run_of, skip, skip_end, trim}
-use borrow.Author.Tests.{ne_eqb, le-leb, lt-leb}
+use borrow.Author.Tests.{ne_eqb}
 use lib.Dec.{eqb, leb}
 use lib.ListN.{length, get_or, take, drop, drop_of_length-le}
 use mathlib.Core.Bool.{true, false, ◌&&◌, and-false}
@@ -18,37 +20,27 @@ use native.Mathlib.Omega.{arith}
 
 -- ---- the run
 
-module _ (s : List ℕ) (i : ℕ) (e : plain_run s ≡ i + plain_run (drop i s)) where
-  pub plain_here : i < length s → is_plain (get_or s i 0) ≡ false → i ≡ plain_run s
-  plain_here h t = omega (arith, ap length (upto_here not_plain 0 s i h (rw t)))
-
-  pub plain_on : i < length s → is_plain (get_or s i 0) ≡ true → plain_run s ≡ (i + 1) + plain_run (drop (i + 1) s)
-  plain_on h t = omega (arith, ap length (upto_on not_plain 0 s i h (rw t)))
-
-  -- k at a time
-  pub plain_over : (k : ℕ) → i + k ≤ length s → all is_plain (part i (i + k) s) ≡ true → plain_run s ≡ (i + k) + plain_run (drop (i + k) s)
-  plain_over k h t = omega (arith, upto_over not_plain s i k h (all_none not_plain is_plain (λ x p. rw p) (part i (i + k) s) t))
-
-  pub plain_end : length s ≤ i → i ≡ plain_run s
-  plain_end h = omega (arith, ap length (upto_end not_plain s i h))
+-- what can be printed, as what stands before the first byte that cannot
+pub run_plain : (s : List ℕ) → run_of is_plain s ≡ plain_run s
+run_plain s = run_before is_plain not_plain (λ (x : ℕ). sym (not-not (is_plain x))) s
 
 -- ---- what ends a line
 
-break_feed : (b : ℕ) (cs : List ℕ) → b ≡ 10 → After 1 ≡ break_of (b ∷ cs)
+break_feed : (b : ℕ) (cs : List ℕ) → b ≡ 10 → Some 1 ≡ break_of (b ∷ cs)
 unfolding break_of
 break_feed b [] e = rw e
 break_feed b (c ∷ cs) e = rw e
 
-pub break_end : (s : List ℕ) (at : ℕ) → at ≡ length s → After 0 ≡ break_of (drop at s)
+pub break_end : (s : List ℕ) (at : ℕ) → at ≡ length s → Some 0 ≡ break_of (drop at s)
 unfolding break_of
 break_end s at e = let h : length s ≤ at = omega arith in rw (drop_of_length-le s h)
 
-pub break_line : (s : List ℕ) (at : ℕ) → at ≤ length s → (at ≡ length s → ⊥) → get_or s at 0 ≡ 10 → After 1 ≡ break_of (drop at s)
+pub break_line : (s : List ℕ) (at : ℕ) → at ≤ length s → (at ≡ length s → ⊥) → get_or s at 0 ≡ 10 → Some 1 ≡ break_of (drop at s)
 break_line s at k n e =
     let h : at < length s = omega arith in
     break_feed (get_or s at 0) (drop (at + 1) s) e ∙ ap break_of (sym (drop_step s at h))
 
-pub break_alone : (s : List ℕ) (at : ℕ) → at + 1 ≡ length s → (get_or s at 0 ≡ 10 → ⊥) → Bad ≡ break_of (drop at s)
+pub break_alone : (s : List ℕ) (at : ℕ) → at + 1 ≡ length s → (get_or s at 0 ≡ 10 → ⊥) → None ≡ break_of (drop at s)
 unfolding break_of
 break_alone s at e n =
     let h : at < length s = omega arith in
@@ -62,11 +54,11 @@ module _ (s : List ℕ) (at : ℕ) (k : at ≤ length s) (n : at ≡ length s �
       let g : at + 1 < length s = omega arith in
       drop_step s at h ∙ ap (λ (r : List ℕ). get_or s at 0 ∷ r) (drop_step s (at + 1) g)
 
-  pub break_pair : (eqb (get_or s at 0) 13 && eqb (get_or s (at + 1) 0) 10) ≡ true → After 2 ≡ break_of (drop at s)
+  pub break_pair : (eqb (get_or s at 0) 13 && eqb (get_or s (at + 1) 0) 10) ≡ true → Some 2 ≡ break_of (drop at s)
   unfolding break_of
   break_pair e = rw (two, ne_eqb (get_or s at 0) 10 l, e)
 
-  pub break_bad : (eqb (get_or s at 0) 13 && eqb (get_or s (at + 1) 0) 10) ≡ false → Bad ≡ break_of (drop at s)
+  pub break_bad : (eqb (get_or s at 0) 13 && eqb (get_or s (at + 1) 0) 10) ≡ false → None ≡ break_of (drop at s)
   unfolding break_of
   break_bad e = rw (two, ne_eqb (get_or s at 0) 10 l, e)
 
@@ -114,14 +106,6 @@ span_holds s at end h k p e = subst (λ (q : Span). HoldsText s q (trim (part at
 
 -- ---- a separator
 
-pub sep_short : (t : List ℕ) → length t < 5 → false ≡ is_sep t
-unfolding is_sep
-sep_short t h = rw (lt-leb 5 (length t) h)
-
 pub sep_other : (t : List ℕ) → all (is 43) t ≡ false → false ≡ is_sep t
 unfolding is_sep
 sep_other t e = rw (e, and-false (leb 5 (length t)))
-
-pub sep_long : (t : List ℕ) → 5 ≤ length t → all (is 43) t ≡ true → true ≡ is_sep t
-unfolding is_sep
-sep_long t h e = rw (le-leb 5 (length t) h, e)

@@ -1,5 +1,6 @@
 -- However the parameter lines are ordered, the same fields have entries; and where no field has two, each has the same value.
 -- Assumes nothing.
+use Rattle.std.specs.Prelude.{None, Option, Some}
 use Prim.Native.Nat.{ℕ, suc, ◌+◌}
 use Rattle.text_lines.specs.Entries.{Entry, stands, again, missing, value_at, column}
 use Rattle.text_lines.specs.Order.{Perm, done, keep, swap, both}
@@ -9,7 +10,6 @@ use borrow.Author.Tests.{eqb-true, eqb-false, ne_eqb}
 use lib.Dec.{eqb}
 use mathlib.Core.Bool.{Bool, true, false, ◌||◌, cond}
 use mathlib.Core.List.{List, [], ◌∷◌}
-use mathlib.Core.Option.{Option, none, some}
 use mathlib.Core.Path.{◌≡◌, refl, sym, ap, ap₂, ◌∙◌}
 
 -- ---- entries
@@ -28,11 +28,11 @@ again_alike : (s t : List Entry) (es : List Entry) → Alike s t → again s es 
 unfolding again stands
 again_alike s t [] h = refl
 again_alike s t (e ∷ es) h =
-    ap₂ (λ (b : Bool) (r : Option ℕ). cond b (some e.at) r) (h e.at)
+    ap₂ (λ (b : Bool) (r : Option ℕ). cond b (Some e.at) r) (h e.at)
     (again_alike (e ∷ s) (e ∷ t) es (λ k. ap (λ (b : Bool). eqb k e.at || b) (h k)))
 
 -- no repeat: the test failed here, and there is none below
-cond_none : (b : Bool) (k : ℕ) (r : Option ℕ) → cond b (some k) r ≡ none → (b ≡ false) × (r ≡ none)
+cond_none : (b : Bool) (k : ℕ) (r : Option ℕ) → cond b (Some k) r ≡ None → (b ≡ false) × (r ≡ None)
 cond_none true k r e = (cc, cc)
 cond_none false k r e = (refl, e)
 
@@ -56,8 +56,8 @@ eqb_sym a b h = ne_eqb b a (λ e. eqb-false a b h (sym e))
 
 -- what an order of entries does not change
 pub record Agree (es fs : List Entry) : Type 0 where
-  pub none_twice : (seen : List Entry) → again seen es ≡ none → again seen fs ≡ none
-  pub values : (seen : List Entry) → again seen es ≡ none → (k : ℕ) → value_at k es ≡ value_at k fs
+  pub none_twice : (seen : List Entry) → again seen es ≡ None → again seen fs ≡ None
+  pub values : (seen : List Entry) → again seen es ≡ None → (k : ℕ) → value_at k es ≡ value_at k fs
   pub there : (k : ℕ) → stands k es ≡ stands k fs
 
 agree_keep : (e : Entry) (es fs : List Entry) → Agree es fs → Agree (e ∷ es) (e ∷ fs)
@@ -74,8 +74,8 @@ agree_keep e es fs a =
     }
 
 -- x above y with no repeat: neither stood above, and they differ
-apart : (x y : Entry) (es seen : List Entry) → again seen (x ∷ y ∷ es) ≡ none
-    → (stands x.at seen ≡ false) × (eqb y.at x.at ≡ false) × (stands y.at seen ≡ false) × (again (y ∷ x ∷ seen) es ≡ none)
+apart : (x y : Entry) (es seen : List Entry) → again seen (x ∷ y ∷ es) ≡ None
+    → (stands x.at seen ≡ false) × (eqb y.at x.at ≡ false) × (stands y.at seen ≡ false) × (again (y ∷ x ∷ seen) es ≡ None)
 unfolding again stands
 apart x y es seen h =
     let p = cond_none (stands x.at seen) x.at (again (x ∷ seen) (y ∷ es)) h in
@@ -127,18 +127,18 @@ column_same k (l ∷ ls) es gs h = ap₂ (λ (v : List ℕ) (vs : List (List ℕ
 -- ---- from lines to entries: choosing keeps an order to an order
 
 onto_keep : {B : Type 0} (o : Option B) {xs ys : List B} → Perm xs ys → Perm (onto o xs) (onto o ys)
-onto_keep none p = p
-onto_keep (some y) p = keep y p
+onto_keep None p = p
+onto_keep (Some y) p = keep y p
 
 pub perm_refl : {A : Type 0} (xs : List A) → Perm xs xs
 perm_refl [] = done
 perm_refl (x ∷ xs) = keep x (perm_refl xs)
 
 onto_swap : {B : Type 0} (o q : Option B) (xs : List B) → Perm (onto o (onto q xs)) (onto q (onto o xs))
-onto_swap none none xs = perm_refl xs
-onto_swap none (some y) xs = perm_refl (y ∷ xs)
-onto_swap (some x) none xs = perm_refl (x ∷ xs)
-onto_swap (some x) (some y) xs = swap x y xs
+onto_swap None None xs = perm_refl xs
+onto_swap None (Some y) xs = perm_refl (y ∷ xs)
+onto_swap (Some x) None xs = perm_refl (x ∷ xs)
+onto_swap (Some x) (Some y) xs = swap x y xs
 
 pub sift_perm : {A B : Type 0} (f : A → Option B) {xs ys : List A} → Perm xs ys → Perm (sift f xs) (sift f ys)
 unfolding sift

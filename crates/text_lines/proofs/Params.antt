@@ -1,5 +1,6 @@
 -- A parameter line says the same however many blanks stand around its label, its '=' and its value.
 -- Assumes nothing.
+use Rattle.std.specs.Prelude.{None, Some}
 use Prim.Native.Nat.{ℕ, zero, suc}
 use Rattle.text_lines.specs.Lines.{is_sep, param, param_of}
 use Rattle.text.proofs.Cuts.{skip_append, upto_seam, past_seam, any_seam, any_append, all_none}
@@ -11,7 +12,6 @@ use lib.Dec.{leb}
 use lib.ListN.{length, replicate}
 use mathlib.Core.Bool.{Bool, true, false, ◌||◌, and-false, false≢true}
 use mathlib.Core.List.{List, [], ◌∷◌, ◌++◌, append_assoc}
-use mathlib.Core.Option.{none, some}
 use mathlib.Core.Path.{◌≡◌, refl, sym, ap, ap₂, ◌∙◌}
 use native.Mathlib.Omega.{arith}
 
@@ -67,7 +67,7 @@ equals_trim t = equals_end (skip is_blank t) ∙ equals_skip t
 -- ---- a line with '=' and one without
 
 -- a line with '=' after a, which has none: its label and value are trimmed, and trimming the line first changes nothing
-pub param_of_line : (a v : List ℕ) → any (is 61) a ≡ false → param_of (trim (a ++ 61 ∷ v)) ≡ some (param (trim a) (trim v))
+pub param_of_line : (a v : List ℕ) → any (is 61) a ≡ false → param_of (trim (a ++ 61 ∷ v)) ≡ Some (param (trim a) (trim v))
 unfolding trim param_of
 param_of_line a v n =
     let m : any (is 61) (skip is_blank a) ≡ false = equals_skip a ∙ n in
@@ -77,7 +77,7 @@ param_of_line a v n =
       upto_seam (is 61) (skip is_blank a) 61 (skip_end is_blank v) m refl,
       past_seam (is 61) (skip is_blank a) 61 (skip_end is_blank v) m refl,
     )
-    (ap₂ (λ (l w : List ℕ). some (param l w)) (trim_skip a) (trim_end v))
+    (ap₂ (λ (l w : List ℕ). Some (param l w)) (trim_skip a) (trim_end v))
 
 split : (l : List ℕ) → any (is 61) l ≡ true → l ≡ upto (is 61) l ++ 61 ∷ past (is 61) l
 unfolding any upto past
@@ -90,10 +90,10 @@ unfolding any upto
 none_before [] = refl
 none_before (x ∷ l) = by_test (is 61 x) (λ t. rw t) (λ t. rw t (rw t (none_before l)))
 
-pub param_split : (l : List ℕ) → any (is 61) l ≡ true → param_of (trim l) ≡ some (param (trim (upto (is 61) l)) (trim (past (is 61) l)))
+pub param_split : (l : List ℕ) → any (is 61) l ≡ true → param_of (trim l) ≡ Some (param (trim (upto (is 61) l)) (trim (past (is 61) l)))
 param_split l e = ap (λ (t : List ℕ). param_of (trim t)) (split l e) ∙ param_of_line (upto (is 61) l) (past (is 61) l) (none_before l)
 
-pub no_param : (t : List ℕ) → any (is 61) t ≡ false → param_of t ≡ none
+pub no_param : (t : List ℕ) → any (is 61) t ≡ false → param_of t ≡ None
 unfolding param_of
 no_param t e = rw e
 
@@ -124,14 +124,14 @@ pub spaced : (i j k m : ℕ) (a v : List ℕ) → any (is 61) a ≡ false
 spaced i j k m a v n =
     param_of_line (blanks i ++ (a ++ blanks j)) (blanks k ++ (v ++ blanks m))
     (any_append (is 61) (blanks i) (a ++ blanks j) (blanks_equals (blanks i) (all_blanks i)) (any_append (is 61) a (blanks j) n (blanks_equals (blanks j) (all_blanks j))))
-    ∙ ap₂ (λ (l w : List ℕ). some (param l w)) (trim_front_blanks (blanks i) (a ++ blanks j) (all_blanks i) ∙ trim_end_blanks a (blanks j) (all_blanks j))
+    ∙ ap₂ (λ (l w : List ℕ). Some (param l w)) (trim_front_blanks (blanks i) (a ++ blanks j) (all_blanks i) ∙ trim_end_blanks a (blanks j) (all_blanks j))
     (trim_front_blanks (blanks k) (v ++ blanks m) (all_blanks k) ∙ trim_end_blanks v (blanks m) (all_blanks m))
     ∙ sym (param_of_line a v n)
 
 -- a line that begins with a label, with blanks or none before its '='
 pub head_param : (label b v : List ℕ) → trim label ≡ label → any (is 61) label ≡ false → all is_blank b ≡ true
-    → param_of (trim (label ++ (b ++ 61 ∷ v))) ≡ some (param label (trim v))
+    → param_of (trim (label ++ (b ++ 61 ∷ v))) ≡ Some (param label (trim v))
 head_param label b v t n h =
     ap (λ (l : List ℕ). param_of (trim l)) (sym (append_assoc label b (61 ∷ v)))
     ∙ param_of_line (label ++ b) v (any_append (is 61) label b n (blanks_equals b h))
-    ∙ ap (λ (l : List ℕ). some (param l (trim v))) (trim_end_blanks label b h ∙ t)
+    ∙ ap (λ (l : List ℕ). Some (param l (trim v))) (trim_end_blanks label b h ∙ t)

@@ -1,4 +1,5 @@
 -- Where lines, rows and values stand: one turn of a walk more, and what stands at each place. Assumes nothing.
+use Rattle.std.specs.Prelude.{Some}
 use Prim.Native.Nat.{ℕ, zero, suc, ◌+◌, ◌-◌, ◌≤◌, ◌<◌}
 use Rattle.text.proofs.Cuts.{part_from, upto_take, upto_length, past_drop}
 use Rattle.text.proofs.Tests.{by_test, by_eq}
@@ -12,7 +13,6 @@ use Rattle.text_lines.specs.Lines.{Marked, mark, marked, if_inside, if_outside, 
 use Rattle.text_lines.specs.Places.{HoldsText, part_of, trimmed_at, value_span, break_of}
 use Rattle.text_lines.specs.Spellings.{Spelling, respell}
 use Rattle.text_lines.specs.Spots.{LineAt, line_at, line_if, lines_from, lines_in, row_span, row_place, field_in, Spot, spot_if, spot_in, spots, place_at}
-use Rattle.text_lines.specs.declared.Break.TheVariants.{After}
 use lib.Dec.{eqb}
 use lib.ListN.{length, get_or, take, drop, length-take, length-drop}
 use lib.Seq.{drop-drop}
@@ -28,7 +28,7 @@ abbrev Moved : List ℕ → ℕ → ℕ → Type 0
 Moved r k n =
     (m at : ℕ) → lines_from m (at + (length (upto (is 10) r) + 1)) (lines (drop (k + n) r)) ≡ lines_from m (at + (k + n)) (lines (drop (k + n) r))
 
-moved : (r : List ℕ) (k n : ℕ) → OneLine r k → break_of (drop k r) ≡ After n → Moved r k n
+moved : (r : List ℕ) (k n : ℕ) → OneLine r k → break_of (drop k r) ≡ Some n → Moved r k n
 unfolding upto lines lines_from
 moved = by_turn Moved (λ m at. refl)
     (λ b bs k n p h m at.
@@ -39,7 +39,7 @@ moved = by_turn Moved (λ m at. refl)
     (λ bs m at. refl)
     (λ cs m at. refl)
 
-pub lines_turn : (r : List ℕ) (k n m at : ℕ) → 0 < length r → OneLine r k → break_of (drop k r) ≡ After n
+pub lines_turn : (r : List ℕ) (k n m at : ℕ) → 0 < length r → OneLine r k → break_of (drop k r) ≡ Some n
     → lines_from m at (lines r)
     ≡ onto (line_if m at (take k r)) (lines_from (m + cond (is_sep (trim (take k r))) 1 0) (at + (k + n)) (lines (drop (k + n) r)))
 unfolding lines_from

@@ -1,5 +1,6 @@
 -- Entries with one more at their end: what stands, the values, the first repeat; the lines with one more; and the place of a label.
 -- Assumes nothing.
+use Rattle.std.specs.Prelude.{None, Option, Some}
 use Prim.Native.Nat.{ℕ, zero, suc, ◌+◌, ◌≤◌, ◌<◌}
 use Rattle.text_lines.specs.Entries.{Entry, place_of, stands, again, standing, missing, value_at}
 use Rattle.text_lines.specs.Lines.{Marked, if_inside, if_outside}
@@ -13,7 +14,6 @@ use lib.ListN.{length, get_or, set, drop, drop_of_length-le}
 use lib.Seq.{drop-cons}
 use mathlib.Core.Bool.{Bool, true, false, ◌||◌, cond, false≢true}
 use mathlib.Core.List.{List, [], ◌∷◌, ◌++◌}
-use mathlib.Core.Option.{Option, none, some}
 use mathlib.Core.Path.{◌≡◌, refl, sym, ap, ap₂, ◌∙◌}
 use native.Mathlib.Numerals.{add-one}
 use native.Mathlib.Omega.{arith}
@@ -58,20 +58,20 @@ value_new k (x ∷ es) e h t =
 
 -- the first of two
 abbrev pub first : Option ℕ → Option ℕ → Option ℕ
-first none o = o
-first (some k) o = some k
+first None o = o
+first (Some k) o = Some k
 
 -- the first repeat: the old one, or the new entry's, where it stood above
 again_snoc : (seen es : List Entry) (e : Entry)
-    → again seen (es ++ e ∷ []) ≡ first (again seen es) (cond (stands e.at seen || stands e.at es) (some e.at) none)
+    → again seen (es ++ e ∷ []) ≡ first (again seen es) (cond (stands e.at seen || stands e.at es) (Some e.at) None)
 unfolding again stands
-again_snoc seen [] e = ap (λ (b : Bool). cond b (some e.at) none) (sym (or_none (stands e.at seen)))
+again_snoc seen [] e = ap (λ (b : Bool). cond b (Some e.at) None) (sym (or_none (stands e.at seen)))
 again_snoc seen (x ∷ es) e =
     by_test (stands x.at seen) (λ t. rw t)
     (λ t.
     rw t
     (again_snoc (x ∷ seen) es e
-    ∙ ap (λ (b : Bool). first (again (x ∷ seen) es) (cond b (some e.at) none)) (or_move (eqb e.at x.at) (stands e.at seen) (stands e.at es))))
+    ∙ ap (λ (b : Bool). first (again (x ∷ seen) es) (cond b (Some e.at) None)) (or_move (eqb e.at x.at) (stands e.at seen) (stands e.at es))))
   where
     or_move : (a b c : Bool) → ((a || b) || c) ≡ (b || (a || c))
     or_move true true c = refl
@@ -79,7 +79,7 @@ again_snoc seen (x ∷ es) e =
     or_move false b c = refl
 
 -- where it stood above
-pub again_yes : (es : List Entry) (e : Entry) → stands e.at es ≡ true → again [] (es ++ e ∷ []) ≡ first (again [] es) (some e.at)
+pub again_yes : (es : List Entry) (e : Entry) → stands e.at es ≡ true → again [] (es ++ e ∷ []) ≡ first (again [] es) (Some e.at)
 unfolding stands
 again_yes es e h = again_snoc [] es e ∙ rw h
 
@@ -87,9 +87,9 @@ pub again_no : (es : List Entry) (e : Entry) → stands e.at es ≡ false → ag
 unfolding stands
 again_no es e h = again_snoc [] es e ∙ rw h (first_none (again [] es))
   where
-    first_none : (o : Option ℕ) → first o none ≡ o
-    first_none none = refl
-    first_none (some k) = refl
+    first_none : (o : Option ℕ) → first o None ≡ o
+    first_none None = refl
+    first_none (Some k) = refl
 
 -- ---- of each field, whether it stands
 
@@ -144,8 +144,8 @@ sift_snoc g [] x = refl
 sift_snoc {B = B} g (y ∷ xs) x = ap (onto (g y)) (sift_snoc g xs x) ∙ onto_append (g y)
   where
     onto_append : (o : Option B) → onto o (sift g xs ++ onto (g x) []) ≡ onto o (sift g xs) ++ onto (g x) []
-    onto_append none = refl
-    onto_append (some z) = refl
+    onto_append None = refl
+    onto_append (Some z) = refl
 
 -- the first of a list with one more
 pub first_old : (xs : List (List ℕ)) (t : List ℕ) → (length xs ≡ 0 → ⊥) → get_or (xs ++ t ∷ []) 0 [] ≡ get_or xs 0 []

@@ -1,8 +1,8 @@
 -- One turn of a walk over the lines: bytes of one line, and those that end it. Assumes nothing.
+use Rattle.std.specs.Prelude.{None, Some}
 use Prim.Native.Nat.{ℕ, zero, suc, ◌+◌, ◌≤◌, ◌<◌}
 use Rattle.text_lines.specs.Lines.{push, lines, text_of, texts}
 use Rattle.text_lines.specs.Places.{not_plain, plain_run, break_of}
-use Rattle.text_lines.specs.declared.Break.TheVariants.{After, Bad}
 use Rattle.text.proofs.Cuts.{upto_length}
 use Rattle.text.proofs.Tests.{by_test, by_le, and_parts, within_tells}
 use Rattle.text.specs.Bytes.{all, is, is_plain, upto, past, trim}
@@ -15,14 +15,14 @@ use native.Mathlib.Omega.{arith}
 
 -- ---- the shape of a turn
 
-pub after : {m n : ℕ} → After m ≡ After n → m ≡ n
+pub after : {m n : ℕ} → Some m ≡ Some n → m ≡ n
 after e = cc
 
-pub not_bad : {n : ℕ} → Bad ≡ After n → ⊥
+pub not_bad : {n : ℕ} → None ≡ Some n → ⊥
 not_bad e = let z : ◌≡◌ {A = ℕ} 0 1 = cc in omega arith
 
 pub break_here : (P : List ℕ → ℕ → ℕ → Type 0) → ((bs : List ℕ) → P (10 ∷ bs) 0 1) → ((cs : List ℕ) → P (13 ∷ 10 ∷ cs) 0 2)
-    → (b : ℕ) (bs : List ℕ) (n : ℕ) → break_of (b ∷ bs) ≡ After n → P (b ∷ bs) 0 n
+    → (b : ℕ) (bs : List ℕ) (n : ℕ) → break_of (b ∷ bs) ≡ Some n → P (b ∷ bs) 0 n
 unfolding break_of
 break_here P f c b [] n h =
     by_test (is 10 b) (λ t. subst (λ (m : ℕ). P (b ∷ []) 0 m) (after (rw t at h)) (rw (eqb-true b 10 t) (f []))) (λ t. absurd (not_bad (rw t at h)))
@@ -58,7 +58,7 @@ pub by_turn : (P : List ℕ → ℕ → ℕ → Type 0) → P [] 0 0
     → ((b : ℕ) (bs : List ℕ) (k n : ℕ) → of_line b ≡ true → P bs k n → P (b ∷ bs) (suc k) n)
     → ((bs : List ℕ) → P (10 ∷ bs) 0 1)
     → ((cs : List ℕ) → P (13 ∷ 10 ∷ cs) 0 2)
-    → (r : List ℕ) (k n : ℕ) → OneLine r k → break_of (drop k r) ≡ After n → P r k n
+    → (r : List ℕ) (k n : ℕ) → OneLine r k → break_of (drop k r) ≡ Some n → P r k n
 unfolding break_of all
 by_turn P e p f c [] zero n l h = subst (λ (m : ℕ). P [] 0 m) (after h) e
 by_turn P e p f c [] (suc k) n l h = absurd (omega (arith, l.inside))
@@ -84,7 +84,7 @@ lines_step (b ∷ c ∷ cs) h = by_test (is 10 b) (λ e. rw e) (λ e. rw e (ap (
 abbrev pub Cut : List ℕ → ℕ → ℕ → Type 0
 Cut r k n = (upto (is 13) (upto (is 10) r) ≡ take k r) × (past (is 10) r ≡ drop (k + n) r)
 
-pub cut : (r : List ℕ) (k n : ℕ) → OneLine r k → break_of (drop k r) ≡ After n → Cut r k n
+pub cut : (r : List ℕ) (k n : ℕ) → OneLine r k → break_of (drop k r) ≡ Some n → Cut r k n
 unfolding upto past
 cut = by_turn Cut (refl, refl)
     (λ b bs k n p h.
@@ -94,7 +94,7 @@ cut = by_turn Cut (refl, refl)
     (λ bs. (refl, refl))
     (λ cs. (refl, refl))
 
-pub line_step : (r : List ℕ) (k n : ℕ) → 0 < length r → OneLine r k → break_of (drop k r) ≡ After n → texts r ≡ trim (take k r) ∷ texts (drop (k + n) r)
+pub line_step : (r : List ℕ) (k n : ℕ) → 0 < length r → OneLine r k → break_of (drop k r) ≡ Some n → texts r ≡ trim (take k r) ∷ texts (drop (k + n) r)
 unfolding texts text_of
 line_step r k n h l e =
     let w = cut r k n l e in
@@ -102,15 +102,15 @@ line_step r k n h l e =
 
 -- ---- what ends a line
 
-pub break_length : (r : List ℕ) (n : ℕ) → break_of r ≡ After n → n ≤ length r
+pub break_length : (r : List ℕ) (n : ℕ) → break_of r ≡ Some n → n ≤ length r
 unfolding break_of
 break_length [] n h = omega (arith, after h)
 break_length (b ∷ bs) n h = break_here (λ r k m. m ≤ length r) (λ bs. omega arith) (λ cs. omega arith) b bs n h
 
-pub break_some : (r : List ℕ) (n : ℕ) → 0 < length r → break_of r ≡ After n → 1 ≤ n
+pub break_some : (r : List ℕ) (n : ℕ) → 0 < length r → break_of r ≡ Some n → 1 ≤ n
 break_some [] n k h = absurd (omega (arith, k))
 break_some (b ∷ bs) n k h = break_here (λ r k m. 1 ≤ m) (λ bs. omega arith) (λ cs. omega arith) b bs n h
 
-pub stop_length : (r : List ℕ) (k : ℕ) → break_of (drop k r) ≡ Bad → k < length r
+pub stop_length : (r : List ℕ) (k : ℕ) → break_of (drop k r) ≡ None → k < length r
 unfolding break_of
 stop_length r k h = by_le (length r) k (λ z. absurd (not_bad (sym h ∙ ap break_of (drop_of_length-le r z)))) (λ z. z)

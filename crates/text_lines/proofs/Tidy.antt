@@ -1,5 +1,6 @@
 -- In a file whose bytes are all allowed, every value that is read of it is tidy, and so is the column of a layout.
 -- Assumes nothing.
+use Rattle.std.specs.Prelude.{None, Option, Some}
 use Prim.Native.Nat.{ℕ, zero, suc, ◌+◌, ◌-◌, ◌<◌}
 use Rattle.text_lines.proofs.Params.{equals_trim, no_param, param_split}
 use Rattle.text_lines.proofs.Steps.{lines_step}
@@ -18,7 +19,6 @@ use lib.ListN.{length, drop}
 use mathlib.Core.Bool.{Bool, true, false, ◌&&◌, ◌||◌, cond, false≢true}
 use mathlib.Core.List.{List, [], ◌∷◌, map}
 use mathlib.Core.Logic.{◌⊎◌, inl, inr, ⊎_elim}
-use mathlib.Core.Option.{Option, none, some}
 use mathlib.Core.Path.{◌≡◌, refl, sym, ap, ◌∙◌}
 use native.Mathlib.Omega.{arith}
 
@@ -69,13 +69,13 @@ all_map f p q g (x ∷ s) h =
 
 -- of what is made, where something is
 abbrev if_some : {B : Type 0} → (B → Bool) → Option B → Bool
-if_some q none = true
-if_some q (some y) = q y
+if_some q None = true
+if_some q (Some y) = q y
 
 all_onto : {B : Type 0} (q : B → Bool) (o : Option B) (ys : List B) → if_some q o ≡ true → all q ys ≡ true → all q (onto o ys) ≡ true
 unfolding all
-all_onto q none ys e h = h
-all_onto q (some y) ys e h = rw e h
+all_onto q None ys e h = h
+all_onto q (Some y) ys e h = rw e h
 
 all_sift : {A B : Type 0} (f : A → Option B) (p : A → Bool) (q : B → Bool) → ((x : A) → p x ≡ true → if_some q (f x) ≡ true)
     → (s : List A) → all p s ≡ true → all q (sift f s) ≡ true
@@ -264,8 +264,8 @@ outside_worth ts h = all_sift if_outside worth_marked Worth outside_one (marked 
 
 -- another spelling of its label changes no value
 respelt_worth : (sp : List Spelling) (o : Option Param) → if_some tidy_param o ≡ true → if_some tidy_param (respelt sp o) ≡ true
-respelt_worth sp none h = refl
-respelt_worth sp (some p) h = h
+respelt_worth sp None h = refl
+respelt_worth sp (Some p) h = h
 
 params_tidy : (sp : List Spelling) (ts : List (List ℕ)) → all Worth ts ≡ true → all tidy_param (params sp ts) ≡ true
 unfolding params param_in

@@ -1,10 +1,9 @@
 -- The parameter lines of a layout, by its list of labels: which field each is, the first repeat, what is missing, and the column of values.
 -- Document 01, "Lines of a message": labels foreign to the type are passed over; every label of the layout stands once. Fields count from 1.
-use Rattle.std.specs.Prelude.{ℕ, suc, ◌+◌, eqb, Bool, false, ◌||◌, cond, List, [], ◌∷◌}
+use Rattle.std.specs.Prelude.{ℕ, suc, ◌+◌, eqb, Bool, false, ◌||◌, cond, List, [], ◌∷◌, None, Option, Some}
 use Rattle.text_lines.specs.Lines.{Param}
 use Rattle.text.specs.Bytes.{same}
 use Rattle.text.specs.Lists.{sift}
-use Rattle.std.proofs.Math.Option.{Option, none, some}
 
 -- the first of the labels that the text is, from 1: 0 where it is foreign
 unfoldable pub place_of : List (List ℕ) → List ℕ → ℕ
@@ -21,7 +20,7 @@ entry k v = record { at = k; value = v }
 
 -- a foreign label is none
 unfoldable pub entry_of : List (List ℕ) → Param → Option Entry
-entry_of ls p = cond (eqb (place_of ls p.label) 0) none (some (entry (place_of ls p.label) p.value))
+entry_of ls p = cond (eqb (place_of ls p.label) 0) None (Some (entry (place_of ls p.label) p.value))
 
 -- the entries of the layout, from the top
 unfoldable pub entries : List (List ℕ) → List Param → List Entry
@@ -34,8 +33,8 @@ stands k (e ∷ es) = eqb k e.at || stands k es
 
 -- the field of the first repeat from the top, with `seen` above
 unfoldable pub again : List Entry → List Entry → Option ℕ
-again seen [] = none
-again seen (e ∷ es) = cond (stands e.at seen) (some e.at) (again (e ∷ seen) es)
+again seen [] = None
+again seen (e ∷ es) = cond (stands e.at seen) (Some e.at) (again (e ∷ seen) es)
 
 -- of each field from k on, as many as there are labels, whether it has an entry
 unfoldable pub standing : ℕ → List (List ℕ) → List Entry → List Bool

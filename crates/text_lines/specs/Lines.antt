@@ -1,10 +1,9 @@
 -- From a file to its lines, the summary row and the parameter lines. Document 01, "Lines of a message".
 -- Bytes: 10 LF, 13 CR, 43 '+', 61 '='.
-use Rattle.std.specs.Prelude.{ℕ, suc, ◌+◌, ◌-◌, leb, ltb, eqb, length, Bool, ◌&&◌, ◌||◌, cond, List, [], ◌∷◌, map}
+use Rattle.std.specs.Prelude.{ℕ, suc, ◌+◌, ◌-◌, leb, ltb, eqb, length, Bool, ◌&&◌, ◌||◌, cond, List, [], ◌∷◌, map, None, Option, Some}
 use Rattle.text.specs.Bytes.{upto, past, any, all, is, is_plain, trim}
 use Rattle.text.specs.Lists.{count, onto, sift}
 use Rattle.text_lines.specs.Spellings.{Spelling, respell, label_room}
-use Rattle.std.proofs.Math.Option.{Option, none, some}
 
 -- ---- the bytes that a file may hold: 20 to 7E hex, LF, and CR only just before LF
 
@@ -59,7 +58,7 @@ pub record Marked : Type 0 where
   pub text : List ℕ
 
 unfoldable pub mark : ℕ → List ℕ → Option Marked
-mark n t = cond (is_sep t) none (some (record { above = n; text = t }))
+mark n t = cond (is_sep t) None (Some (record { above = n; text = t }))
 
 -- the lines that are no separators, below n separators
 unfoldable pub marked : ℕ → List (List ℕ) → List Marked
@@ -67,10 +66,10 @@ marked n [] = []
 marked n (t ∷ ts) = onto (mark n t) (marked (n + cond (is_sep t) 1 0) ts)
 
 unfoldable pub if_inside : Marked → Option (List ℕ)
-if_inside m = cond (eqb m.above 1) (some m.text) none
+if_inside m = cond (eqb m.above 1) (Some m.text) None
 
 unfoldable pub if_outside : Marked → Option (List ℕ)
-if_outside m = cond (eqb m.above 1) none (some m.text)
+if_outside m = cond (eqb m.above 1) None (Some m.text)
 
 -- the lines between the first separator and the next
 unfoldable pub inside : List (List ℕ) → List (List ℕ)
@@ -94,12 +93,12 @@ abbrev pub param : List ℕ → List ℕ → Param
 param l v = record { label = l; value = v }
 
 unfoldable pub param_of : List ℕ → Option Param
-param_of t = cond (any (is 61) t) (some (param (trim (upto (is 61) t)) (trim (past (is 61) t)))) none
+param_of t = cond (any (is 61) t) (Some (param (trim (upto (is 61) t)) (trim (past (is 61) t)))) None
 
 -- its label by its plain spelling
 abbrev pub respelt : List Spelling → Option Param → Option Param
-respelt sp none = none
-respelt sp (some p) = some (param (respell sp p.label) p.value)
+respelt sp None = None
+respelt sp (Some p) = Some (param (respell sp p.label) p.value)
 
 unfoldable pub param_in : List Spelling → List ℕ → Option Param
 param_in sp t = respelt sp (param_of t)

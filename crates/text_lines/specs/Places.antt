@@ -1,7 +1,5 @@
 -- Places of a file: what the walk keeps of a value is where it begins and ends.
-use Rattle.std.specs.Prelude.{ℕ, ◌+◌, ◌≤◌, length, get_or, take, drop, Bool, ◌&&◌, not, cond, List, [], ◌∷◌, map, ◌≡◌}
-use Rattle.text_lines.specs.declared.Break.{Break}
-use Rattle.text_lines.specs.declared.Break.TheVariants.{After, Bad}
+use Rattle.std.specs.Prelude.{ℕ, ◌+◌, ◌≤◌, length, get_or, take, drop, Bool, ◌&&◌, not, cond, List, [], ◌∷◌, map, ◌≡◌, None, Option, Some}
 use Rattle.text_lines.specs.declared.Span.{Span}
 use Rattle.text_lines.specs.Spellings.{Spelling, opens}
 use Rattle.text.specs.Bytes.{part, is, is_plain, is_blank, upto, past, first_of, run_of, trim}
@@ -39,10 +37,10 @@ unfoldable pub line_run : List Spelling → List ℕ → ℕ
 line_run sp r = cond (opens sp (upto (is 10) r)) (plain_run r + 1 + plain_run (drop (plain_run r + 1) r)) (plain_run r)
 
 -- how many bytes end a line, where no more can be printed: none at the end of the file, LF, CR LF. Bad where that byte is not allowed
-unfoldable pub break_of : List ℕ → Break
-break_of [] = After 0
-break_of (b ∷ []) = cond (is 10 b) (After 1) Bad
-break_of (b ∷ c ∷ cs) = cond (is 10 b) (After 1) (cond (is 13 b && is 10 c) (After 2) Bad)
+unfoldable pub break_of : List ℕ → Option ℕ
+break_of [] = Some 0
+break_of (b ∷ []) = cond (is 10 b) (Some 1) None
+break_of (b ∷ c ∷ cs) = cond (is 10 b) (Some 1) (cond (is 13 b && is 10 c) (Some 2) None)
 
 -- ---- the places of a layout's values, by field: `spans[k]` is the place of the field k, and `spans[0]` is nobody's
 

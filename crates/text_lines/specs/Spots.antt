@@ -1,6 +1,6 @@
 -- Where the row and the values of a file's fields stand. Document 02, A3: "keep, for each label, only where its value begins and ends". Every line is one of
 -- Lines.antt, with the place at which it begins.
-use Rattle.std.specs.Prelude.{ℕ, zero, suc, ◌+◌, eqb, length, cond, List, [], ◌∷◌}
+use Rattle.std.specs.Prelude.{ℕ, zero, suc, ◌+◌, eqb, length, cond, List, [], ◌∷◌, None, Option, Some}
 use Rattle.text.specs.Bytes.{any, is, upto, trim}
 use Rattle.text.specs.Lists.{onto, sift}
 use Rattle.text_lines.specs.Entries.{place_of}
@@ -8,7 +8,6 @@ use Rattle.text_lines.specs.Lines.{is_sep, lines}
 use Rattle.text_lines.specs.Places.{no_span, trimmed_at, value_span}
 use Rattle.text_lines.specs.Spellings.{Spelling, respell}
 use Rattle.text_lines.specs.declared.Span.{Span}
-use Rattle.std.proofs.Math.Option.{Option, none, some}
 
 -- ---- lines with their places
 
@@ -23,7 +22,7 @@ line_at n at l = record { above = n; at = at; line = l }
 
 -- a separator is none
 unfoldable pub line_if : ℕ → ℕ → List ℕ → Option LineAt
-line_if n at l = cond (is_sep (trim l)) none (some (line_at n at l))
+line_if n at l = cond (is_sep (trim l)) None (Some (line_at n at l))
 
 -- the lines from a place on, below n separators, each without the CR (13) of a CR LF
 unfoldable pub lines_from : ℕ → ℕ → List (List ℕ) → List LineAt
@@ -60,11 +59,11 @@ spot k p = record { at = k; place = p }
 
 -- 0 is no field
 unfoldable pub spot_if : ℕ → Span → Option Spot
-spot_if k p = cond (eqb k 0) none (some (spot k p))
+spot_if k p = cond (eqb k 0) None (Some (spot k p))
 
 -- of a line that does not stand between the separators
 unfoldable pub spot_in : List Spelling → List (List ℕ) → LineAt → Option Spot
-spot_in sp ls s = cond (eqb s.above 1) none (spot_if (field_in sp ls s.line) (value_span s.at s.line))
+spot_in sp ls s = cond (eqb s.above 1) None (spot_if (field_in sp ls s.line) (value_span s.at s.line))
 
 unfoldable pub spots : List Spelling → List (List ℕ) → List LineAt → List Spot
 spots sp ls ss = sift (spot_in sp ls) ss

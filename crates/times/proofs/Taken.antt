@@ -1,4 +1,5 @@
 -- What the reader's acceptance says of a file: what its message is, and what each field of its record was read from. Assumes nothing.
+use Rattle.std.specs.Prelude.{Some}
 use Prim.Native.Nat.{ℕ, zero, suc, ◌+◌, ◌<◌}
 use Rattle.layout.proofs.Labels.{kinds_length, kind_at_lem}
 use Rattle.layout.specs.Layouts.{kinds_of, kind_at, size_of}
@@ -7,11 +8,11 @@ use Rattle.layout.specs.declared.Layout.{Layout}
 use Rattle.text_lines.specs.Entries.{Entry, value_at, column}
 use Rattle.value_name.specs.declared.MessageType.{MessageType}
 use Rattle.plan.specs.Plans.{plan_of, sought_of}
-use Rattle.plan.specs.declared.Sought.{Sought}
+use Rattle.plan.specs.Plans.{SoughtSaid}
 use Rattle.reader.proofs.Firsts.{accepted_none, numbers}
 use Rattle.reader.specs.Messages.{values_of, is_bad, good_of, column_record}
 use Rattle.reader.specs.Reader.{record_in, unit_in, planned, answer_at, read_of}
-use Rattle.reader.specs.declared.Answer.{Answer}
+use Rattle.reader.specs.Refusals.{Answer}
 use Rattle.reader_theorems.proofs.Agreed.{Accepted, accepted}
 use Rattle.reader_theorems.proofs.Held.ReadAll.{end, next}
 use Rattle.reader_theorems.proofs.Held.{ReadAll, read_all, read_at}
@@ -19,7 +20,6 @@ use Rattle.reader_theorems.proofs.Validity.{good_of_lem, message_at}
 use Rattle.record.proofs.Fields.{field_value_at}
 use Rattle.record.specs.Records.{field_of, record_of}
 use Rattle.value.specs.Kinds.{value_of}
-use Rattle.value.specs.declared.Got.TheVariants.{Read}
 use Rattle.value.specs.declared.Kind.{Kind}
 use Rattle.value.specs.declared.Value.{Value}
 use lib.ListN.{length, get_or}
@@ -36,7 +36,7 @@ pub record Taken (a : Answer) (file : List ℕ) : Type 0 where
   pub agreed : Accepted message unit file
   pub content_is : a.content ≡ record_in message file
 
-taken_at : (s : Sought) (file : List ℕ) → (answer_at s file).number ≡ 0 → Taken (answer_at s file) file
+taken_at : (s : SoughtSaid) (file : List ℕ) → (answer_at s file).number ≡ 0 → Taken (answer_at s file) file
 unfolding answer_at
 taken_at s file h =
     let e = message_at s file (accepted_none (planned s file) (record_in s.message file) (numbers s file) h) in
@@ -55,7 +55,7 @@ read_length (next e a) = ap suc (read_length a)
 
 -- the value of a field is what its kind reads of its text
 pub field_read : (l : Layout) (col : List (List ℕ)) → is_bad (values_of l col) ≡ false → (j : ℕ) → j < size_of l
-    → value_of (kind_at l (suc j)) (text_at col (suc j)) ≡ Read (field_of (column_record l col).cells (suc j))
+    → value_of (kind_at l (suc j)) (text_at col (suc j)) ≡ Some (field_of (column_record l col).cells (suc j))
 unfolding values_of column_record record_of
 field_read l col e j h =
     let vs = good_of (values_of l col) in

@@ -1,5 +1,6 @@
 -- THE THEOREMS: where a time stands. In the file it is the record's value, in the sheet a number, where the record has none; the two calls refuse alike;
 -- and a part is empty exactly on refusal. Assumes nothing.
+use Rattle.std.specs.Prelude.{Some}
 use Prim.Native.Nat.{ℕ, suc, ◌+◌, ◌≤◌, ◌<◌}
 use Rattle.value_ask.proofs.Others.{blank_is}
 use Rattle.value_ask.specs.Values.{is_filled}
@@ -16,7 +17,7 @@ use Rattle.value_name.specs.declared.MessageType.TheVariants.{Cb}
 use Rattle.reader.proofs.Chosen.{type_in}
 use Rattle.reader.specs.Messages.{given, layout_in, entries_in, values_of, is_bad, column_record}
 use Rattle.reader.specs.Reader.{record_in, read_of}
-use Rattle.reader.specs.declared.Answer.{Answer}
+use Rattle.reader.specs.Refusals.{Answer}
 use Rattle.record.specs.Records.{field_of, record_of}
 use Rattle.record.specs.declared.Record.{Record}
 use Rattle.times_sheet.proofs.Sheets.{for_good, sheet_part_lem}
@@ -31,10 +32,9 @@ use Rattle.times.proofs.Fields.{time_holds}
 use Rattle.layout.proofs.Markets.{market_is}
 use Rattle.times.proofs.Taken.{Taken, taken, field_read, column_value}
 use Rattle.times.specs.Times.{field_no, time_place, in_file, in_sheet, time_in, time_of, part_in, time_refusal}
-use Rattle.times.specs.declared.Time.TheVariants.{File, Sheet, Refused}
-use Rattle.times.specs.declared.Time.{Time}
+use Rattle.times.specs.Times.TimeSaid.{File, Sheet, Refused}
+use Rattle.times.specs.Times.{TimeSaid}
 use Rattle.value.specs.Kinds.{value_of}
-use Rattle.value.specs.declared.Got.TheVariants.{Read}
 use Rattle.value.specs.declared.Value.TheVariants.{Blank}
 use Rattle.value.specs.declared.Value.{Value}
 use borrow.Author.Tests.{eqb-true, eqb-false, ltb-true}
@@ -48,7 +48,7 @@ use native.Mathlib.Omega.{arith}
 -- ---- which way an answer came
 
 -- by the four tests: taken, market, a good sheet, filled
-chosen : Bool → Bool → Bool → Bool → Span → Part → ℕ → ℕ → Time
+chosen : Bool → Bool → Bool → Bool → Span → Part → ℕ → ℕ → TimeSaid
 chosen b m g f p q n d = cond b (cond m (cond g (cond f (in_file p) (in_sheet q)) (Refused 14 0)) (Refused 16 0)) (Refused n d)
 
 apart_file : {n d from to : ℕ} → Refused n d ≡ File from to → ⊥
@@ -104,7 +104,7 @@ same_chosen false m g f h p q s t n d = refl
 -- the value of a field is what its kind reads of the text of its entry
 entry_read : (l : Layout) (ps : List Param) → is_bad (values_of l (column 1 (labels_of l) (entries (labels_of l) ps))) ≡ false → (j : ℕ) → j < size_of l
     → value_of (kind_at l (suc j)) (value_at (suc j) (entries (labels_of l) ps))
-    ≡ Read (field_of (column_record l (column 1 (labels_of l) (entries (labels_of l) ps))).cells (suc j))
+    ≡ Some (field_of (column_record l (column 1 (labels_of l) (entries (labels_of l) ps))).cells (suc j))
 entry_read l ps e j h =
     let es = entries (labels_of l) ps in
     let n : 1 + j ≡ suc j = omega arith in
@@ -124,22 +124,22 @@ module _ (a : Answer) (file : List ℕ) (t : Taken a file) (m : is_market a.cont
   is_cb = sym (type_in t.message (given t.message file)) ∙ ap type_of is_market_lem
 
   market_read : (j : ℕ) → j < size_of Market
-      → value_of (kind_at Market (suc j)) (value_at (suc j) (entries (labels_of Market) (given Cb file))) ≡ Read (field_of a.content.cells (suc j))
+      → value_of (kind_at Market (suc j)) (value_at (suc j) (entries (labels_of Market) (given Cb file))) ≡ Some (field_of a.content.cells (suc j))
   unfolding record_in entries_in
   market_read j h =
       let i : j < size_of lay = subst (λ (x : Layout). j < size_of x) (sym is_market_lem) h in
-      subst (λ (u : MessageType). value_of (kind_at Market (suc j)) (value_at (suc j) (entries (labels_of Market) (given u file))) ≡ Read (field_of a.content.cells (suc j))) is_cb
-      (subst (λ (x : Layout). value_of (kind_at x (suc j)) (value_at (suc j) (entries (labels_of x) (given t.message file))) ≡ Read (field_of a.content.cells (suc j))) is_market_lem
-      (entry_read lay (given t.message file) t.agreed.values j i ∙ ap (λ (r : Record). Read (field_of r.cells (suc j))) (sym t.content_is)))
+      subst (λ (u : MessageType). value_of (kind_at Market (suc j)) (value_at (suc j) (entries (labels_of Market) (given u file))) ≡ Some (field_of a.content.cells (suc j))) is_cb
+      (subst (λ (x : Layout). value_of (kind_at x (suc j)) (value_at (suc j) (entries (labels_of x) (given t.message file))) ≡ Some (field_of a.content.cells (suc j))) is_market_lem
+      (entry_read lay (given t.message file) t.agreed.values j i ∙ ap (λ (r : Record). Some (field_of r.cells (suc j))) (sym t.content_is)))
 
 time_read : (w : Which) (a : Answer) (file : List ℕ) → Taken a file → is_market a.content.layout ≡ true
-    → value_of (kind_at Market (field_no w)) (value_at (field_no w) (entries (labels_of Market) (given Cb file))) ≡ Read (field_of a.content.cells (field_no w))
+    → value_of (kind_at Market (field_no w)) (value_at (field_no w) (entries (labels_of Market) (given Cb file))) ≡ Some (field_of a.content.cells (field_no w))
 unfolding fields_of market command technical
 time_read StartUp a file t m = market_read a file t m 12 (ltb-true _ _ refl)
 time_read Ramp a file t m = market_read a file t m 13 (ltb-true _ _ refl)
 
 -- a field that is filled has a text
-filled_some : (w : Which) (s : List ℕ) (v : Value) → value_of (kind_at Market (field_no w)) s ≡ Read v → is_filled v ≡ true → 1 ≤ length s
+filled_some : (w : Which) (s : List ℕ) (v : Value) → value_of (kind_at Market (field_no w)) s ≡ Some v → is_filled v ≡ true → 1 ≤ length s
 unfolding value_of kind_at kinds_of fields_of market command technical
 filled_some StartUp [] v e f = let z : Blank ≡ v = cc in absurd (false≢true (ap is_filled z ∙ f))
 filled_some StartUp (b ∷ s) v e f = omega arith
@@ -155,7 +155,7 @@ module _ (w : Which) (ca ioa : ℕ) (plan file sheet : List ℕ) where
   abbrev value : Value
   value = field_of answer.content.cells (field_no w)
 
-  abbrev time : Time
+  abbrev time : TimeSaid
   time = time_of w ca ioa plan file sheet
 
   time_is : chosen (eqb answer.number 0) (is_market answer.content.layout) (is_for (unit_of answer.content) sheet) (is_filled value) (time_place w file) (sheet_part w sheet) answer.number answer.detail ≡ time
@@ -164,7 +164,7 @@ module _ (w : Which) (ca ioa : ℕ) (plan file sheet : List ℕ) where
 
   -- in the file: the part, read as the field's kind, is the record's value
   pub in_file_lem : (from to : ℕ) → time ≡ File from to
-      → (answer.number ≡ 0) × (value_of (kind_at Market (field_no w)) (part from to file) ≡ Read value) × (from < to) × (to ≤ length file)
+      → (answer.number ≡ 0) × (value_of (kind_at Market (field_no w)) (part from to file) ≡ Some value) × (from < to) × (to ≤ length file)
   in_file_lem from to e =
       let c = by_file _ _ _ _ _ _ _ _ from to (time_is ∙ e) in
       let n = eqb-true answer.number 0 c.0 in
@@ -187,7 +187,7 @@ module _ (w : Which) (ca ioa : ℕ) (plan file sheet : List ℕ) where
         omega (arith, h.inside, c.3),
       )
 
-  part_some : (t : Time) → time ≡ t → (time_refusal t).number ≡ 0 → 1 ≤ length (part_in t file sheet)
+  part_some : (t : TimeSaid) → time ≡ t → (time_refusal t).number ≡ 0 → 1 ≤ length (part_in t file sheet)
   part_some (File from to) e n = let p = in_file_lem from to e in omega (arith, p.2, length_part from to file p.3)
   part_some (Sheet from to) e n = let p = in_sheet_lem from to e in omega (arith, p.2, length_part from to sheet p.3)
   part_some (Refused k d) e n = absurd (by_refusal _ _ _ _ _ _ _ _ k d (λ z. eqb-false answer.number 0 z) (time_is ∙ e) n)
@@ -196,7 +196,7 @@ module _ (w : Which) (ca ioa : ℕ) (plan file sheet : List ℕ) where
   pub empty_when_refused : ((time_refusal time).number ≡ 0 → 1 ≤ length (part_in time file sheet)) × (((time_refusal time).number ≡ 0 → ⊥) → part_in time file sheet ≡ [])
   empty_when_refused = (part_some time refl, part_none time)
     where
-      part_none : (t : Time) → ((time_refusal t).number ≡ 0 → ⊥) → part_in t file sheet ≡ []
+      part_none : (t : TimeSaid) → ((time_refusal t).number ≡ 0 → ⊥) → part_in t file sheet ≡ []
       part_none (File from to) n = absurd (n refl)
       part_none (Sheet from to) n = absurd (n refl)
       part_none (Refused k d) n = refl

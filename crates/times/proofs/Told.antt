@@ -1,4 +1,6 @@
 -- Where a time stands, as the functions tell it: each way to an answer, and that the answer's part lies in its text. Assumes nothing.
+use Rattle.std.specs.Prelude.{Result, Ok, Err}
+use Rattle.std.specs.Result.{result_err}
 use Prim.Native.Nat.{ℕ, ◌≤◌}
 use Rattle.value_ask.specs.Values.{is_filled}
 use Rattle.report_brief.specs.Brief.{unit_of}
@@ -12,8 +14,8 @@ use Rattle.reader.specs.Reader.{body_column, record_in, read_of}
 use Rattle.reader.specs.Refusals.{refused, accepted}
 use Rattle.reader.specs.Readings.{reading_of}
 use Rattle.reader.specs.State.{column_at}
-use Rattle.reader.specs.declared.Answer.{Answer}
-use Rattle.reader.specs.declared.Reading.{Reading}
+use Rattle.reader.specs.Refusals.{Answer}
+use Rattle.reader.specs.Readings.{ReadingSaid}
 use Rattle.reader_theorems.proofs.Readings.{Reads, reads_of}
 use Rattle.record.specs.Records.{field_of}
 use Rattle.record.specs.declared.Record.{Record}
@@ -27,28 +29,28 @@ use Rattle.text_lines.specs.declared.Span.{Span}
 use Rattle.times.proofs.Fields.{time_holds}
 use Rattle.layout.proofs.Markets.{market_is}
 use Rattle.times.proofs.Taken.{Taken, taken}
-use Rattle.times.specs.contracts.Time.{the_type}
 use Rattle.times.proofs.Units.{unit_is}
-use Rattle.times.specs.Times.{field_no, time_place, in_file, in_sheet, time_in, time_of, part_in, StandsIn, time_refusal}
-use Rattle.times.specs.declared.Time.TheVariants.{File, Sheet, Refused}
+use Rattle.times.specs.Times.{field_no, time_place, in_file, in_sheet, time_in, time_of, part_in, StandsIn, time_refusal, time_by, refusal_by}
 use Rattle.times.specs.declared.Time.{Time}
+use Rattle.times.specs.declared.Time.TheVariants.{InFile, InSheet}
+use Rattle.refusal.specs.declared.Refusal.{Refusal}
+use Rattle.times.specs.Times.TimeSaid.{File, Sheet, Refused}
+use Rattle.times.specs.Times.{TimeSaid}
 use borrow.Author.Tests.{ne_eqb}
-use denote.Enum.Declared.{tag_of}
 use lib.Dec.{eqb}
 use lib.ListN.{length}
 use mathlib.Core.Bool.{Bool, true, false, cond}
 use mathlib.Core.List.{List, [], ◌∷◌}
 use mathlib.Core.Path.{◌≡◌, refl, sym, ap, ◌∙◌, subst}
 use native.Mathlib.Omega.{arith}
-use types.Run.{OneOf, miss}
 
 -- ---- from what the reader judged
 
-module _ (w : Which) (ca ioa : ℕ) (plan file sheet : List ℕ) (x : Reading) (is : x ≡ reading_of ca ioa plan file) where
+module _ (w : Which) (ca ioa : ℕ) (plan file sheet : List ℕ) (x : ReadingSaid) (is : x ≡ reading_of ca ioa plan file) where
   reads : Reads ca ioa plan file x
   reads = reads_of ca ioa plan file x is
 
-  abbrev time : Time
+  abbrev time : TimeSaid
   time = time_of w ca ioa plan file sheet
 
   from_answer : (a : Answer) → a ≡ read_of ca ioa plan file → time_in w a file sheet ≡ time
@@ -122,27 +124,27 @@ module _ (w : Which) (ca ioa : ℕ) (plan file sheet : List ℕ) (x : Reading) (
 
 -- ---- the part that was told
 
-module _ (file sheet : List ℕ) (t : Time) (from to : ℕ) where
-  pub file_within : t ≡ File from to → StandsIn file sheet t → (from ≤ to) × (to ≤ length file)
-  file_within e h = subst (StandsIn file sheet) e h
+module _ (file sheet : List ℕ) (t : Result Time Refusal) (p : Part) where
+  pub file_within : t ≡ Ok (InFile p) → StandsIn file sheet (time_by t) → (p.from ≤ p.to) × (p.to ≤ length file)
+  file_within e h = subst (λ (x : Result Time Refusal). StandsIn file sheet (time_by x)) e h
 
-  pub sheet_within : t ≡ Sheet from to → StandsIn file sheet t → (from ≤ to) × (to ≤ length sheet)
-  sheet_within e h = subst (StandsIn file sheet) e h
+  pub sheet_within : t ≡ Ok (InSheet p) → StandsIn file sheet (time_by t) → (p.from ≤ p.to) × (p.to ≤ length sheet)
+  sheet_within e h = subst (λ (x : Result Time Refusal). StandsIn file sheet (time_by x)) e h
 
-  pub file_part : t ≡ File from to → part from to file ≡ part_in t file sheet
-  file_part e = ap (λ (x : Time). part_in x file sheet) (sym e)
+  pub file_part : t ≡ Ok (InFile p) → part p.from p.to file ≡ part_in (time_by t) file sheet
+  file_part e = ap (λ (x : Result Time Refusal). part_in (time_by x) file sheet) (sym e)
 
-  pub sheet_part_of : t ≡ Sheet from to → part from to sheet ≡ part_in t file sheet
-  sheet_part_of e = ap (λ (x : Time). part_in x file sheet) (sym e)
+  pub sheet_part_of : t ≡ Ok (InSheet p) → part p.from p.to sheet ≡ part_in (time_by t) file sheet
+  sheet_part_of e = ap (λ (x : Result Time Refusal). part_in (time_by x) file sheet) (sym e)
 
-pub refusal_none : (t : Time) → OneOf (0 ∷ 1 ∷ []) (tag_of the_type t) → record { number = 0; detail = 0 } ≡ time_refusal t
-refusal_none (File from to) h = refl
-refusal_none (Sheet from to) h = refl
-refusal_none (Refused n d) h = absurd (miss (0 ∷ 1 ∷ []) 2 tt h)
+pub refusal_said : (t : Result Time Refusal) → refusal_by (result_err t) ≡ time_refusal (time_by t)
+refusal_said (Ok (InFile p)) = refl
+refusal_said (Ok (InSheet p)) = refl
+refusal_said (Err e) = refl
 
 -- ---- it lies in the file or in the sheet
 
-within_cond : (file sheet : List ℕ) (b : Bool) (t u : Time) → (b ≡ true → StandsIn file sheet t) → (b ≡ false → StandsIn file sheet u)
+within_cond : (file sheet : List ℕ) (b : Bool) (t u : TimeSaid) → (b ≡ true → StandsIn file sheet t) → (b ≡ false → StandsIn file sheet u)
     → StandsIn file sheet (cond b t u)
 within_cond file sheet true t u f g = f refl
 within_cond file sheet false t u f g = g refl
@@ -169,9 +171,9 @@ module _ (w : Which) (ca ioa : ℕ) (plan file sheet : List ℕ) where
   time_within = time_in_within w (read_of ca ioa plan file) file sheet
 
   -- of what was located
-  pub located_within : (t : Time) → t ≡ time_of w ca ioa plan file sheet → StandsIn file sheet t
+  pub located_within : (t : TimeSaid) → t ≡ time_of w ca ioa plan file sheet → StandsIn file sheet t
   located_within t e = subst (StandsIn file sheet) (sym e) time_within
 
-  pub located_part : (t : Time) (r : List ℕ) → t ≡ time_of w ca ioa plan file sheet → r ≡ part_in t file sheet
+  pub located_part : (t : TimeSaid) (r : List ℕ) → t ≡ time_of w ca ioa plan file sheet → r ≡ part_in t file sheet
       → r ≡ part_in (time_of w ca ioa plan file sheet) file sheet
-  located_part t r e f = f ∙ ap (λ (x : Time). part_in x file sheet) e
+  located_part t r e f = f ∙ ap (λ (x : TimeSaid). part_in x file sheet) e

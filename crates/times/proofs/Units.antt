@@ -1,4 +1,5 @@
 -- The unit of a market record is the text that stands at its place in the file. Assumes nothing.
+use Rattle.std.specs.Prelude.{None, Some}
 use Prim.Native.Nat.{ℕ, zero, suc, ◌-◌}
 use Rattle.value_ask.specs.Values.{size_in}
 use Rattle.report_brief.specs.Brief.{unit_of}
@@ -23,7 +24,6 @@ use Rattle.text.specs.Bytes.{all, any, is, upto, within}
 use Rattle.text.specs.Puts.{room_of}
 use Rattle.times.proofs.Taken.{field_read}
 use Rattle.value.specs.Kinds.{shape_of, value_of}
-use Rattle.value.specs.declared.Got.TheVariants.{Read, Bad}
 use Rattle.value.specs.declared.Value.TheVariants.{Unit as UnitOf}
 use Rattle.value.specs.declared.Value.{Value}
 use borrow.Author.Tests.{le-leb, ltb-true, ne_eqb}
@@ -50,11 +50,11 @@ unit_cut u e =
 
 -- ---- the field of the unit
 
-unit_value : (s : List ℕ) (v : Value) → value_of (kind_at Market 2) s ≡ Read v → (is_unit s ≡ true) × (v ≡ UnitOf (length s))
+unit_value : (s : List ℕ) (v : Value) → value_of (kind_at Market 2) s ≡ Some v → (is_unit s ≡ true) × (v ≡ UnitOf (length s))
 unfolding value_of shape_of kind_at kinds_of fields_of market command technical
 unit_value s v e =
-    by_test (is_unit s) (λ t. let z : Read (UnitOf (length s)) ≡ Read v = rw t at e in (t, cc))
-    (λ t. let z : Bad ≡ Read v = rw t at e in let y : ◌≡◌ {A = ℕ} 0 1 = cc in absurd (omega arith))
+    by_test (is_unit s) (λ t. let z : Some (UnitOf (length s)) ≡ Some v = rw t at e in (t, cc))
+    (λ t. let z : None ≡ Some v = rw t at e in let y : ◌≡◌ {A = ℕ} 0 1 = cc in absurd (omega arith))
 
 unit_read : (l : Layout) (col : List (List ℕ)) → l ≡ Market → is_bad (values_of l col) ≡ false
     → (is_unit (text_at col 2) ≡ true) × (field_of (column_record l col).cells 2 ≡ UnitOf (length (text_at col 2)))

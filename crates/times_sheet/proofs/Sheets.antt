@@ -1,11 +1,8 @@
 -- The unit sheet: the ways through its readers, and where the numbers of a good sheet stand. Assumes nothing.
+use Rattle.std.specs.Prelude.{None, Option, Some}
 use Prim.Native.Nat.{ℕ, ◌+◌, ◌-◌, ◌≤◌, ◌<◌}
 use Rattle.text_keyline.specs.Keylines.{line_of, value_in, below}
-use Rattle.text_keyline.specs.declared.Line.TheVariants.{Ends, Bad}
-use Rattle.text_keyline.specs.declared.Line.{Line}
 use Rattle.value_number.specs.Number.{plus, unsigned_of, joined_digits, fraction_of, number_of}
-use Rattle.value_number.specs.declared.Number.TheVariants.{Is as IsNumber, Bad as NoNumber}
-use Rattle.value_number.specs.declared.Number.{Number}
 use Rattle.times_sheet.proofs.Rests.{Rest, rest_all, rest_below}
 use Rattle.times_sheet.specs.Sheet.{if_number, is_number, is_line, unit_line, number_line, good_numbers, is_for, after_key, sheet_part}
 use Rattle.times_sheet.specs.declared.Part.{Part}
@@ -26,11 +23,11 @@ use native.Mathlib.Omega.{arith}
 
 -- ---- a number
 
-module _ (s : List ℕ) (n : Number) (told : n ≡ number_of s) where
-  pub number_yes : (v : ℤ) → n ≡ IsNumber v → true ≡ is_number s
+module _ (s : List ℕ) (n : Option ℤ) (told : n ≡ number_of s) where
+  pub number_yes : (v : ℤ) → n ≡ Some v → true ≡ is_number s
   number_yes v e = ap if_number (sym e ∙ told)
 
-  pub number_no : n ≡ NoNumber → false ≡ is_number s
+  pub number_no : n ≡ None → false ≡ is_number s
   number_no e = ap if_number (sym e ∙ told)
 
 -- no number is empty
@@ -41,34 +38,34 @@ number_some (b ∷ s) e = omega arith
 
 -- ---- a line
 
-bad_not : {e : ℕ} → Bad ≡ Ends e → ⊥
+bad_not : {e : ℕ} → None ≡ Some e → ⊥
 bad_not h = let z : ◌≡◌ {A = ℕ} 0 1 = cc in omega arith
 
-module _ (key s : List ℕ) (l : Line) (told : l ≡ line_of key s) where
-  no_line : l ≡ Bad → is_line key s ≡ false
+module _ (key s : List ℕ) (l : Option ℕ) (told : l ≡ line_of key s) where
+  no_line : l ≡ None → is_line key s ≡ false
   unfolding line_of
   no_line n =
-      by_test (is_line key s) (λ e. let z : Bad ≡ Ends (first_of 10 s) = sym n ∙ told ∙ rw e in absurd (bad_not z)) (λ e. e)
+      by_test (is_line key s) (λ e. let z : None ≡ Some (first_of 10 s) = sym n ∙ told ∙ rw e in absurd (bad_not z)) (λ e. e)
 
-  a_line : (e : ℕ) → l ≡ Ends e → is_line key s ≡ true
+  a_line : (e : ℕ) → l ≡ Some e → is_line key s ≡ true
   unfolding line_of
   a_line e y =
-      by_test (is_line key s) (λ t. t) (λ t. let z : Ends e ≡ Bad = sym y ∙ told ∙ rw t in absurd (bad_not (sym z)))
+      by_test (is_line key s) (λ t. t) (λ t. let z : Some e ≡ None = sym y ∙ told ∙ rw t in absurd (bad_not (sym z)))
 
-  pub no_number_line : l ≡ Bad → false ≡ number_line key s
+  pub no_number_line : l ≡ None → false ≡ number_line key s
   unfolding number_line
   no_number_line n = rw (no_line n)
 
-  pub number_line_lem : (e : ℕ) (v : List ℕ) (b : Bool) → l ≡ Ends e → v ≡ value_in key s → b ≡ is_number v → b ≡ number_line key s
+  pub number_line_lem : (e : ℕ) (v : List ℕ) (b : Bool) → l ≡ Some e → v ≡ value_in key s → b ≡ is_number v → b ≡ number_line key s
   unfolding number_line
   number_line_lem e v b y h u = u ∙ rw (a_line e y, h)
 
-module _ (unit s : List ℕ) (l : Line) (told : l ≡ line_of (bytes "unit=") s) where
-  pub no_unit_line : l ≡ Bad → false ≡ unit_line unit s
+module _ (unit s : List ℕ) (l : Option ℕ) (told : l ≡ line_of (bytes "unit=") s) where
+  pub no_unit_line : l ≡ None → false ≡ unit_line unit s
   unfolding unit_line
   no_unit_line n = rw (no_line (bytes "unit=") s l told n)
 
-  pub unit_line_lem : (e : ℕ) (v : List ℕ) (b : Bool) → l ≡ Ends e → v ≡ value_in (bytes "unit=") s → b ≡ same unit v → b ≡ unit_line unit s
+  pub unit_line_lem : (e : ℕ) (v : List ℕ) (b : Bool) → l ≡ Some e → v ≡ value_in (bytes "unit=") s → b ≡ same unit v → b ≡ unit_line unit s
   unfolding unit_line
   unit_line_lem e v b y h u = u ∙ rw (a_line (bytes "unit=") s l told e y, h)
 

@@ -1,18 +1,16 @@
 -- The unit sheet. Document 01, "Times": `unit=`, `avviamento=`, `rampa=`, three lines, LF (10) each, the last two holding a number. docs/READINGS.md,
 -- "The times": no blanks, nothing after the third line, the unit is the message's; a number's part is what follows `=` up to the LF.
-use Rattle.std.specs.Prelude.{ℕ, ◌+◌, ◌-◌, eqb, length, Bool, true, false, ◌&&◌, List}
+use Rattle.std.specs.Prelude.{ℕ, ◌+◌, ◌-◌, eqb, length, Bool, true, false, ◌&&◌, List, None, Option, Some, ℤ}
 use Rattle.text_keyline.specs.Keylines.{value_in, below}
 use Rattle.value_number.specs.Number.{number_of}
-use Rattle.value_number.specs.declared.Number.TheVariants.{Is, Bad}
-use Rattle.value_number.specs.declared.Number.{Number}
 use Rattle.times_sheet.specs.declared.Part.{Part}
 use Rattle.times_sheet.specs.declared.Which.TheVariants.{StartUp, Ramp}
 use Rattle.times_sheet.specs.declared.Which.{Which}
 use Rattle.text.specs.Bytes.{bytes, is, any, same, starts, first_of}
 
-abbrev pub if_number : Number → Bool
-if_number (Is v) = true
-if_number Bad = false
+abbrev pub if_number : Option ℤ → Bool
+if_number (Some v) = true
+if_number None = false
 
 abbrev pub is_number : List ℕ → Bool
 is_number t = if_number (number_of t)

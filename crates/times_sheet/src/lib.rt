@@ -7,8 +7,6 @@ ghost use Rattle.times_sheet.specs.Sheet.{is_number, number_line, unit_line, goo
 ghost use Rattle.text.specs.Bytes.{first_of};
 
 use text::scan;
-use text_keyline::Line;
-use value_number::Number;
 
 // Which of the two times is asked for.
 #[derive(Clone, Copy)]
@@ -18,7 +16,7 @@ pub enum Which {
 }
 
 // A part of a text, by its ends.
-#[derive(Clone, Copy)]
+#[derive(Clone, Copy, PartialEq, Eq, Debug)]
 pub struct Part {
     pub from: usize,
     pub to: usize,
@@ -28,8 +26,8 @@ fn is_number(s: &[u8]) -> bool
     ensures { result ≡ is_number s.now }
 {
     match value_number::read(s) {
-        Number::Is(_) => true,
-        Number::Bad => false,
+        Some(_) => true,
+        None => false,
     }
 }
 
@@ -37,7 +35,7 @@ fn is_number(s: &[u8]) -> bool
 fn number_line(key: &[u8], s: &[u8]) -> bool
     ensures { result ≡ number_line key.now s.now }
 {
-    let Line::Ends(_) = text_keyline::line_of(key, s) else {
+    let Some(_) = text_keyline::line_of(key, s) else {
         return false;
     };
     is_number(text_keyline::value(s, key.len()))
@@ -47,7 +45,7 @@ fn number_line(key: &[u8], s: &[u8]) -> bool
 fn unit_line(unit: &[u8], s: &[u8]) -> bool
     ensures { result ≡ unit_line unit.now s.now }
 {
-    let Line::Ends(_) = text_keyline::line_of(b"unit=", s) else {
+    let Some(_) = text_keyline::line_of(b"unit=", s) else {
         return false;
     };
     scan::same(unit, text_keyline::value(s, 5))

@@ -4,11 +4,9 @@ use Prim.Native.Nat.{ℕ, ◌≤◌}
 use Rattle.text.proofs.Firsts.{Decided, first, not_any, decided, first_given, none_given}
 use Rattle.text.proofs.Tests.{and_parts}
 use Rattle.text.specs.Refusals.{NoneHolds, next}
-use Rattle.transfer.specs.Collect.{is_more, is_between, fresh, elsewhere, in_turn, summed, met, too_long}
-use Rattle.transfer.specs.Collect.{refusals_of, onward, heard_of, kept, taken, dropped, taken_of, room_after}
+use Rattle.transfer.specs.Collect.{is_more, is_between, fresh, elsewhere, in_turn, summed, met, too_long, refusals_of, onward, heard_of, kept, taken}
+use Rattle.transfer.specs.Collect.{dropped, taken_of, room_after, Whole, Refused, Taken}
 use Rattle.transfer.specs.declared.Collector.{Collector}
-use Rattle.transfer.specs.declared.Heard.TheVariants.{Whole, Refused}
-use Rattle.transfer.specs.declared.Taken.{Taken}
 use Rattle.transfer_unit.specs.Units.{told_by, is_other}
 use Rattle.transfer_unit.specs.declared.Told.{Told}
 use Rattle.transfer_unit.specs.declared.Told.TheVariants.{FileReady, SectionReady, Segment, LastSegment, LastSection, Other}

@@ -1,9 +1,8 @@
 -- Of the room a taken segment writes its own octets, right behind those collected, and every other unit nothing. Assumes nothing.
 use Prim.Native.Nat.{ℕ, ◌+◌, ◌≤◌}
 use Rattle.transfer.proofs.Comes.{Went, Comes, refused, went, comes}
-use Rattle.transfer.specs.Collect.{of_heard, kept, taken_of, room_after, heard_of}
+use Rattle.transfer.specs.Collect.{of_heard, kept, taken_of, room_after, heard_of, Taken}
 use Rattle.transfer.specs.declared.Collector.{Collector}
-use Rattle.transfer.specs.declared.Taken.{Taken}
 use Rattle.transfer_unit.proofs.Layouts.{segment_octets}
 use Rattle.transfer_unit.specs.Units.{told_by, octets_of}
 use Rattle.transfer_unit.specs.declared.Told.{Told}

@@ -2,10 +2,9 @@
 use Prim.Native.Nat.{ℕ, ◌+◌, ◌*◌, ◌<◌}
 use Rattle.text.proofs.Tests.{and_parts}
 use Rattle.transfer.proofs.Comes.{Went, Comes, refused, went, comes}
-use Rattle.transfer.specs.Collect.{is_within, fresh, onward, taken_of}
+use Rattle.transfer.specs.Collect.{is_within, fresh, onward, taken_of, Taken}
 use Rattle.transfer.specs.States.{turn_in, turn_no, collector_in, low, middle, high, state_of, Small}
 use Rattle.transfer.specs.declared.Collector.{Collector}
-use Rattle.transfer.specs.declared.Taken.{Taken}
 use Rattle.transfer.specs.declared.Turn.{Turn}
 use Rattle.transfer.specs.declared.Turn.TheVariants.{Fresh, Between, Within}
 use Rattle.transfer_unit.proofs.Layouts.{octet_small, last_named}

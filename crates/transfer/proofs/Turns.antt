@@ -1,110 +1,82 @@
 -- The ways through a call: what is refused by the first of the list that holds, and what is taken. Assumes nothing.
-use Prim.Native.Nat.{ℕ, ◌+◌, ◌-◌, ◌<◌}
-use Rattle.text.proofs.Firsts.{first_given, none_given}
+use Prim.Native.Nat.{ℕ, ◌+◌}
 use Rattle.text.proofs.Tests.{by_test, and_parts}
-use Rattle.text.specs.Bytes.{part}
-use Rattle.text.specs.Refusals.{Refusal, first_holding, First, here, later, NoneHolds, none, next}
-use Rattle.transfer.specs.Collect.{is_within, fresh, checksum, elsewhere, in_turn, summed, met, too_long, refusals_as}
-use Rattle.transfer.specs.Collect.{onward, heard_of, kept, taken, dropped, taken_as, kept_as, taken_of, room_after}
+use Rattle.text.specs.Refusals.{Refusal, refusal, first_holding}
+use Rattle.transfer.specs.Said.{ended_by}
+use Rattle.refusal.specs.Numbers.{number_of}
+use Rattle.refusal.specs.Results.{detail_in}
+use Rattle.refusal.specs.declared.Refusal.{Refusal as Refused}
+use Rattle.std.specs.Prelude.{Result, Ok, Err}
+use Rattle.transfer.specs.Collect.{is_fresh, is_between, is_within, elsewhere, in_turn, summed, met, too_long, refusals_as, onward, heard_of, kept}
+use Rattle.transfer.specs.Collect.{taken, dropped, taken_as, kept_as, taken_of, room_after, More, Taken}
 use Rattle.transfer.specs.declared.Collector.{Collector}
-use Rattle.transfer.specs.declared.Heard.{Heard}
-use Rattle.transfer.specs.declared.Heard.TheVariants.{More}
-use Rattle.transfer.specs.declared.Taken.{Taken}
-use Rattle.transfer.specs.declared.Turn.TheVariants.{Between}
-use Rattle.transfer_unit.specs.Units.{ca_of, ioa_of, told_by, is_other, octets_of}
+use Rattle.transfer.specs.contracts.Turn.{the_type}
+use Rattle.transfer.specs.declared.Turn.TheVariants.{Fresh, Between, Within}
+use Rattle.transfer.specs.declared.Turn.{Turn}
+use Rattle.transfer_unit.specs.Units.{told_by, is_other}
 use Rattle.transfer_unit.specs.declared.Told.{Told}
 use Rattle.transfer_unit.specs.declared.Told.TheVariants.{FileReady, SectionReady, LastSegment, LastSection, Other}
-use borrow.Author.Tests.{eq-eqb, ne_eqb, eqb-true, ltb-true, not-false}
-use lib.Dec.{eqb, ltb}
-use lib.ListN.{take, drop}
-use lib.Seq.{sets}
+use denote.Enum.Bare.{sameb}
+use borrow.Author.Tests.{eqb-true, not-true, not-false}
+use lib.Dec.{eqb}
 use mathlib.Core.Bool.{Bool, true, false, not, ◌&&◌, or-true}
 use mathlib.Core.List.{List, [], ◌∷◌}
-use mathlib.Core.Path.{◌≡◌, refl, sym, ap, ap₂, ◌∙◌}
+use mathlib.Core.Path.{◌≡◌, refl, sym, ap, ◌∙◌}
 
--- ---- a unit that says u and is not refused 44: the answer, and the room
+-- ---- the code's tests of a turn
 
-module _ (c : Collector) (s file : List ℕ) (u : Told) where
-  abbrev Goes : Taken → List ℕ → Type 0
-  Goes r room = (r ≡ taken_as c s file u) × (room ≡ kept_as c s file u)
+pub fresh_is : (t : Turn) → sameb the_type t Fresh ≡ is_fresh t
+fresh_is Fresh = refl
+fresh_is Between = refl
+fresh_is Within = refl
 
-  is_refused : {x : Refusal} → First (refusals_as c file u) x → {r : Taken} → r ≡ dropped x.number 0 → Goes r file
-  unfolding taken_as kept_as
-  is_refused f e = (e ∙ sym (first_given dropped (taken (heard_of c u) (onward c s u)) f), sym (first_given (λ n d. file) (kept c s file u) f))
+pub between_is : (t : Turn) → sameb the_type t Between ≡ is_between t
+between_is Fresh = refl
+between_is Between = refl
+between_is Within = refl
 
-  is_taken : NoneHolds (refusals_as c file u) → Goes (taken (heard_of c u) (onward c s u)) (kept c s file u)
-  unfolding taken_as kept_as
-  is_taken n = (sym (none_given dropped (taken (heard_of c u) (onward c s u)) n), sym (none_given (λ n d. file) (kept c s file u) n))
+pub unlike : {a b : Bool} → a ≡ b → true ≡ not a → b ≡ false
+unlike e h = sym e ∙ not-true _ (sym h)
 
-  module _ (t : Bool) (turn : t ≡ in_turn c u) where
-    unturned : {b : Bool} → not t ≡ b → not (in_turn c u) ≡ b
-    unturned h = ap not (sym turn) ∙ h
+pub alike : {a b : Bool} → a ≡ b → false ≡ not a → b ≡ true
+alike e h = sym e ∙ not-false _ (sym h)
 
-    pub out_of_turn : not t ≡ true → {r : Taken} → r ≡ dropped 40 0 → Goes r file
-    out_of_turn h = is_refused (here (unturned h))
+-- ---- a last unit that is in turn: what is judged of its octets is what the list says
 
-    module _ (in_turn_so : not t ≡ false) where
-      pub not_summed : summed c file u ≡ false → {r : Taken} → r ≡ dropped 41 0 → Goes r file
-      not_summed k = is_refused (later (unturned in_turn_so) (here (ap not k)))
+module _ (c : Collector) (file : List ℕ) (u : Told) where
+  -- what is answered by the judgement
+  abbrev comes_to : Result Unit Refused → Taken
+  comes_to (Ok x) = taken (heard_of c u) (onward c [] u)
+  comes_to (Err e) = dropped (number_of e) 0
 
-      module _ (is_summed : summed c file u ≡ true) where
-        pub not_met : met c u ≡ false → {r : Taken} → r ≡ dropped 42 0 → Goes r file
-        not_met m = is_refused (later (unturned in_turn_so) (later (ap not is_summed) (here (ap not m))))
+  pub at_end : {r : Result Unit Refused} → in_turn c u ≡ true → r ≡ ended_by (summed c file u) (met c u) (too_long c u)
+      → (comes_to r ≡ taken_as c [] file u) × (detail_in r ≡ 0)
+  unfolding taken_as
+  at_end t e = rw (e, t) (by (summed c file u) (met c u) (too_long c u), plain (summed c file u) (met c u) (too_long c u))
+    where
+      by : (a b l : Bool)
+          → comes_to (ended_by a b l)
+          ≡ first_holding dropped (taken (heard_of c u) (onward c [] u))
+          (refusal 40 0 (not true) ∷ refusal 41 0 (not a) ∷ refusal 42 0 (not b) ∷ refusal 43 0 l ∷ [])
+      by false b l = refl
+      by true false l = refl
+      by true true true = refl
+      by true true false = refl
 
-        module _ (is_met : met c u ≡ true) where
-          pub too_long_lem : too_long c u ≡ true → {r : Taken} → r ≡ dropped 43 0 → Goes r file
-          too_long_lem l = is_refused (later (unturned in_turn_so) (later (ap not is_summed) (later (ap not is_met) (here l))))
+      plain : (a b l : Bool) → detail_in (ended_by a b l) ≡ 0
+      plain false b l = refl
+      plain true false l = refl
+      plain true true true = refl
+      plain true true false = refl
 
-          pub not_refused : too_long c u ≡ false → Goes (taken (heard_of c u) (onward c s u)) (kept c s file u)
-          not_refused l = is_taken (next (unturned in_turn_so) (next (ap not is_summed) (next (ap not is_met) (next l none))))
-
--- a number that a call gave, and the test of it
-pub agrees : (k r : ℕ) {x : ℕ} → r ≡ x → k ≡ r → eqb k x ≡ true
-agrees k r {x} e h = eq-eqb k x (h ∙ e)
-
-pub differs : (k r : ℕ) {x : ℕ} → r ≡ x → (k ≡ r → ⊥) → eqb k x ≡ false
-differs k r {x} e n = ne_eqb k x (λ h. n (h ∙ sym e))
-
--- ---- the collector that is handed back, as the code has it
-
-module _ (s : List ℕ) (n ca ioa : ℕ) where
-  abbrev begun : ℕ → ℕ → Taken
-  begun a i = taken More (record { turn = Between; ca = a; ioa = i; announced = n; ended = 0; start = 0; due = 0; count = 0 })
-
-  pub file_begins : ca ≡ ca_of s → ioa ≡ ioa_of s → {r : Taken} → begun (ca_of s) (ioa_of s) ≡ r → begun ca ioa ≡ r
-  file_begins e f q = ap₂ begun e f ∙ q
-
--- a last segment that is in turn names the section that is open, which has an octet
-pub last_told : (c : Collector) (i k : ℕ) (t : Bool) → t ≡ in_turn c (LastSegment i k) → not t ≡ false → (i ≡ c.ended + 1) × (c.start < c.count)
-last_told c i k t turn in_turn_so =
-    let p = and_parts (is_within c.turn && eqb i (c.ended + 1)) (ltb c.start c.count) (sym turn ∙ not-false t in_turn_so) in
-    let q = and_parts (is_within c.turn) (eqb i (c.ended + 1)) p.0 in
-    (eqb-true i (c.ended + 1) q.1, ltb-true c.start c.count p.1)
-
+-- a last segment that is in turn names the section after those that have ended
 module _ (c : Collector) where
   abbrev ended : ℕ → Taken
   ended j =
       taken More (record { turn = Between; ca = c.ca; ioa = c.ioa; announced = c.announced; ended = j; start = 0; due = 0; count = c.count })
 
-  pub section_ends : (i : ℕ) → i ≡ c.ended + 1 → {r : Taken} → ended (c.ended + 1) ≡ r → ended i ≡ r
-  section_ends i e q = ap ended e ∙ q
-
-pub file_ends : (h : Heard) {c : Collector} → c ≡ fresh → {r : Taken} → taken h fresh ≡ r → taken h c ≡ r
-file_ends h e q = ap (taken h) e ∙ q
-
--- a segment's octets are put behind those collected
-pub octets_put : (s file octets after : List ℕ) (at : ℕ) → octets ≡ octets_of s → after ≡ sets file at octets
-    → {room : List ℕ} → sets file at (octets_of s) ≡ room → after ≡ room
-octets_put s file octets after at e f q = f ∙ ap (sets file at) e ∙ q
-
--- a section's octets are summed
-pub section_sum : (file section rest : List ℕ) (a b sum : ℕ) → rest ≡ drop a file → section ≡ take (b - a) rest → sum ≡ checksum section
-    → sum ≡ checksum (part a b file)
-section_sum file section rest a b sum e f g = g ∙ ap checksum (f ∙ ap (λ (l : List ℕ). take (b - a) l) e)
-
--- and the whole file's
-pub file_sum : (file front : List ℕ) (n sum : ℕ) → front ≡ take n file → sum ≡ checksum front → sum ≡ checksum (take n file)
-file_sum file front n sum e f = f ∙ ap checksum e
+  pub section_ends : (i : ℕ) → (is_within c.turn && eqb i (c.ended + 1)) ≡ true → {r : Taken} → ended (c.ended + 1) ≡ r → ended i ≡ r
+  section_ends i o q = ap ended (eqb-true _ _ (and_parts (is_within c.turn) (eqb i (c.ended + 1)) o).1) ∙ q
 
 -- ---- any unit: e, whether it is of another address, and what it says
 

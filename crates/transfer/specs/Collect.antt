@@ -6,9 +6,6 @@ use Rattle.text.specs.Bytes.{part}
 use Rattle.text.specs.Refusals.{Refusal, refusal, first_holding}
 use Rattle.text.specs.Said.{Said, said}
 use Rattle.transfer.specs.declared.Collector.{Collector}
-use Rattle.transfer.specs.declared.Heard.{Heard}
-use Rattle.transfer.specs.declared.Heard.TheVariants.{More, Whole, Refused}
-use Rattle.transfer.specs.declared.Taken.{Taken}
 use Rattle.transfer.specs.declared.Turn.{Turn}
 use Rattle.transfer.specs.declared.Turn.TheVariants.{Fresh, Between, Within}
 use Rattle.transfer_unit.specs.Units.{ca_of, ioa_of, told_by, is_other, octets_of}
@@ -114,6 +111,12 @@ onward c s (LastSegment i k) =
 onward c s (LastSection i k) = fresh
 onward c s Other = fresh
 
+-- what is answered: the file is not whole yet; it is, with its address and how many octets it has; a refusal's number
+pub data Heard : Type 0 where
+  More : Heard
+  Whole : ℕ → ℕ → ℕ → Heard
+  Refused : ℕ → Heard
+
 -- the file is whole at its last section: its address, and how many octets
 abbrev pub heard_of : Collector → Told → Heard
 heard_of c (FileReady n) = More
@@ -133,6 +136,11 @@ kept c s file (LastSection i k) = file
 kept c s file Other = file
 
 -- ---- what a call answers
+
+-- the answer to a unit, and the collector that is handed back
+pub record Taken : Type 0 where
+  pub heard : Heard
+  pub collector : Collector
 
 abbrev pub taken : Heard → Collector → Taken
 taken h c = record { heard = h; collector = c }

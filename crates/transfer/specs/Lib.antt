@@ -1,2 +1,3 @@
 pub mod Collect
+pub mod Said
 pub mod States

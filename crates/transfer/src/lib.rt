@@ -5,15 +5,19 @@
 
 pub mod state;
 
-ghost use Rattle.std.specs.Prelude.{◌≤◌, ◌+◌, ◌%◌, eqb, [], ◌≡◌};
+ghost use Rattle.std.specs.Prelude.{◌≤◌, ◌+◌, ◌%◌, eqb, ltb, ◌&&◌, [], ◌≡◌};
 ghost use Rattle.transfer_unit.specs.declared.Told.TheVariants.{FileReady, SectionReady, Segment, LastSegment, LastSection};
-ghost use Rattle.transfer.specs.Collect.{is_fresh, is_between, is_within, fresh, checksum, elsewhere, dropped, taken_as, kept_as, taken_of, room_after};
+ghost use Rattle.transfer.specs.Collect.{is_within, fresh, checksum, elsewhere, dropped, taken_as, kept_as, taken_of, room_after};
+ghost use Rattle.refusal.specs.Numbers.{number_of, detail_of};
+ghost use Rattle.refusal.specs.Results.{detail_in};
+ghost use Rattle.transfer.specs.Said.{next_by, whole_by, ended_by, taken_by};
 
+use refusal::Refusal;
 use text::{put, scan};
 use transfer_unit::Told;
 
 // No transfer, between two sections of one, within one.
-#[derive(Clone, Copy)]
+#[derive(Clone, Copy, PartialEq, Eq, Debug)]
 pub enum Turn {
     Fresh,
     Between,
@@ -34,18 +38,18 @@ pub struct Collector {
     pub count: u32,
 }
 
-// The file is not whole yet; it is, with its address and how many octets it has; a refusal's number.
-#[derive(Clone, Copy)]
-pub enum Heard {
-    More,
-    Whole(u32, u32, usize),
-    Refused(u8),
+// A file that is whole: its address, and how many octets it has.
+#[derive(Clone, Copy, PartialEq, Eq, Debug)]
+pub struct Whole {
+    pub ca: u32,
+    pub ioa: u32,
+    pub size: usize,
 }
 
-// The answer to a unit, and the collector that is handed back.
+// The answer to a unit, None where the file is not whole yet, and the collector that is handed back.
 #[derive(Clone, Copy)]
 pub struct Taken {
-    pub heard: Heard,
+    pub heard: Result<Option<Whole>, Refusal>,
     pub collector: Collector,
 }
 
@@ -65,62 +69,13 @@ pub fn fresh() -> Collector
     }
 }
 
-fn dropped(number: u8) -> Taken
-    ensures { result ≡ dropped number 0 }
-{
-    Taken {
-        heard: Heard::Refused(number),
-        collector: fresh(),
-    }
-}
-
-fn is_fresh(t: Turn) -> bool
-    ensures { result ≡ is_fresh t }
-{
-    match t {
-        Turn::Fresh => true,
-        Turn::Between => false,
-        Turn::Within => false,
-    }
-}
-
-fn is_between(t: Turn) -> bool
-    ensures { result ≡ is_between t }
-{
-    match t {
-        Turn::Fresh => false,
-        Turn::Between => true,
-        Turn::Within => false,
-    }
-}
-
-fn is_within(t: Turn) -> bool
-    ensures { result ≡ is_within t }
-{
-    match t {
-        Turn::Fresh => false,
-        Turn::Between => false,
-        Turn::Within => true,
-    }
-}
-
-// One octet more of a sum.
-fn add(sum: u32, b: u8) -> u32
-    requires { sum ≤ 255 }
-    ensures { result ≡ (sum + b) % 256 }
-{
-    (sum + b as u32) % 256
-}
-
 // The sum of octets, which wraps at 256.
-fn checksum(s: &[u8]) -> u32
+fn checksum(s: &[u8]) -> u8
     ensures { result ≡ checksum s.now }
 {
-    let mut sum: u32 = 0;
-    let mut k = 0;
-    while k < s.len() {
-        sum = add(sum, s[k]);
-        k += 1;
+    let mut sum = 0u8;
+    for b in s {
+        sum = sum.wrapping_add(*b);
     }
     sum
 }
@@ -129,33 +84,25 @@ fn checksum(s: &[u8]) -> u32
 fn is_elsewhere(c: Collector, s: &[u8]) -> bool
     ensures { result ≡ elsewhere c s.now }
 {
-    let turn = c.turn;
-    !is_fresh(turn) & !((transfer_unit::ca_of(s) == c.ca) & (transfer_unit::ioa_of(s) == c.ioa))
+    c.turn != Turn::Fresh && (transfer_unit::ca_of(s) != c.ca || transfer_unit::ioa_of(s) != c.ioa)
 }
 
-fn file_ready(c: Collector, s: &[u8], n: u32) -> Taken
-    ensures { result ≡ taken_as c s.now [] (FileReady n) }
+fn file_ready(c: Collector, s: &[u8], n: u32) -> Result<Collector, Refusal>
+    ensures { (next_by result ≡ taken_as c s.now [] (FileReady n)) × (detail_in result ≡ 0) }
 {
-    let turn = c.turn;
-    if !is_fresh(turn) {
-        return dropped(40);
+    if c.turn != Turn::Fresh {
+        return Err(Refusal::OutOfTurn);
     }
     if 8192 < n {
-        return dropped(43);
+        return Err(Refusal::TooLong);
     }
-    Taken {
-        heard: Heard::More,
-        collector: Collector {
-            turn: Turn::Between,
-            ca: transfer_unit::ca_of(s),
-            ioa: transfer_unit::ioa_of(s),
-            announced: n,
-            ended: 0,
-            start: 0,
-            due: 0,
-            count: 0,
-        },
-    }
+    Ok(Collector {
+        turn: Turn::Between,
+        ca: transfer_unit::ca_of(s),
+        ioa: transfer_unit::ioa_of(s),
+        announced: n,
+        ..fresh()
+    })
 }
 
 // Whether a unit names the section after those that have ended. (There is no 256th: no octet names it)
@@ -165,132 +112,166 @@ fn is_next(c: Collector, i: u8) -> bool
     i as usize == c.ended as usize + 1
 }
 
-fn section_ready(c: Collector, i: u8, n: u32) -> Taken
-    ensures { result ≡ taken_as c [] [] (SectionReady i n) }
+// Whether a unit names the section that is open.
+fn is_open(c: Collector, i: u8) -> bool
+    ensures { result ≡ (is_within c.turn && eqb i (c.ended + 1)) }
 {
-    let turn = c.turn;
-    if !(is_between(turn) & is_next(c, i)) {
-        return dropped(40);
+    c.turn == Turn::Within && is_next(c, i)
+}
+
+fn section_ready(c: Collector, i: u8, n: u32) -> Result<Collector, Refusal>
+    ensures { (next_by result ≡ taken_as c [] [] (SectionReady i n)) × (detail_in result ≡ 0) }
+{
+    if c.turn != Turn::Between || !is_next(c, i) {
+        return Err(Refusal::OutOfTurn);
     }
     if 8192 < n {
-        return dropped(43);
+        return Err(Refusal::TooLong);
     }
-    Taken {
-        heard: Heard::More,
-        collector: Collector {
-            turn: Turn::Within,
-            ca: c.ca,
-            ioa: c.ioa,
-            announced: c.announced,
-            ended: c.ended,
-            start: c.count,
-            due: n,
-            count: c.count,
-        },
-    }
+    Ok(Collector {
+        turn: Turn::Within,
+        start: c.count,
+        due: n,
+        ..c
+    })
 }
 
 // Keeps a segment's octets behind those collected.
-fn segment(c: Collector, s: &[u8], file: &mut [u8; 8192], i: u8, n: u8) -> Taken
-    ensures { (result ≡ taken_as c s.now file.old (Segment i n))
-        × (file.new ≡ kept_as c s.now file.old (Segment i n)) }
+fn segment(
+    c: Collector,
+    s: &[u8],
+    file: &mut [u8; 8192],
+    i: u8,
+    n: u8,
+) -> Result<Collector, Refusal>
+    ensures { (next_by result ≡ taken_as c s.now file.old (Segment i n))
+        × (file.new ≡ kept_as c s.now file.old (Segment i n))
+        × (detail_in result ≡ 0) }
 {
-    let turn = c.turn;
-    if !(is_within(turn) & is_next(c, i)) {
-        return dropped(40);
+    if !is_open(c, i) {
+        return Err(Refusal::OutOfTurn);
     }
     let count = c.count as usize + n as usize;
     if 8192 < count {
-        return dropped(43);
+        return Err(Refusal::TooLong);
     }
     put::put_text(file, c.count as usize, scan::rest(s, 13));
-    Taken {
-        heard: Heard::More,
-        collector: Collector {
-            turn: Turn::Within,
-            ca: c.ca,
-            ioa: c.ioa,
-            announced: c.announced,
-            ended: c.ended,
-            start: c.start,
-            due: c.due,
-            count: count as u32,
-        },
-    }
+    Ok(Collector {
+        turn: Turn::Within,
+        count: count as u32,
+        ..c
+    })
 }
 
-fn last_segment(c: Collector, file: &[u8], i: u8, sum: u8) -> Taken
-    ensures { result ≡ taken_as c [] file.now (LastSegment i sum) }
+// At the last unit of a section or of the file, whose octets are these: whether the checksum is theirs, whether they have the announced length, and whether not
+// too many are collected (as a collector may say that no calls made).
+fn ended(octets: &[u8], sum: u8, size: u32, announced: u32, count: u32) -> Result<(), Refusal>
+    ensures { result ≡ ended_by (eqb sum (checksum octets.now)) (eqb size announced) (ltb 8192 count) }
 {
-    let turn = c.turn;
-    if !(is_within(turn) & is_next(c, i) & (c.start < c.count)) {
-        return dropped(40);
+    if sum != checksum(octets) {
+        return Err(Refusal::WrongSum);
+    }
+    if size != announced {
+        return Err(Refusal::WrongLength);
+    }
+    if 8192 < count {
+        return Err(Refusal::TooLong);
+    }
+    Ok(())
+}
+
+fn last_segment(c: Collector, file: &[u8], i: u8, sum: u8) -> Result<Collector, Refusal>
+    ensures { (next_by result ≡ taken_as c [] file.now (LastSegment i sum)) × (detail_in result ≡ 0) }
+{
+    if !is_open(c, i) || c.count <= c.start {
+        return Err(Refusal::OutOfTurn);
     }
     let size = c.count - c.start;
     let section = scan::front(scan::rest(file, c.start as usize), size as usize);
-    if sum as u32 != checksum(section) {
-        return dropped(41);
+    ended(section, sum, size, c.due, c.count)?;
+    Ok(Collector {
+        turn: Turn::Between,
+        ended: i as u32,
+        start: 0,
+        due: 0,
+        ..c
+    })
+}
+
+fn last_section(c: Collector, file: &[u8], i: u8, sum: u8) -> Result<Whole, Refusal>
+    ensures { (whole_by result ≡ taken_as c [] file.now (LastSection i sum)) × (detail_in result ≡ 0) }
+{
+    if c.turn != Turn::Between || i as u32 != c.ended || c.ended == 0 || c.count == 0 {
+        return Err(Refusal::OutOfTurn);
     }
-    if size != c.due {
-        return dropped(42);
-    }
-    if 8192 < c.count {
-        return dropped(43);
-    }
+    ended(
+        scan::front(file, c.count as usize),
+        sum,
+        c.count,
+        c.announced,
+        c.count,
+    )?;
+    Ok(Whole {
+        ca: c.ca,
+        ioa: c.ioa,
+        size: c.count as usize,
+    })
+}
+
+// A refused unit drops the transfer.
+fn dropped(refusal: Refusal) -> Taken
+    ensures { (taken_by result ≡ dropped (number_of refusal) 0) × (detail_in result.heard ≡ detail_of refusal) }
+{
     Taken {
-        heard: Heard::More,
-        collector: Collector {
-            turn: Turn::Between,
-            ca: c.ca,
-            ioa: c.ioa,
-            announced: c.announced,
-            ended: i as u32,
-            start: 0,
-            due: 0,
-            count: c.count,
-        },
+        heard: Err(refusal),
+        collector: fresh(),
     }
 }
 
-fn last_section(c: Collector, file: &[u8], i: u8, sum: u8) -> Taken
-    ensures { result ≡ taken_as c [] file.now (LastSection i sum) }
+// The answer to a unit that leaves the file not whole yet.
+fn onward(next: Result<Collector, Refusal>) -> Taken
+    ensures { (taken_by result ≡ next_by next) × (detail_in result.heard ≡ detail_in next) }
 {
-    let turn = c.turn;
-    if !(is_between(turn) & (i as u32 == c.ended) & (0 < c.ended) & (0 < c.count)) {
-        return dropped(40);
+    match next {
+        Ok(collector) => Taken {
+            heard: Ok(None),
+            collector,
+        },
+        Err(refusal) => dropped(refusal),
     }
-    if sum as u32 != checksum(scan::front(file, c.count as usize)) {
-        return dropped(41);
-    }
-    if c.count != c.announced {
-        return dropped(42);
-    }
-    if 8192 < c.count {
-        return dropped(43);
-    }
-    Taken {
-        heard: Heard::Whole(c.ca, c.ioa, c.count as usize),
-        collector: fresh(),
+}
+
+// The answer to the last section's.
+fn handed_out(whole: Result<Whole, Refusal>) -> Taken
+    ensures { (taken_by result ≡ whole_by whole) × (detail_in result.heard ≡ detail_in whole) }
+{
+    match whole {
+        Ok(whole) => Taken {
+            heard: Ok(Some(whole)),
+            collector: fresh(),
+        },
+        Err(refusal) => dropped(refusal),
     }
 }
 
 impl Collector {
     // Takes one unit of a transfer.
     pub fn take(self, unit: &[u8], file: &mut [u8; 8192]) -> Taken
-        ensures { (result ≡ taken_of self unit.now file.old)
-            × (file.new ≡ room_after self unit.now file.old) }
+        ensures { (taken_by result ≡ taken_of self unit.now file.old)
+            × (file.new ≡ room_after self unit.now file.old)
+            × (detail_in result.heard ≡ 0) }
     {
         if is_elsewhere(self, unit) {
-            return dropped(44);
+            return dropped(Refusal::ForeignUnit);
         }
         let told = transfer_unit::told_by(unit);
         match told {
-            Told::FileReady(n) => file_ready(self, unit, n),
-            Told::SectionReady(i, n) => section_ready(self, i, n),
-            Told::Segment(i, n) => segment(self, unit, file, i, n),
-            Told::LastSegment(i, sum) => last_segment(self, file, i, sum),
-            Told::LastSection(i, sum) => last_section(self, file, i, sum),
-            Told::Other => dropped(44),
+            Told::FileReady(n) => onward(file_ready(self, unit, n)),
+            Told::SectionReady(i, n) => onward(section_ready(self, i, n)),
+            Told::Segment(i, n) => onward(segment(self, unit, file, i, n)),
+            Told::LastSegment(i, sum) => onward(last_segment(self, file, i, sum)),
+            Told::LastSection(i, sum) => handed_out(last_section(self, file, i, sum)),
+            Told::Other => dropped(Refusal::ForeignUnit),
         }
     }
 }

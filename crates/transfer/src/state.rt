@@ -1,6 +1,6 @@
 // A collector as 16 bytes, for a host in C that keeps it between two units. All zero is a fresh collector, and any 16 bytes are some collector.
 ghost use Rattle.std.specs.Prelude.{◌+◌, ◌*◌, ◌/◌, ◌%◌, ◌≡◌};
-ghost use Rattle.transfer.specs.States.{turn_in, turn_no, collector_in, state_of, low, middle, high};
+ghost use Rattle.transfer.specs.States.{turn_in, turn_no, collector_in, state_of};
 
 use crate::{Collector, Turn};
 
@@ -24,41 +24,17 @@ fn turn_no(t: Turn) -> u8
     }
 }
 
-// Numbers of two and three bytes, low one first, and of one.
-fn one(b: u8) -> u32
-    ensures { result ≡ b }
-{
-    b as u32
-}
-
+// Numbers of two and three bytes, low one first.
 fn two(low: u8, high: u8) -> u32
     ensures { result ≡ low + 256 * high }
 {
-    low as u32 + 256 * (high as u32)
+    u16::from_le_bytes([low, high]) as u32
 }
 
 fn three(low: u8, middle: u8, high: u8) -> u32
     ensures { result ≡ low + 256 * middle + 65536 * high }
 {
-    low as u32 + 256 * (middle as u32) + 65536 * (high as u32)
-}
-
-fn low(n: u32) -> u8
-    ensures { result ≡ low n }
-{
-    (n % 256) as u8
-}
-
-fn middle(n: u32) -> u8
-    ensures { result ≡ middle n }
-{
-    (n / 256 % 256) as u8
-}
-
-fn high(n: u32) -> u8
-    ensures { result ≡ high n }
-{
-    (n / 65536 % 256) as u8
+    u32::from_le_bytes([low, middle, high, 0])
 }
 
 // The collector in a state.
@@ -70,7 +46,7 @@ pub fn collector_in(s: &[u8; 16]) -> Collector
         ca: two(s[2], s[3]),
         ioa: three(s[4], s[5], s[6]),
         announced: two(s[7], s[8]),
-        ended: one(s[1]),
+        ended: s[1] as u32,
         start: two(s[9], s[10]),
         due: two(s[11], s[12]),
         count: two(s[13], s[14]),
@@ -81,23 +57,30 @@ pub fn collector_in(s: &[u8; 16]) -> Collector
 pub fn state_of(c: Collector) -> [u8; 16]
     ensures { result ≡ state_of c }
 {
-    let turn = c.turn;
+    let turn = turn_no(c.turn);
+    let ended = c.ended.to_le_bytes();
+    let ca = c.ca.to_le_bytes();
+    let ioa = c.ioa.to_le_bytes();
+    let announced = c.announced.to_le_bytes();
+    let start = c.start.to_le_bytes();
+    let due = c.due.to_le_bytes();
+    let count = c.count.to_le_bytes();
     [
-        turn_no(turn),
-        low(c.ended),
-        low(c.ca),
-        middle(c.ca),
-        low(c.ioa),
-        middle(c.ioa),
-        high(c.ioa),
-        low(c.announced),
-        middle(c.announced),
-        low(c.start),
-        middle(c.start),
-        low(c.due),
-        middle(c.due),
-        low(c.count),
-        middle(c.count),
+        turn,
+        ended[0],
+        ca[0],
+        ca[1],
+        ioa[0],
+        ioa[1],
+        ioa[2],
+        announced[0],
+        announced[1],
+        start[0],
+        start[1],
+        due[0],
+        due[1],
+        count[0],
+        count[1],
         0,
     ]
 }

@@ -4,11 +4,9 @@ use Rattle.text.proofs.Firsts.{none_given}
 use Rattle.text.specs.Bytes.{part}
 use Rattle.text.specs.Refusals.{NoneHolds, none, next}
 use Rattle.transfer.proofs.Rooms.{filled}
-use Rattle.transfer.specs.Collect.{is_fresh, fresh, checksum, elsewhere, in_turn, summed, met, too_long}
-use Rattle.transfer.specs.Collect.{refusals_of, onward, heard_of, kept, taken, dropped, taken_of, room_after}
+use Rattle.transfer.specs.Collect.{is_fresh, fresh, checksum, elsewhere, in_turn, summed, met, too_long, refusals_of, onward, heard_of, kept, taken}
+use Rattle.transfer.specs.Collect.{dropped, taken_of, room_after, Heard, More, Whole}
 use Rattle.transfer.specs.declared.Collector.{Collector}
-use Rattle.transfer.specs.declared.Heard.{Heard}
-use Rattle.transfer.specs.declared.Heard.TheVariants.{More, Whole}
 use Rattle.transfer.specs.declared.Turn.TheVariants.{Between, Within}
 use Rattle.transfer_theorems.proofs.Sound.{part_more}
 use Rattle.transfer_theorems.specs.Transfers.{Run, start_of, run_of, step_of, after_all, answers, Segments}

@@ -4,9 +4,8 @@ use Rattle.text.proofs.Tests.{and_parts}
 use Rattle.text.specs.Bytes.{part}
 use Rattle.transfer.proofs.Comes.{Went, Comes, refused, went, comes}
 use Rattle.transfer.proofs.Rooms.{filled}
-use Rattle.transfer.specs.Collect.{is_fresh, is_between, is_within, fresh, checksum, elsewhere, onward, heard_of, kept}
+use Rattle.transfer.specs.Collect.{is_fresh, is_between, is_within, fresh, checksum, elsewhere, onward, heard_of, kept, More, Whole, Refused}
 use Rattle.transfer.specs.declared.Collector.{Collector}
-use Rattle.transfer.specs.declared.Heard.TheVariants.{More, Whole, Refused}
 use Rattle.transfer.specs.declared.Turn.{Turn}
 use Rattle.transfer.specs.declared.Turn.TheVariants.{Fresh, Between, Within}
 use Rattle.transfer_theorems.specs.Transfers.{Run, start_of, run_of, step_of, after_all, Says, Segments}

@@ -1,11 +1,8 @@
 -- Units one after another, and what a transfer is: document 02, A2, "file ready, section ready, segments, last segment, last section" as IEC 60870-5-5 and
 -- IEC 60870-5-101 have them (docs/UNITS.md). This is said of the units alone; no collector is run here but in `after_all`.
 use Rattle.std.specs.Prelude.{ℕ, suc, ◌≤◌, length, take, List, [], ◌∷◌, ◌++◌, map, ◌≡◌}
-use Rattle.transfer.specs.Collect.{fresh, checksum, taken_of, room_after}
+use Rattle.transfer.specs.Collect.{fresh, checksum, taken_of, room_after, Heard, More, Whole, Taken}
 use Rattle.transfer.specs.declared.Collector.{Collector}
-use Rattle.transfer.specs.declared.Heard.{Heard}
-use Rattle.transfer.specs.declared.Heard.TheVariants.{More, Whole}
-use Rattle.transfer.specs.declared.Taken.{Taken}
 use Rattle.transfer_unit.specs.Units.{ca_of, ioa_of, told_by, octets_of, Octets}
 use Rattle.transfer_unit.specs.declared.Told.{Told}
 use Rattle.transfer_unit.specs.declared.Told.TheVariants.{FileReady, SectionReady, Segment, LastSegment, LastSection}

@@ -1,5 +1,6 @@
 -- THE LAW: the text of a valid value of any kind reads back as that value. One line for each shape, then once for all kinds.
 -- Assumes nothing.
+use Rattle.std.specs.Prelude.{None, Option, Some}
 use Prim.Native.Nat.{ℕ, ◌≤◌}
 use Rattle.value_date.proofs.Back.{date_back, date_length}
 use Rattle.value_list.proofs.RoundTrip.{numbers_back, gradients_back}
@@ -8,8 +9,6 @@ use Rattle.value_name.proofs.RoundTrip.{identifier_back, identifier_length, sequ
 use Rattle.value_name.specs.declared.MessageType.{MessageType}
 use Rattle.value_number.proofs.RoundTrip.{number_back, number_some, number_empty}
 use Rattle.value_number.specs.Number.{scaled, fraction_of, joined_digits, unsigned_of, plus, minus, number_of, number_text}
-use Rattle.value_number.specs.declared.Number.{Number}
-use Rattle.value_number.specs.declared.Number.TheVariants.{Is as IsNumber, Bad as NoNumber}
 use Rattle.text.proofs.Numerals.{whole_some}
 use Rattle.text.proofs.Tables.{all_at}
 use Rattle.text.specs.Bytes.{all, upto}
@@ -21,7 +20,6 @@ use Rattle.value.specs.Valid.{Kept, Fits, Holds}
 use Rattle.value.specs.Valid.Fits.{id, unit, when, amount, count, reason, note, chosen, profile, bands, triples, in_kv, kv_word, in_rat, rat_word}
 use Rattle.value.specs.Valid.Fits.{in_change, in_mvar, mvar_word}
 use Rattle.value.specs.Valid.Holds.{blank, filled}
-use Rattle.value.specs.declared.Got.TheVariants.{Read, Bad}
 use Rattle.value.specs.declared.Kind.{Kind}
 use Rattle.value.specs.declared.Shape.{Shape}
 use Rattle.value.specs.declared.Value.{Value}
@@ -29,8 +27,6 @@ use Rattle.value.specs.declared.Value.TheVariants.{Unit}
 use Rattle.value_word.proofs.RoundTrip.{word_back, word_some}
 use Rattle.value_word.proofs.Volts.{volt_back}
 use Rattle.value_word.specs.Words.{command_words, mode_words, setting_words, words, word, word_in, volt_in}
-use Rattle.value_word.specs.declared.Word.{Word as WordRead}
-use Rattle.value_word.specs.declared.Word.TheVariants.{Is as IsText}
 use borrow.Author.Tests.{le-leb, ne_eqb}
 use lib.IntN.{ℤ}
 use lib.ListN.{length, take}
@@ -42,19 +38,19 @@ use native.Mathlib.Omega.{arith}
 
 -- ---- no word is a number: a test of the whole table
 
-abbrev is_none : Number → Bool
-is_none (IsNumber v) = false
-is_none NoNumber = true
+abbrev is_none : Option ℤ → Bool
+is_none (Some v) = false
+is_none None = true
 
-none_is : (n : Number) → is_none n ≡ true → n ≡ NoNumber
-none_is (IsNumber v) e = let z : ◌≡◌ {A = ℕ} 0 1 = cc in absurd (omega arith)
-none_is NoNumber e = refl
+none_is : (n : Option ℤ) → is_none n ≡ true → n ≡ None
+none_is (Some v) e = let z : ◌≡◌ {A = ℕ} 0 1 = cc in absurd (omega arith)
+none_is None e = refl
 
 no_numbers : all (λ (s : List ℕ). is_none (number_of s)) words ≡ true
 unfolding all words command_words mode_words setting_words number_of unsigned_of joined_digits plus minus fraction_of scaled digits_of number_from upto
 no_numbers = refl
 
-word_no_number : (w : ℕ) → number_of (word w) ≡ NoNumber
+word_no_number : (w : ℕ) → number_of (word w) ≡ None
 unfolding word
 word_no_number w = none_is (number_of (word w)) (all_at (λ (s : List ℕ). is_none (number_of s)) words w [] no_numbers (ap is_none number_empty))
 
@@ -65,13 +61,13 @@ module _ (t : MessageType) (r : Rooms) where
   kept_length most n room k = length-take-le n room k.inside
 
   -- a word beside a number of its own quantity
-  word_setting : (make : ℤ → Value) (w : ℕ) (d : WordRead) → d ≡ IsText w → setting_from make (number_of (word w)) (got_word d) ≡ Read (Value.Word w)
-  word_setting make w d e = ap (λ (n : Number). setting_from make n (got_word d)) (word_no_number w) ∙ ap got_word e
+  word_setting : (make : ℤ → Value) (w : ℕ) (d : Option ℕ) → d ≡ Some w → setting_from make (number_of (word w)) (got_word d) ≡ Some (Value.Word w)
+  word_setting make w d e = ap (λ (n : Option ℤ). setting_from make n (got_word d)) (word_no_number w) ∙ ap got_word e
 
-  pub back : (s : Shape) (v : Value) → Fits t r s v → shape_of s (value_text t r v) ≡ Read v
+  pub back : (s : Shape) (v : Value) → Fits t r s v → shape_of s (value_text t r v) ≡ Some v
   unfolding shape_of value_text
   back s v (id {n} h) = ap id_from (identifier_back t n h)
-  back s v (unit {n} h u) = rw u (ap (λ (m : ℕ). Read (Unit m)) (length-take-le n r.unit h))
+  back s v (unit {n} h u) = rw u (ap (λ (m : ℕ). Some (Unit m)) (length-take-le n r.unit h))
   back s v (when {d} e) = ap date_from (date_back d e)
   back s v (amount {v = x} h) = ap amount_from (number_back x h)
   back s v (count {n} h) = ap count_from (sequence_back n h)
@@ -81,12 +77,12 @@ module _ (t : MessageType) (r : Rooms) where
   back s v (profile {x} f) = ap list_from (numbers_back 1 4 x (omega arith) (omega arith) f)
   back s v (bands {x} f) = ap list_from (numbers_back 2 2 x (omega arith) (omega arith) f)
   back s v (triples {n} f) = ap triples_from (gradients_back r.gradients n f)
-  back s v (in_kv {v = x} h) = ap (λ (n : Number). setting_from voltage n (got_word (volt_in (number_text x)))) (number_back x h)
+  back s v (in_kv {v = x} h) = ap (λ (n : Option ℤ). setting_from voltage n (got_word (volt_in (number_text x)))) (number_back x h)
   back s v (kv_word {w} a b) = word_setting voltage w _ (volt_back w a b)
-  back s v (in_rat {v = x} h) = ap (λ (n : Number). setting_from regulator n (got_word (volt_in (number_text x)))) (number_back x h)
+  back s v (in_rat {v = x} h) = ap (λ (n : Option ℤ). setting_from regulator n (got_word (volt_in (number_text x)))) (number_back x h)
   back s v (rat_word {w} a b) = word_setting regulator w _ (volt_back w a b)
-  back s v (in_change {v = x} h) = ap (λ (n : Number). setting_from change n Bad) (number_back x h)
-  back s v (in_mvar {v = x} h) = ap (λ (n : Number). setting_from reactive n (got_word (word_in 25 27 (number_text x)))) (number_back x h)
+  back s v (in_change {v = x} h) = ap (λ (n : Option ℤ). setting_from change n None) (number_back x h)
+  back s v (in_mvar {v = x} h) = ap (λ (n : Option ℤ). setting_from reactive n (got_word (word_in 25 27 (number_text x)))) (number_back x h)
   back s v (mvar_word {w} a b) = word_setting reactive w _ (word_back 25 27 w (omega arith) a b (omega arith))
 
   -- it is never empty, so it is not taken for a blank
@@ -111,7 +107,7 @@ module _ (t : MessageType) (r : Rooms) where
   not_empty s v (in_mvar {v = x} h) = number_some x
   not_empty s v (mvar_word {w} a b) = word_some w (omega arith) (omega arith)
 
-  pub value_back : (k : Kind) (v : Value) → Holds t r k v → value_of k (value_text t r v) ≡ Read v
+  pub value_back : (k : Kind) (v : Value) → Holds t r k v → value_of k (value_text t r v) ≡ Some v
   unfolding value_of value_text
   value_back k v (blank b) = rw b
   value_back k v (filled f) =

@@ -6,6 +6,7 @@ use Rattle.value_list.specs.declared.Triple.{Triple}
 use Rattle.value_name.specs.Names.{identifier_text, sequence_text}
 use Rattle.value_name.specs.declared.MessageType.{MessageType}
 use Rattle.value_number.specs.Number.{are_short, number_text}
+use Rattle.value.specs.declared.Rooms.{Rooms as Lent}
 use Rattle.value.specs.declared.Value.{Value}
 use Rattle.value.specs.declared.Value.TheVariants.{Blank, Id, Unit, When, Amount, Count, Reason, Note, Word, List as Numbers, Triples, Voltage}
 use Rattle.value.specs.declared.Value.TheVariants.{Regulator, Change, Reactive}
@@ -26,6 +27,10 @@ rooms u r n g = record { unit = u; reason = r; note = n; gradients = g }
 -- the rooms that three lent slices hold when a call begins, as a contract names the slices, and the triples beside them
 abbrev pub lent_rooms : {X Y Z : Type 0} → Both (Bor (List ℕ)) X → Both (Bor (List ℕ)) Y → Both (Bor (List ℕ)) Z → List Triple → Rooms
 lent_rooms u r n g = rooms u.entry.now r.entry.now n.entry.now g
+
+-- the rooms that are lent together
+abbrev pub rooms_in : Lent → Rooms
+rooms_in r = rooms r.unit.now r.reason.now r.note.now r.gradients.now
 
 -- the text of a value of a message of type t. A value says its own text: its kind is not asked.
 unfoldable pub value_text : MessageType → Rooms → Value → List ℕ

@@ -3,25 +3,27 @@
 
 pub mod read;
 
+ghost use Rattle.std.specs.Prelude.{length, ◌≡◌};
+
 use value_date::Date;
-use value_list::Numbers;
+use value_list::{Numbers, Triple};
 use value_name::MessageType;
 
 // The four quantities of VQ, each in thousandths. None may be put for another.
-#[derive(Clone, Copy)]
+#[derive(Clone, Copy, PartialEq, Eq)]
 pub struct Kv(pub i32);
 
-#[derive(Clone, Copy)]
+#[derive(Clone, Copy, PartialEq, Eq)]
 pub struct RatPercent(pub i32);
 
-#[derive(Clone, Copy)]
+#[derive(Clone, Copy, PartialEq, Eq)]
 pub struct ChangePercent(pub i32);
 
-#[derive(Clone, Copy)]
+#[derive(Clone, Copy, PartialEq, Eq)]
 pub struct MVar(pub i32);
 
 // What one field holds. The bytes of a text and the triples stand in their rooms beside the values; here is how many there are.
-#[derive(Clone, Copy)]
+#[derive(Clone, Copy, PartialEq, Eq)]
 pub enum Value {
     Blank,
     Id(u64),
@@ -40,8 +42,18 @@ pub enum Value {
     Reactive(MVar),
 }
 
-// What a field may hold. A word is one of those numbered from the first to the last.
+// The rooms in which texts and triples stand, as they are lent: a record's, or parts of a file. A value says how much of its room is used.
 #[derive(Clone, Copy)]
+pub struct Rooms<'a> {
+    pub unit: &'a [u8],
+    pub reason: &'a [u8],
+    pub note: &'a [u8],
+    pub gradients: &'a [Triple; 16],
+    ghost sixteen: { length gradients.now ≡ 16 },
+}
+
+// What a field may hold. A word is one of those numbered from the first to the last.
+#[derive(Clone, Copy, PartialEq, Eq)]
 pub enum Shape {
     IsId(MessageType),
     IsUnit,
@@ -60,15 +72,8 @@ pub enum Shape {
     IsReactive,
 }
 
-#[derive(Clone, Copy)]
+#[derive(Clone, Copy, PartialEq, Eq)]
 pub struct Kind {
     pub shape: Shape,
     pub blank: bool,
-}
-
-// A value that was read, or that the text is none of its kind.
-#[derive(Clone, Copy)]
-pub enum Got {
-    Read(Value),
-    Bad,
 }

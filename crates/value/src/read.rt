@@ -7,163 +7,132 @@ ghost use Rattle.value.specs.Kinds.{id_from, count_from, date_from, amount_from,
 ghost use Rattle.value.specs.Kinds.{reactive, shape_of, value_of};
 ghost use Rattle.value_word.specs.Names.{w_q_zero, w_max_sottoeccitazione};
 ghost use Rattle.value_word.specs.Words.{word_in, volt_in};
-ghost use Rattle.std.specs.Prelude.{◌≡◌};
+ghost use Rattle.std.specs.Prelude.{leb, length, cond, ◌≡◌};
 
-use crate::{ChangePercent, Got, Kind, Kv, MVar, RatPercent, Shape, Value};
-use text::digits::Digits;
-use value_date::Dated;
-use value_list::{Listed, few, triples};
+use crate::{ChangePercent, Kind, Kv, MVar, RatPercent, Shape, Value};
+use value_list::{Numbers, few, triples};
 use value_name::{MessageType, identifier, sequence, unit};
-use value_number::Number;
-use value_word::{Word, names};
+use value_word::names;
 
-fn read_id(t: MessageType, s: &[u8]) -> Got
+fn read_id(t: MessageType, s: &[u8]) -> Option<Value>
     ensures { result ≡ id_from (identifier_of t s.now) }
 {
-    match identifier::read(t, s) {
-        Digits::Are(n) => Got::Read(Value::Id(n)),
-        Digits::Not => Got::Bad,
-    }
+    identifier::read(t, s).map(Value::Id)
 }
 
-fn read_count(s: &[u8]) -> Got
+fn read_count(s: &[u8]) -> Option<Value>
     ensures { result ≡ count_from (sequence_of s.now) }
 {
-    match sequence::read(s) {
-        Digits::Are(n) => Got::Read(Value::Count(n)),
-        Digits::Not => Got::Bad,
-    }
+    sequence::read(s).map(Value::Count)
 }
 
-fn read_date(s: &[u8]) -> Got
+fn read_date(s: &[u8]) -> Option<Value>
     ensures { result ≡ date_from (date_of s.now) }
 {
-    match value_date::read(s) {
-        Dated::Is(d) => Got::Read(Value::When(d)),
-        Dated::Bad => Got::Bad,
-    }
+    value_date::read(s).map(Value::When)
 }
 
-fn read_amount(s: &[u8]) -> Got
+fn read_amount(s: &[u8]) -> Option<Value>
     ensures { result ≡ amount_from (number_of s.now) }
 {
-    match value_number::read(s) {
-        Number::Is(n) => Got::Read(Value::Amount(n)),
-        Number::Bad => Got::Bad,
-    }
+    value_number::read(s).map(Value::Amount)
 }
 
-fn worded(w: Word) -> Got
+fn worded(w: Option<u8>) -> Option<Value>
     ensures { result ≡ got_word w }
 {
-    match w {
-        Word::Is(n) => Got::Read(Value::Word(n)),
-        Word::Not => Got::Bad,
-    }
+    w.map(Value::Word)
 }
 
-fn read_word(first: u8, last: u8, s: &[u8]) -> Got
+fn read_word(first: u8, last: u8, s: &[u8]) -> Option<Value>
     ensures { result ≡ got_word (word_in first last s.now) }
 {
     worded(value_word::read(first, last, s))
 }
 
-fn listed(l: Listed) -> Got
+fn listed(l: Option<Numbers>) -> Option<Value>
     ensures { result ≡ list_from l }
 {
-    match l {
-        Listed::Are(x) => Got::Read(Value::List(x)),
-        Listed::Bad => Got::Bad,
-    }
+    l.map(Value::List)
 }
 
-fn read_triples(s: &[u8]) -> Got
+fn read_triples(s: &[u8]) -> Option<Value>
     ensures { result ≡ triples_from (gradients_in s.now) }
 {
-    let g = triples::read(s);
-    let list = g.list;
-    let n = list.count;
-    if g.good {
-        Got::Read(Value::Triples(n))
-    } else {
-        Got::Bad
-    }
+    let list = triples::read(s)?;
+    Some(Value::Triples(list.count))
 }
 
 // `Impostazione Sart/Report`: kV, `V MAX` or `V MIN`, the space left out or not.
-fn read_voltage(s: &[u8]) -> Got
+fn read_voltage(s: &[u8]) -> Option<Value>
     ensures { result ≡ setting_from voltage (number_of s.now) (got_word (volt_in s.now)) }
 {
     match value_number::read(s) {
-        Number::Is(n) => Got::Read(Value::Voltage(Kv(n))),
-        Number::Bad => worded(value_word::read_volt(s)),
+        Some(n) => Some(Value::Voltage(Kv(n))),
+        None => worded(value_word::read_volt(s)),
     }
 }
 
 // `Impostazione RAT`: per cent of the RAT, `V MAX` or `V MIN`, the space left out or not.
-fn read_regulator(s: &[u8]) -> Got
+fn read_regulator(s: &[u8]) -> Option<Value>
     ensures { result ≡ setting_from regulator (number_of s.now) (got_word (volt_in s.now)) }
 {
     match value_number::read(s) {
-        Number::Is(n) => Got::Read(Value::Regulator(RatPercent(n))),
-        Number::Bad => worded(value_word::read_volt(s)),
+        Some(n) => Some(Value::Regulator(RatPercent(n))),
+        None => worded(value_word::read_volt(s)),
     }
 }
 
 // `Variazione`: a change in per cent.
-fn read_change(s: &[u8]) -> Got
-    ensures { result ≡ setting_from change (number_of s.now) Got.Bad }
+fn read_change(s: &[u8]) -> Option<Value>
+    ensures { result ≡ setting_from change (number_of s.now) None }
 {
-    match value_number::read(s) {
-        Number::Is(n) => Got::Read(Value::Change(ChangePercent(n))),
-        Number::Bad => Got::Bad,
-    }
+    let n = value_number::read(s)?;
+    Some(Value::Change(ChangePercent(n)))
 }
 
 // `Potenza reattiva`: MVar, `Q=0`, or one of the two extremes.
-fn read_reactive(s: &[u8]) -> Got
+fn read_reactive(s: &[u8]) -> Option<Value>
     ensures { result ≡ setting_from reactive (number_of s.now) (got_word (word_in w_q_zero w_max_sottoeccitazione s.now)) }
 {
     match value_number::read(s) {
-        Number::Is(n) => Got::Read(Value::Reactive(MVar(n))),
-        Number::Bad => read_word(names::Q_ZERO, names::MAX_SOTTOECCITAZIONE, s),
+        Some(n) => Some(Value::Reactive(MVar(n))),
+        None => read_word(names::Q_ZERO, names::MAX_SOTTOECCITAZIONE, s),
     }
 }
 
-fn read_unit(s: &[u8]) -> Got
+fn read_unit(s: &[u8]) -> Option<Value>
     ensures { result ≡ shape_of Shape.IsUnit s.now }
 {
-    let n = s.len();
     if unit::is_unit(s) {
-        Got::Read(Value::Unit(n))
+        Some(Value::Unit(s.len()))
     } else {
-        Got::Bad
+        None
     }
 }
 
-fn read_reason(s: &[u8]) -> Got
+// How many bytes a text has, if they are few enough for its room.
+fn size_within(s: &[u8], most: usize) -> Option<usize>
+    ensures { result ≡ cond (leb (length s.now) most) (Some (length s.now)) None }
+{
+    if s.len() <= most { Some(s.len()) } else { None }
+}
+
+#[tactic(auto, unfolding(crate::specs::Kinds::shape_of))]
+fn read_reason(s: &[u8]) -> Option<Value>
     ensures { result ≡ shape_of Shape.IsReason s.now }
 {
-    let n = s.len();
-    if n <= 128 {
-        Got::Read(Value::Reason(n))
-    } else {
-        Got::Bad
-    }
+    size_within(s, 128).map(Value::Reason)
 }
 
-fn read_note(s: &[u8]) -> Got
+#[tactic(auto, unfolding(crate::specs::Kinds::shape_of))]
+fn read_note(s: &[u8]) -> Option<Value>
     ensures { result ≡ shape_of Shape.IsNote s.now }
 {
-    let n = s.len();
-    if n <= 256 {
-        Got::Read(Value::Note(n))
-    } else {
-        Got::Bad
-    }
+    size_within(s, 256).map(Value::Note)
 }
 
-fn read_shape(shape: Shape, s: &[u8]) -> Got
+fn read_shape(shape: Shape, s: &[u8]) -> Option<Value>
     ensures { result ≡ shape_of shape s.now }
 {
     match shape {
@@ -186,11 +155,11 @@ fn read_shape(shape: Shape, s: &[u8]) -> Got
 }
 
 // A trimmed text read as a value of a kind.
-pub fn read(k: Kind, s: &[u8]) -> Got
+pub fn read(k: Kind, s: &[u8]) -> Option<Value>
     ensures { result ≡ value_of k s.now }
 {
     if k.blank & (s.len() == 0) {
-        return Got::Read(Value::Blank);
+        return Some(Value::Blank);
     }
     let shape = k.shape;
     read_shape(shape, s)

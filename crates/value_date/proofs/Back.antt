@@ -1,10 +1,10 @@
 -- A date that is written: its length, its bytes, and that it reads back as itself. Each field is digits that read back.
 -- Assumes nothing.
+use Rattle.std.specs.Prelude.{None, Some}
 use Prim.Native.Nat.{ℕ, ◌+◌, ◌/◌, ◌%◌, ◌^◌}
 use Rattle.value_date.proofs.Laws.{real_tells, date_is, days_low}
 use Rattle.value_date.specs.Date.{fits_byte, shaped, date_shape, date_parts, is_real, Real, date_of, day_text, time_text, letter, letter_text, date_text}
 use Rattle.value_date.specs.declared.Date.{Date}
-use Rattle.value_date.specs.declared.Dated.TheVariants.{Is, Bad}
 use Rattle.text.proofs.Cuts.{same_refl}
 use Rattle.text.proofs.Numerals.{digit_yes, number_back}
 use Rattle.text.proofs.Tests.{and_parts, within_tells}
@@ -87,22 +87,22 @@ fields_back d r =
     }
 
 -- every real date is read back from its written form
-pub date_back : (d : Date) → is_real d ≡ true → date_of (date_text d) ≡ Is d
+pub date_back : (d : Date) → is_real d ≡ true → date_of (date_text d) ≡ Some d
 date_back d e =
     let f = fields_back d ((real_tells d).0 e) in
-    sym (date_is (date_text d) (shape_back d) (ap is_real f ∙ e)) ∙ ap Is f
+    sym (date_is (date_text d) (shape_back d) (ap is_real f ∙ e)) ∙ ap Some f
 
 -- what is read is of the shape, and real
-pub date_tells : (s : List ℕ) (d : Date) → date_of s ≡ Is d → (shaped date_shape s ≡ true) × ((is_real (date_parts s) ≡ true) × (date_parts s ≡ d))
+pub date_tells : (s : List ℕ) (d : Date) → date_of s ≡ Some d → (shaped date_shape s ≡ true) × ((is_real (date_parts s) ≡ true) × (date_parts s ≡ d))
 unfolding date_of
 date_tells s d e =
     let y = taken_is (shaped date_shape s && is_real (date_parts s)) (date_parts s) e in
     let p = and_parts (shaped date_shape s) (is_real (date_parts s)) y.0 in
     (p.0, (p.1, y.1))
   where
-    taken_is : (t : Bool) (f : Date) → cond t (Is f) Bad ≡ Is d → (t ≡ true) × (f ≡ d)
+    taken_is : (t : Bool) (f : Date) → cond t (Some f) None ≡ Some d → (t ≡ true) × (f ≡ d)
     taken_is true f p = (refl, cc)
     taken_is false f p = let z : ◌≡◌ {A = ℕ} 0 1 = cc in absurd (omega arith)
 
-pub date_real : (s : List ℕ) (d : Date) → date_of s ≡ Is d → is_real d ≡ true
+pub date_real : (s : List ℕ) (d : Date) → date_of s ≡ Some d → is_real d ≡ true
 date_real s d e = let y = (date_tells s d e).1 in ap is_real (sym y.1) ∙ y.0

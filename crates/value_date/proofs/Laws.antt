@@ -1,22 +1,20 @@
 -- Laws of the definitions of `specs/Date.antt`: the shape along the bytes, the fields that it makes digits, and the calendar.
 -- Assumes nothing.
+use Rattle.std.specs.Prelude.{None, Option, Some}
 use Prim.Native.Nat.{ℕ, zero, suc, ◌+◌, ◌-◌, ◌*◌, ◌%◌, ◌^◌, ◌≤◌, ◌<◌}
 use Rattle.value_date.specs.Date.{fits_byte, shaped, date_shape, field_at, date_parts, leap, days_in, is_real, Real, date_of, days_of, hours_ahead, day_text}
 use Rattle.value_date.specs.Date.{time_text, letter, letter_text, date_text}
 use Rattle.value_date.specs.declared.Date.{Date}
-use Rattle.value_date.specs.declared.Dated.TheVariants.{Is, Bad}
-use Rattle.text.proofs.Cuts.{drop_step}
 use Rattle.text.proofs.Numerals.{taken, below, length_text}
 use Rattle.text.proofs.Runs.{Run, puts, puts_of, then}
 use Rattle.text.proofs.Tests.{Tells, leb_tells, within_tells, ◌and◌, and_parts, by_test, by_le, cond_le}
 use Rattle.text.specs.Bytes.{all, is_digit}
 use Rattle.text.specs.Digits.{digits_of, digits_text}
 use Rattle.text.specs.Puts.{limit}
-use Rattle.text.specs.declared.digits.Digits.TheVariants.{Are, Not}
-use Rattle.text.specs.declared.digits.Digits.{Digits}
 use borrow.Author.Tests.{le-leb, leb-true, eq-eqb, ne_eqb, eqb-true}
+use Rattle.std.specs.List.{list_all, zip}
 use lib.Dec.{eqb, leb, lit≤}
-use lib.ListN.{length, get_or, take, drop, drop_of_length-le, length-drop}
+use lib.ListN.{length, take, drop, length-drop}
 use lib.Seq.{length-take-le, sets}
 use mathlib.Core.Bool.{Bool, true, false, ◌&&◌, ◌||◌, false≢true}
 use mathlib.Core.List.{List, [], ◌∷◌}
@@ -53,19 +51,13 @@ shape_length (p ∷ ps) (b ∷ s) e = ap suc (shape_length ps s (and_parts (fits
 pub shape_differs : (ps s : List ℕ) → (length ps ≡ length s → ⊥) → false ≡ shaped ps s
 shape_differs ps s n = by_test (shaped ps s) (λ e. absurd (n (shape_length ps s e))) sym
 
-module _ (ps s : List ℕ) (i : ℕ) where
-  pub shape_on : i < length ps → i < length s → fits_byte (get_or ps i 0) (get_or s i 0) ≡ true
-      → shaped (drop i ps) (drop i s) ≡ shaped (drop (i + 1) ps) (drop (i + 1) s)
-  unfolding shaped
-  shape_on hp hs e = rw (drop_step ps i hp, drop_step s i hs, e)
-
-  pub shape_off : i < length ps → i < length s → fits_byte (get_or ps i 0) (get_or s i 0) ≡ false → shaped (drop i ps) (drop i s) ≡ false
-  unfolding shaped
-  shape_off hp hs e = rw (drop_step ps i hp, drop_step s i hs, e)
-
-  pub shape_end : length ps ≤ i → length s ≤ i → shaped (drop i ps) (drop i s) ≡ true
-  unfolding shaped
-  shape_end hp hs = rw (drop_of_length-le ps hp, drop_of_length-le s hs)
+-- each byte of one as the byte beside it asks: what a chain over the two side by side goes by
+pub shape_zip : (ps s : List ℕ) → length ps ≡ length s → list_all (λ q. fits_byte q.0 q.1) (zip ps s) ≡ shaped ps s
+unfolding shaped
+shape_zip [] [] e = refl
+shape_zip [] (b ∷ s) e = absurd (omega arith)
+shape_zip (p ∷ ps) [] e = absurd (omega arith)
+shape_zip (p ∷ ps) (b ∷ s) e = ap (λ (x : Bool). fits_byte p b && x) (shape_zip ps s (omega arith))
 
 pub shape_drop : (a : ℕ) (ps s : List ℕ) → shaped ps s ≡ true → shaped (drop a ps) (drop a s) ≡ true
 unfolding shaped
@@ -101,22 +93,22 @@ shape_asks s at n e l z =
 -- ---- a field
 
 -- n digits at a place, read, are the field there, and below the n-th power of ten; they are not refused
-module _ (s : List ℕ) (at n : ℕ) (d : Digits) (e : d ≡ digits_of n (take (at + n - at) (drop at s))) (h : 1 ≤ n) (k : at + n ≤ length s) (a : all is_digit (take n (drop at s)) ≡ true) where
-  field_is : d ≡ Are (field_at s at n)
+module _ (s : List ℕ) (at n : ℕ) (d : Option ℕ) (e : d ≡ digits_of n (take (at + n - at) (drop at s))) (h : 1 ≤ n) (k : at + n ≤ length s) (a : all is_digit (take n (drop at s)) ≡ true) where
+  field_is : d ≡ Some (field_at s at n)
   field_is =
       let l : length (take n (drop at s)) ≡ n = length-take-le n (drop at s) (omega (arith, length-drop at s)) in
       (rw (add-sub_cancel_left at n) at e) ∙ sym (taken n (take n (drop at s)) (rw l h) (omega arith) a)
 
-  pub field_read : (v : ℕ) → d ≡ Are v → (v ≡ field_at s at n) × (v < 10 ^ n)
+  pub field_read : (v : ℕ) → d ≡ Some v → (v ≡ field_at s at n) × (v < 10 ^ n)
   field_read v r = (same_value v (field_at s at n) (sym r ∙ field_is), below n (take (at + n - at) (drop at s)) v (sym e ∙ r))
     where
-      same_value : (v w : ℕ) → Are v ≡ Are w → v ≡ w
+      same_value : (v w : ℕ) → Some v ≡ Some w → v ≡ w
       same_value v w p = cc
 
-  pub field_refused : d ≡ Not → ⊥
+  pub field_refused : d ≡ None → ⊥
   field_refused r = never (field_at s at n) (sym r ∙ field_is)
     where
-      never : (w : ℕ) → Not ≡ Are w → ⊥
+      never : (w : ℕ) → None ≡ Some w → ⊥
       never w p = let z : ◌≡◌ {A = ℕ} 0 1 = cc in absurd (omega arith)
 
 -- ---- the calendar
@@ -246,15 +238,15 @@ real_tells d =
 -- ---- the whole
 
 module _ (s : List ℕ) where
-  pub date_misshapen : shaped date_shape s ≡ false → Bad ≡ date_of s
+  pub date_misshapen : shaped date_shape s ≡ false → None ≡ date_of s
   unfolding date_of
   date_misshapen e = rw e
 
-  pub date_unreal : shaped date_shape s ≡ true → is_real (date_parts s) ≡ false → Bad ≡ date_of s
+  pub date_unreal : shaped date_shape s ≡ true → is_real (date_parts s) ≡ false → None ≡ date_of s
   unfolding date_of
   date_unreal e r = rw (e, r)
 
-  pub date_is : shaped date_shape s ≡ true → is_real (date_parts s) ≡ true → Is (date_parts s) ≡ date_of s
+  pub date_is : shaped date_shape s ≡ true → is_real (date_parts s) ≡ true → Some (date_parts s) ≡ date_of s
   unfolding date_of
   date_is e r = rw (e, r)
 

@@ -1,10 +1,10 @@
 -- A text that is read as a date is the date's own text: its fields are digits, and all else is the shape's. Assumes nothing.
+use Rattle.std.specs.Prelude.{Some}
 use Prim.Native.Nat.{ℕ, ◌+◌, ◌≤◌}
 use Rattle.value_date.proofs.Back.{date_tells}
 use Rattle.value_date.proofs.Laws.{shape_drop, shape_asks, zeros}
 use Rattle.value_date.specs.Date.{fits_byte, shaped, date_shape, field_at, date_parts, date_of, day_text, time_text, letter, letter_text, date_text}
 use Rattle.value_date.specs.declared.Date.{Date}
-use Rattle.value_date.specs.declared.Dated.TheVariants.{Is}
 use Rattle.text.proofs.Backs.{digits_back}
 use Rattle.text.proofs.Tests.{and_parts, by_test}
 use Rattle.text.specs.Digits.{digits_text}
@@ -91,5 +91,5 @@ module _ (s : List ℕ) (e : shaped date_shape s ≡ true) where
       ∙ ap (λ (t : List ℕ). day_text (date_parts s) ++ t) time_own
       ∙ day_own
 
-pub date_own : (s : List ℕ) (d : Date) → date_of s ≡ Is d → date_text d ≡ s
+pub date_own : (s : List ℕ) (d : Date) → date_of s ≡ Some d → date_text d ≡ s
 date_own s d e = let y = date_tells s d e in ap date_text (sym y.1.1) ∙ fields_own s y.0

@@ -1,9 +1,7 @@
 -- Dates `DD-MM-YYYY HH:MI:SS X` and their instants. Document 01, "Values": years 2001 to 2099, a real calendar day, hours 0 to 23,
 -- minutes and seconds 0 to 59, X is L or S; the record keeps all of these.
-use Rattle.std.specs.Prelude.{ℕ, zero, suc, ◌+◌, ◌-◌, ◌*◌, ◌/◌, ◌%◌, ◌≤◌, eqb, leb, ltb, get_or, take, drop, Bool, true, false, ◌&&◌, ◌||◌, cond, List, [], ◌∷◌, ◌++◌}
+use Rattle.std.specs.Prelude.{ℕ, zero, suc, ◌+◌, ◌-◌, ◌*◌, ◌/◌, ◌%◌, ◌≤◌, eqb, leb, ltb, get_or, take, drop, Bool, true, false, ◌&&◌, ◌||◌, cond, List, [], ◌∷◌, ◌++◌, None, Option, Some}
 use Rattle.value_date.specs.declared.Date.{Date}
-use Rattle.value_date.specs.declared.Dated.{Dated}
-use Rattle.value_date.specs.declared.Dated.TheVariants.{Is, Bad}
 use Rattle.text.specs.Bytes.{bytes, within, is_digit}
 use Rattle.text.specs.Digits.{number_in, digits_text}
 
@@ -63,8 +61,8 @@ pub record Real (d : Date) : Type 0 where
   pub minute_to : d.minute ≤ 59
   pub second_to : d.second ≤ 59
 
-unfoldable pub date_of : List ℕ → Dated
-date_of s = cond (shaped date_shape s && is_real (date_parts s)) (Is (date_parts s)) Bad
+unfoldable pub date_of : List ℕ → Option Date
+date_of s = cond (shaped date_shape s && is_real (date_parts s)) (Some (date_parts s)) None
 
 -- ---- the instant: seconds since 2000 began in UTC
 

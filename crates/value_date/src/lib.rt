@@ -1,7 +1,7 @@
 // Dates of a message: read, judged by the calendar, put, and their instants.
 #![tactic(auto)]
 
-ghost use Rattle.std.specs.Prelude.{◌+◌, ◌-◌, ◌*◌, ◌≤◌, ◌<◌, length, take, drop, true, ◌∷◌, ◌≡◌};
+ghost use Rattle.std.specs.Prelude.{◌+◌, ◌-◌, ◌*◌, ◌^◌, ◌≤◌, ◌<◌, length, take, drop, true, ◌∷◌, ◌≡◌};
 ghost use Rattle.value_date.specs.Date.{fits_byte, shaped, date_shape, field_at, date_parts, days_in, is_real, date_of, days_of, hours_ahead, clock_of, instant_of};
 ghost use Rattle.value_date.specs.Date.{before, day_text, time_text, letter, letter_text, date_text};
 ghost use Rattle.text.specs.Bytes.{all, is_digit};
@@ -9,12 +9,11 @@ ghost use Rattle.text.specs.Digits.{digits_text};
 ghost use Rattle.text.specs.Puts.{limit};
 ghost use Rattle.std.proofs.lemmas.List.Edits.{sets};
 
-use text::digits::Digits;
 use text::{digits, put};
 
 // A date as it is written, kept whole. The year has four bytes, so that no number of a date lies across two words of a value that holds it: else each
 // value read would take a way through memory.
-#[derive(Clone, Copy)]
+#[derive(Clone, Copy, PartialEq, Eq)]
 pub struct Date {
     pub year: u32,
     pub month: u8,
@@ -24,13 +23,6 @@ pub struct Date {
     pub second: u8,
     // the letter is L, summer time, and not S
     pub legal: bool,
-}
-
-// A date that was read, or that it is none.
-#[derive(Clone, Copy)]
-pub enum Dated {
-    Is(Date),
-    Bad,
 }
 
 fn fits_byte(p: u8, b: u8) -> bool
@@ -47,28 +39,18 @@ fn fits_byte(p: u8, b: u8) -> bool
 fn has_shape(shape: &[u8], s: &[u8]) -> bool
     ensures { result ≡ shaped shape.now s.now }
 {
-    if shape.len() != s.len() {
-        return false;
-    }
-    let mut i = 0;
-    while i < s.len() {
-        if !fits_byte(shape[i], s[i]) {
-            return false;
-        }
-        i += 1;
-    }
-    true
+    shape.len() == s.len() && shape.iter().zip(s).all(|(p, b)| fits_byte(*p, *b))
 }
 
 // The number that the n digits at a place write.
 fn field(s: &[u8], at: usize, n: usize) -> u64
     requires { (1 ≤ n) × (n ≤ 4) × (at + n ≤ length s.now) × (all is_digit (take n (drop at s.now)) ≡ true) }
-    ensures { (result ≡ field_at s.now at n) × (result ≤ 9999) }
+    ensures { (result ≡ field_at s.now at n) × (result < 10 ^ n) }
 {
     let end = at + n;
     match digits::read_digits(&s[at..end], n) {
-        Digits::Are(v) => v,
-        Digits::Not => 0,
+        Some(v) => v,
+        None => 0,
     }
 }
 
@@ -77,11 +59,7 @@ fn pair(s: &[u8], at: usize) -> u8
     requires { (at + 2 ≤ length s.now) × (all is_digit (take 2 (drop at s.now)) ≡ true) }
     ensures { result ≡ field_at s.now at 2 }
 {
-    let end = at + 2;
-    match digits::read_digits(&s[at..end], 2) {
-        Digits::Are(v) => v as u8,
-        Digits::Not => 0,
-    }
+    field(s, at, 2) as u8
 }
 
 fn fields(s: &[u8]) -> Date
@@ -131,14 +109,14 @@ pub fn is_real(d: Date) -> bool
         & (d.second <= 59)
 }
 
-pub fn read(s: &[u8]) -> Dated
+pub fn read(s: &[u8]) -> Option<Date>
     ensures { result ≡ date_of s.now }
 {
     if !has_shape(b"00-00-0000 00:00:00 L", s) {
-        return Dated::Bad;
+        return None;
     }
     let d = fields(s);
-    if is_real(d) { Dated::Is(d) } else { Dated::Bad }
+    if is_real(d) { Some(d) } else { None }
 }
 
 // The days of the first months of a common year; a month past the twelfth has 31.
@@ -180,20 +158,6 @@ fn days_of(year: u32, months: u8) -> u64
     days_before(months) + leap_day(year, months)
 }
 
-// a less b, and nothing where b is more.
-fn less(a: u64, b: u64) -> u64
-    ensures { result ≡ a - b }
-{
-    if a < b { 0 } else { a - b }
-}
-
-// The months before this one.
-fn months_before(month: u8) -> u8
-    ensures { result ≡ month - 1 }
-{
-    if month == 0 { 0 } else { month - 1 }
-}
-
 // How far a letter's clock is ahead of UTC, in seconds.
 fn ahead_of(legal: bool) -> u64
     ensures { result ≡ hours_ahead legal }
@@ -206,9 +170,9 @@ fn clock(d: Date) -> u64
     ensures { result ≡ clock_of d }
 {
     let y = d.year as u64;
-    let months = months_before(d.month);
-    let in_year = days_of(d.year, months) + less(d.day as u64, 1);
-    let days = 365 * less(y, 2000) + less(y, 1997) / 4 + in_year;
+    let months = d.month.saturating_sub(1);
+    let in_year = days_of(d.year, months) + (d.day as u64).saturating_sub(1);
+    let days = 365 * y.saturating_sub(2000) + y.saturating_sub(1997) / 4 + in_year;
     86400 * days + (3600 * (d.hour as u64) + 60 * (d.minute as u64) + d.second as u64)
 }
 
@@ -216,7 +180,7 @@ fn clock(d: Date) -> u64
 pub fn instant(d: Date) -> u64
     ensures { result ≡ instant_of d }
 {
-    less(clock(d), ahead_of(d.legal))
+    clock(d).saturating_sub(ahead_of(d.legal))
 }
 
 // Whether a's instant is before b's.

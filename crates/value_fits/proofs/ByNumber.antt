@@ -7,10 +7,11 @@ use Rattle.value.specs.contracts.Shape.{the_type}
 use Rattle.value.specs.declared.Shape.{Shape}
 use Rattle.value.specs.declared.Shape.TheVariants.{IsId, IsUnit, IsWhen, IsAmount, IsCount, IsReason, IsNote, IsWord, IsProfile, IsBands, IsTriples, IsVoltage}
 use Rattle.value.specs.declared.Shape.TheVariants.{IsRegulator, IsChange, IsReactive}
+use borrow.Author.Tests.{eq-eqb, ne_eqb}
 use denote.Enum.Declared.{tag_of}
 use lib.Dec.{eqb, leb}
 use lib.ListN.{get_or}
-use mathlib.Core.Bool.{false, cond, true≢false}
+use mathlib.Core.Bool.{true, false, cond, true≢false}
 use mathlib.Core.List.{List, [], ◌∷◌}
 use mathlib.Core.Path.{◌≡◌, refl, sym, ap, subst, ◌∙◌}
 use types.Run.{OneOf, miss}
@@ -62,6 +63,16 @@ shape_back IsReactive e = refl
 -- the shape that has the number n, where that is not the number of a shape of words
 pub shape_is : (s : Shape) (n : ℕ) → eqb n 7 ≡ false → shape_number s ≡ n → s ≡ shape_at n
 shape_is s n h e = sym (shape_back s (subst (λ (m : ℕ). eqb m 7 ≡ false) (sym e) h)) ∙ ap shape_at e
+
+-- as `==` tells: the shape, or another
+pub same_number : (t : MessageType) → eqb (type_number t) (type_number t) ≡ true
+same_number t = eq-eqb _ _ refl
+
+pub other_shape : (s : Shape) (n : ℕ) → eqb n 7 ≡ false → (s ≡ shape_at n → ⊥) → eqb (shape_number s) n ≡ false
+other_shape s n h other = ne_eqb _ _ (λ e. other (shape_is s n h e))
+
+pub other_type : (s : Shape) (t : MessageType) → (s ≡ IsId t → ⊥) → eqb (shape_number s) (type_number t) ≡ false
+other_type s t other = other_shape s (type_number t) (type_back t).0 (λ e. other (e ∙ (type_back t).1))
 
 -- ---- the arm `_`
 

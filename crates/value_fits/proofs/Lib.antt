@@ -2,7 +2,6 @@ pub mod Blanks
 pub mod ByNumber
 pub mod Decides
 pub mod Gradients
-pub mod Plain
 pub mod Ranges
 pub mod Unused
 pub mod Unique

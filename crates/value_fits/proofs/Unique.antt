@@ -11,8 +11,6 @@ use Rattle.text.specs.Shapes.{Answers}
 
 pub record Within : Type 0 where
   pub numbers_are_listed : Answers numbers_contracts.are_listed.ended numbers.are_listed.Reads.Asked numbers.are_listed.Reads.Learnt
-  pub shapes_type_number : Answers shapes_contracts.type_number.ended shapes.type_number.Reads.Asked shapes.type_number.Reads.Learnt
-  pub shapes_number : Answers shapes_contracts.number.ended shapes.number.Reads.Asked shapes.number.Reads.Learnt
   pub shapes_is_among : Answers shapes_contracts.is_among.ended shapes.is_among.Reads.Asked shapes.is_among.Reads.Learnt
   pub shapes_fewest : Answers shapes_contracts.fewest.ended shapes.fewest.Reads.Asked shapes.fewest.Reads.Learnt
   pub shapes_most : Answers shapes_contracts.most.ended shapes.most.Reads.Asked shapes.most.Reads.Learnt
@@ -23,8 +21,6 @@ pub within : Within
 within =
     record {
       numbers_are_listed = (λ κs a. tt, λ κs a. equation _);
-      shapes_type_number = (λ κs a. tt, λ κs a. equation _);
-      shapes_number = (λ κs a. tt, λ κs a. equation _);
       shapes_is_among = (λ κs a. tt, λ κs a. equation _);
       shapes_fewest = (λ κs a. tt, λ κs a. equation _);
       shapes_most = (λ κs a. tt, λ κs a. equation _);

@@ -7,60 +7,42 @@ mod texts;
 pub mod triples;
 
 ghost use Rattle.value_fits.specs.Fits.{fits, holds};
-ghost use Rattle.value.specs.Texts.{lent_rooms};
+ghost use Rattle.value.specs.Texts.{rooms_in};
 ghost use Rattle.std.specs.Prelude.{◌≡◌};
 
-use value::{Kind, Shape, Value};
-use value_list::Triple;
+use value::{Kind, Rooms, Shape, Value};
 use value_name::MessageType;
 
 // Whether a value that is not blank fits a shape.
-fn fits(
-    t: MessageType,
-    s: Shape,
-    v: Value,
-    unit: &[u8],
-    reason: &[u8],
-    note: &[u8],
-    gradients: [Triple; 16],
-) -> bool
-    ensures { result ≡ fits t (lent_rooms unit reason note gradients) s v }
+fn fits(t: MessageType, s: Shape, v: Value, rooms: &Rooms<'_>) -> bool
+    ensures { result ≡ fits t (rooms_in rooms.now) s v }
 {
-    let n = shapes::number(s);
     match v {
         Value::Blank => false,
-        Value::Id(x) => (n == shapes::type_number(t)) & (x < 10000000000),
-        Value::Unit(x) => (n == 1) & texts::is_unit(unit, x),
-        Value::When(d) => (n == 2) & value_date::is_real(d),
-        Value::Amount(x) => (n == 3) & value_bounds::is_amount(x),
-        Value::Count(x) => (n == 4) & (x < 10000000000),
-        Value::Reason(x) => (n == 5) & texts::is_kept(reason, 128, x),
-        Value::Note(x) => (n == 6) & texts::is_kept(note, 256, x),
+        Value::Id(x) => s == Shape::IsId(t) && x < 10000000000,
+        Value::Unit(x) => s == Shape::IsUnit && texts::is_unit(rooms.unit, x),
+        Value::When(d) => s == Shape::IsWhen && value_date::is_real(d),
+        Value::Amount(x) => s == Shape::IsAmount && value_bounds::is_amount(x),
+        Value::Count(x) => s == Shape::IsCount && x < 10000000000,
+        Value::Reason(x) => s == Shape::IsReason && texts::is_kept(rooms.reason, 128, x),
+        Value::Note(x) => s == Shape::IsNote && texts::is_kept(rooms.note, 256, x),
         Value::Word(x) => shapes::is_among(s, x),
         Value::List(x) => numbers::are_listed(x, shapes::fewest(s), shapes::most(s)),
-        Value::Triples(x) => (n == 10) & triples::are_listed(gradients, x),
-        Value::Voltage(x) => (n == 11) & value_bounds::is_amount(x.0),
-        Value::Regulator(x) => (n == 12) & value_bounds::is_amount(x.0),
-        Value::Change(x) => (n == 13) & value_bounds::is_amount(x.0),
-        Value::Reactive(x) => (n == 14) & value_bounds::is_amount(x.0),
+        Value::Triples(x) => s == Shape::IsTriples && triples::are_listed(*rooms.gradients, x),
+        Value::Voltage(x) => s == Shape::IsVoltage && value_bounds::is_amount(x.0),
+        Value::Regulator(x) => s == Shape::IsRegulator && value_bounds::is_amount(x.0),
+        Value::Change(x) => s == Shape::IsChange && value_bounds::is_amount(x.0),
+        Value::Reactive(x) => s == Shape::IsReactive && value_bounds::is_amount(x.0),
     }
 }
 
 // Whether a kind may hold a value: a blank where it lets one stand, or else what fits its shape.
-pub fn holds(
-    t: MessageType,
-    k: Kind,
-    v: Value,
-    unit: &[u8],
-    reason: &[u8],
-    note: &[u8],
-    gradients: [Triple; 16],
-) -> bool
-    ensures { result ≡ holds t (lent_rooms unit reason note gradients) k v }
+pub fn holds(t: MessageType, k: Kind, v: Value, rooms: &Rooms<'_>) -> bool
+    ensures { result ≡ holds t (rooms_in rooms.now) k v }
 {
     if !value_ask::is_filled(v) {
         return k.blank;
     }
     let s = k.shape;
-    fits(t, s, v, unit, reason, note, gradients)
+    fits(t, s, v, rooms)
 }

@@ -9,18 +9,7 @@ use value_name::unit;
 fn all_plain(s: &[u8]) -> bool
     ensures { result ≡ all is_plain s.now }
 {
-    let mut i = 0;
-    while i < s.len() {
-        let b = s[i];
-        if b < 32 {
-            return false;
-        }
-        if 126 < b {
-            return false;
-        }
-        i += 1;
-    }
-    true
+    s.iter().all(|b| (32 <= *b) & (*b <= 126))
 }
 
 fn is_tidy(s: &[u8]) -> bool

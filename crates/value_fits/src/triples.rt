@@ -24,37 +24,20 @@ fn are_ranged(values: [Triple; 16], n: usize) -> bool
     requires { n ≤ 16 }
     ensures { result ≡ all is_ranged (take n values) }
 {
-    let mut i = 0;
-    while i < n {
-        if !is_ranged(values[i]) {
-            return false;
-        }
-        i += 1;
-    }
-    true
+    values[..n].iter().all(|x| is_ranged(*x))
 }
 
 // The triples from the place n on are zero.
 pub fn are_none(values: [Triple; 16], n: usize) -> bool
     ensures { result ≡ all is_no_triple (drop n values) }
 {
-    let mut i = n;
-    while i < 16 {
-        if !is_no_triple(values[i]) {
-            return false;
-        }
-        i += 1;
-    }
-    true
+    values.iter().skip(n).all(|x| is_no_triple(*x))
 }
 
 pub fn are_listed(values: [Triple; 16], n: usize) -> bool
     ensures { result ≡ are_triples values n }
 {
-    if n < 1 {
-        return false;
-    }
-    if 16 < n {
+    if n < 1 || 16 < n {
         return false;
     }
     are_ranged(values, n) & are_none(values, n)

@@ -1,5 +1,6 @@
 -- Reading a list part by part, for any element, any reader of one, any room.
 -- Assumes nothing.
+use Rattle.std.specs.Prelude.{None, Option, Some}
 use Prim.Native.Nat.{ℕ, suc, ◌+◌, ◌-◌, ◌≤◌, ◌<◌}
 use Rattle.value_list.specs.Lists.{cut_at, cons_read, every_of, counted, some_of}
 use Rattle.text.proofs.Cuts.{upto_take, past_drop, upto_length, upto_all}
@@ -11,7 +12,6 @@ use lib.ListN.{length, take, drop, set, replicate, length-append, length-drop, l
 use lib.Seq.{drop-drop, drop-cons, take-suc-set, drop-set-lt, length-take-le}
 use mathlib.Core.Bool.{true, false, and-false, false≢true}
 use mathlib.Core.List.{List, [], ◌∷◌, ◌++◌, append_assoc}
-use mathlib.Core.Option.{Option, none, some}
 use mathlib.Core.Path.{◌≡◌, refl, sym, ap, ◌∙◌}
 use native.Mathlib.Numerals.{add-one}
 use native.Mathlib.Omega.{arith}
@@ -76,30 +76,30 @@ module _ (sep : ℕ) (s : List ℕ) (at e : ℕ) (inside : at ≤ length s) (ee 
 -- ---- what was read, before what is read of the rest
 
 unfoldable pub onto : {A : Type 0} → List A → Option (List A) → Option (List A)
-onto done none = none
-onto done (some l) = some (done ++ l)
+onto done None = None
+onto done (Some l) = Some (done ++ l)
 
 onto_nil : {A : Type 0} (r : Option (List A)) → r ≡ onto [] r
 unfolding onto
-onto_nil none = refl
-onto_nil (some l) = refl
+onto_nil None = refl
+onto_nil (Some l) = refl
 
-onto_one : {A : Type 0} (done : List A) (a : A) (r : Option (List A)) → onto done (cons_read (some a) r) ≡ onto (done ++ (a ∷ [])) r
+onto_one : {A : Type 0} (done : List A) (a : A) (r : Option (List A)) → onto done (cons_read (Some a) r) ≡ onto (done ++ (a ∷ [])) r
 unfolding cons_read onto
-onto_one done a none = refl
-onto_one done a (some l) = ap some (sym (append_assoc done (a ∷ []) l))
+onto_one done a None = refl
+onto_one done a (Some l) = ap Some (sym (append_assoc done (a ∷ []) l))
 
-onto_end : {A : Type 0} (done : List A) (a : A) → onto done (cons_read (some a) (some [])) ≡ some (done ++ (a ∷ []))
+onto_end : {A : Type 0} (done : List A) (a : A) → onto done (cons_read (Some a) (Some [])) ≡ Some (done ++ (a ∷ []))
 unfolding cons_read onto
 onto_end done a = refl
 
 -- what is read of a text is never nothing
 more_than : {A : Type 0} (done : List A) (first : Option A) (r : Option (List A)) (least most : ℕ) → most ≤ length done
-    → counted least most (onto done (cons_read first r)) ≡ none
+    → counted least most (onto done (cons_read first r)) ≡ None
 unfolding cons_read onto counted
-more_than done none r least most h = refl
-more_than done (some a) none least most h = refl
-more_than done (some a) (some l) least most h =
+more_than done None r least most h = refl
+more_than done (Some a) None least most h = refl
+more_than done (Some a) (Some l) least most h =
     let n : most < length (done ++ (a ∷ l)) = omega (arith, length-append done (a ∷ l)) in
     simp (lt-leb _ _ n, and-false)
 
@@ -122,7 +122,7 @@ module _ {A : Type 0} (read : List ℕ → Option A) (sep : ℕ) (z : A) where
       }
 
   -- more parts than may be
-  pub too_many : (s : List ℕ) (at n : ℕ) (room : List A) (least most : ℕ) → Sofar s at n room → most ≤ n → some_of read sep least most s ≡ none
+  pub too_many : (s : List ℕ) (at n : ℕ) (room : List A) (least most : ℕ) → Sofar s at n room → most ≤ n → some_of read sep least most s ≡ None
   unfolding some_of every_of
   too_many s at n room least most f h =
       let c = cut_first sep (drop at s) in
@@ -134,13 +134,13 @@ module _ {A : Type 0} (read : List ℕ → Option A) (sep : ℕ) (z : A) where
     ends = part_ends sep s at e f.inside ee
 
     -- a part that cannot be read
-    pub bad_part : (least most : ℕ) → read (trim (part at e s)) ≡ none → some_of read sep least most s ≡ none
+    pub bad_part : (least most : ℕ) → read (trim (part at e s)) ≡ None → some_of read sep least most s ≡ None
     unfolding some_of every_of cons_read onto counted
     bad_part least most h =
-        let b : every_of read (cut_at sep s) ≡ none = f.all_parts ∙ rw ((part_first sep s at e f.inside ee).1, h) in
+        let b : every_of read (cut_at sep s) ≡ None = f.all_parts ∙ rw ((part_first sep s at e f.inside ee).1, h) in
         ap (counted least most) b
 
-    module _ (a : A) (fits : n < length room) (h : read (trim (part at e s)) ≡ some a) where
+    module _ (a : A) (fits : n < length room) (h : read (trim (part at e s)) ≡ Some a) where
       taken_one : take (n + 1) (set room n a) ≡ take n room ++ (a ∷ [])
       taken_one = rw (add-one n) (take-suc-set room n a fits)
 
@@ -168,18 +168,18 @@ module _ {A : Type 0} (read : List ℕ → Option A) (sep : ℕ) (z : A) where
 
       -- the last part
       module _ (el : e ≡ length s) where
-        last_part : every_of read (cut_at sep s) ≡ some (take (n + 1) (set room n a))
+        last_part : every_of read (cut_at sep s) ≡ Some (take (n + 1) (set room n a))
         unfolding every_of
         last_part = f.all_parts ∙ rw (part_last sep s at e f.inside ee el, h, taken_one) (onto_end (take n room) a)
 
         pub read_count : length (take (n + 1) (set room n a)) ≡ n + 1
         read_count = length-take-le (n + 1) (set room n a) (rw (length-set room n a) (omega arith))
 
-        pub too_few : (least most : ℕ) → n + 1 < least → some_of read sep least most s ≡ none
+        pub too_few : (least most : ℕ) → n + 1 < least → some_of read sep least most s ≡ None
         unfolding some_of counted
         too_few least most l = ap (counted least most) last_part ∙ rw (read_count, lt-leb _ _ l)
 
-        pub all_read : (least most : ℕ) → least ≤ n + 1 → n + 1 ≤ most → some_of read sep least most s ≡ some (take (n + 1) (set room n a))
+        pub all_read : (least most : ℕ) → least ≤ n + 1 → n + 1 ≤ most → some_of read sep least most s ≡ Some (take (n + 1) (set room n a))
         unfolding some_of counted
         all_read least most l m = ap (counted least most) last_part ∙ rw (read_count, le-leb _ _ l, le-leb _ _ m)
 

@@ -16,7 +16,7 @@ fn part_end(s: &[u8], at: usize, sep: u8) -> usize
 }
 
 // Up to four numbers in thousandths; those past the count are zero.
-#[derive(Clone, Copy)]
+#[derive(Clone, Copy, PartialEq, Eq)]
 pub struct Numbers {
     pub count: u8,
     pub first: i32,
@@ -25,37 +25,17 @@ pub struct Numbers {
     pub fourth: i32,
 }
 
-// The numbers of a list, or that it is none.
-#[derive(Clone, Copy)]
-pub enum Listed {
-    Are(Numbers),
-    Bad,
-}
-
 // A band of power with its gradient, in thousandths.
-#[derive(Clone, Copy)]
+#[derive(Clone, Copy, PartialEq, Eq)]
 pub struct Triple {
     pub low: i32,
     pub high: i32,
     pub gradient: i32,
 }
 
-#[derive(Clone, Copy)]
-pub enum One {
-    It(Triple),
-    No,
-}
-
 // Triples in a fixed room; those past the count are zero.
-#[derive(Clone, Copy)]
+#[derive(Clone, Copy, PartialEq, Eq)]
 pub struct Gradients {
     pub count: usize,
     pub values: [Triple; 16],
-}
-
-// Gradients that were read, and whether they are any: where they are not good there are none. (An enum may hold no array.)
-#[derive(Clone, Copy)]
-pub struct GradientsRead {
-    pub good: bool,
-    pub list: Gradients,
 }

@@ -1,26 +1,24 @@
 // Gradients: one to sixteen triples `Pmin,Pmax,Grad` between ';'.
-ghost use Rattle.std.specs.Prelude.{◌+◌, ◌<◌, min, replicate, true, false, ◌≡◌};
-ghost use Rattle.value_list.specs.Forms.{one_in, no_triple, gradients_in, triple_text, gradients_text};
+ghost use Rattle.std.specs.Prelude.{◌+◌, ◌<◌, replicate, true, false, ◌≡◌};
+ghost use Rattle.value_list.specs.Forms.{one_in, gradients_in, kept_triples, counted_triples, triple_text, gradients_text};
 ghost use Rattle.text.specs.Bytes.{trim};
 ghost use Rattle.text.specs.Puts.{limit, Puts};
 
-use crate::{Gradients, GradientsRead, Listed, Numbers, One, Triple, few};
+use crate::{Gradients, Numbers, Triple, few};
 use text::{put, scan};
 
-fn read_triple(s: &[u8]) -> One
+fn read_triple(s: &[u8]) -> Option<Triple>
     ensures { result ≡ one_in s.now }
 {
-    match few::read(s, b',', 3, 3) {
-        Listed::Are(x) => One::It(Triple {
-            low: x.first,
-            high: x.second,
-            gradient: x.third,
-        }),
-        Listed::Bad => One::No,
-    }
+    let x = few::read(s, b',', 3, 3)?;
+    Some(Triple {
+        low: x.first,
+        high: x.second,
+        gradient: x.third,
+    })
 }
 
-fn part_triple(s: &[u8]) -> One
+fn part_triple(s: &[u8]) -> Option<Triple>
     ensures { result ≡ one_in (trim s.now) }
 {
     read_triple(scan::trim(s))
@@ -32,40 +30,40 @@ const NO_TRIPLE: Triple = Triple {
     gradient: 0,
 };
 
-pub fn none() -> GradientsRead
-    ensures { result ≡ record { good = false; list = record { count = 0; values = replicate 16 no_triple } } }
-{
-    let values = [NO_TRIPLE; 16];
-    let list = Gradients { count: 0, values };
-    GradientsRead { good: false, list }
-}
-
-fn are(count: usize, values: [Triple; 16]) -> GradientsRead
-    ensures { result ≡ record { good = true; list = record { count = count; values = values } } }
-{
-    let list = Gradients { count, values };
-    GradientsRead { good: true, list }
-}
-
-pub fn read(s: &[u8]) -> GradientsRead
+pub fn read(s: &[u8]) -> Option<Gradients>
     ensures { result ≡ gradients_in s.now }
 {
     let mut values = [NO_TRIPLE; 16];
-    let mut n = 0;
     let mut at = 0;
-    while n < 16 {
+    for n in 0..16 {
         let e = crate::part_end(s, at, b';');
-        let One::It(t) = part_triple(&s[at..e]) else {
-            return none();
-        };
-        values[n] = t;
-        n += 1;
+        values[n] = part_triple(&s[at..e])?;
         if e == s.len() {
-            return are(n, values);
+            return Some(Gradients {
+                count: n + 1,
+                values,
+            });
         }
         at = e + 1;
     }
-    none()
+    None
+}
+
+// The triples as a record keeps them: none where none were read.
+pub fn kept(read: Option<Gradients>) -> [Triple; 16]
+    ensures { result ≡ kept_triples read }
+{
+    match read {
+        Some(list) => list.values,
+        None => [NO_TRIPLE; 16],
+    }
+}
+
+// And how many they are.
+pub fn counted(read: Option<Gradients>) -> Option<usize>
+    ensures { result ≡ counted_triples read }
+{
+    read.map(|list| list.count)
 }
 
 fn put_triple(out: &mut [u8], at: usize, t: Triple) -> usize
@@ -82,28 +80,19 @@ fn put_triple(out: &mut [u8], at: usize, t: Triple) -> usize
     few::put(out, at, three, b',')
 }
 
-// No more than there is room for.
-fn at_most_16(n: usize) -> usize
-    ensures { result ≡ min n 16 }
-{
-    if n < 16 { n } else { 16 }
-}
-
-// The first n triples, put at a place.
+// The first n triples, of which there are no more than there is room for, put at a place.
 pub fn put(out: &mut [u8], at: usize, values: [Triple; 16], n: usize) -> usize
     requires { at + 2000 < limit }
     ensures { Puts out.old at (gradients_text values n) result out.new }
 {
-    let held = at_most_16(n);
+    let held = n.min(16);
     if held == 0 {
         return at;
     }
     let mut p = put_triple(out, at, values[0]);
-    let mut i = 1;
-    while i < held {
+    for i in 1..held {
         let q = put::put_byte(out, p, b';');
         p = put_triple(out, q, values[i]);
-        i += 1;
     }
     p
 }

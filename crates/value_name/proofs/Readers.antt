@@ -1,4 +1,5 @@
 -- The ways through the readers of an identifier and of a sequence. Assumes nothing.
+use Rattle.std.specs.Prelude.{None, Option}
 use Prim.Native.Nat.{ℕ, ◌-◌, ◌≤◌, ◌<◌}
 use Rattle.value_name.specs.Names.{prefix_of, exactly, identifier_of, sequence_of}
 use Rattle.value_name.specs.Types.{code_of}
@@ -7,8 +8,6 @@ use Rattle.value_name.specs.declared.MessageType.TheVariants.{Cb, Rc, Mg, Eb, Lb
 use Rattle.text.proofs.Cuts.{tail}
 use Rattle.text.specs.Bytes.{same}
 use Rattle.text.specs.Digits.{digits_of}
-use Rattle.text.specs.declared.digits.Digits.{Digits}
-use Rattle.text.specs.declared.digits.Digits.TheVariants.{Not}
 use borrow.Author.Tests.{eq-eqb, ne_eqb, lt-ltb, le-ltb}
 use lib.ListN.{length, get_or, take, drop, length-drop}
 use mathlib.Core.Bool.{Bool, true, false, cond, and-false}
@@ -38,18 +37,18 @@ cond_same true x = refl
 cond_same false x = refl
 
 module _ (t : MessageType) (s : List ℕ) where
-  pub identifier_sized : (length s ≡ 13 → ⊥) → Not ≡ identifier_of t s
+  pub identifier_sized : (length s ≡ 13 → ⊥) → None ≡ identifier_of t s
   unfolding identifier_of exactly
   identifier_sized n =
       let k : length (drop 3 s) ≡ 10 → ⊥ = λ e. n (omega (arith, length-drop 3 s)) in
-      rw (ne_eqb (length (drop 3 s)) 10 k) (cond_same (same (take 3 s) (prefix_of t)) Not)
+      rw (ne_eqb (length (drop 3 s)) 10 k) (cond_same (same (take 3 s) (prefix_of t)) None)
 
   module _ (code : List ℕ) (b : Bool) (code_is : code ≡ prefix_of t) (told : b ≡ same (take 3 s) code) where
-    pub identifier_other : b ≡ false → Not ≡ identifier_of t s
+    pub identifier_other : b ≡ false → None ≡ identifier_of t s
     unfolding identifier_of
     identifier_other n = rw (sym code_is, sym told, n)
 
-    pub identifier_read : (d : Digits) → length s ≡ 13 → b ≡ true → d ≡ digits_of 10 (take (length s - 3) (drop 3 s)) → d ≡ identifier_of t s
+    pub identifier_read : (d : Option ℕ) → length s ≡ 13 → b ≡ true → d ≡ digits_of 10 (take (length s - 3) (drop 3 s)) → d ≡ identifier_of t s
     unfolding identifier_of exactly
     identifier_read d l y e =
         let k : length (drop 3 s) ≡ 10 = omega (arith, length-drop 3 s) in
@@ -58,7 +57,7 @@ module _ (t : MessageType) (s : List ℕ) where
 -- ---- sequence
 
 module _ (s : List ℕ) where
-  pub sequence_zero : 2 ≤ length s → get_or s 0 0 ≡ 48 → Not ≡ sequence_of s
+  pub sequence_zero : 2 ≤ length s → get_or s 0 0 ≡ 48 → None ≡ sequence_of s
   unfolding sequence_of
   sequence_zero h e = rw (eq-eqb (get_or s 0 0) 48 e, lt-ltb 1 (length s) h)
 

@@ -1,4 +1,5 @@
 -- What is written reads back, what is read is in range, and every text that is written can stand as a value. Assumes nothing.
+use Rattle.std.specs.Prelude.{None, Option, Some}
 use Prim.Native.Nat.{ℕ, ◌+◌, ◌-◌, ◌^◌, ◌≤◌, ◌<◌}
 use Rattle.value_name.proofs.Units.{unit_tells, by_kind}
 use Rattle.value_name.specs.Names.{prefix_of, exactly, identifier_of, identifier_text, is_unit_byte, is_unit, sequence_of, sequence_text}
@@ -10,8 +11,6 @@ use Rattle.text.proofs.Tests.{by_le, and_parts, within_tells}
 use Rattle.text.proofs.Trims.{tidy_none}
 use Rattle.text.specs.Bytes.{same, all, is, within, is_digit, is_blank, is_plain, tidy}
 use Rattle.text.specs.Digits.{digits_text, whole_text}
-use Rattle.text.specs.declared.digits.Digits.{Digits}
-use Rattle.text.specs.declared.digits.Digits.TheVariants.{Are, Not}
 use borrow.Author.Tests.{ne_eqb, le-ltb}
 use lib.Dec.{eqb, ltb}
 use lib.ListN.{length, get_or, take, drop, length-append}
@@ -57,22 +56,22 @@ prefix_is Ri = (refl, refl)
 prefix_is Qr = (refl, refl)
 
 -- a choice that gives a number is that of the number
-pub took : (t : Bool) (d : Digits) (n : ℕ) → cond t d Not ≡ Are n → (t ≡ true) × (d ≡ Are n)
+pub took : (t : Bool) (d : Option ℕ) (n : ℕ) → cond t d None ≡ Some n → (t ≡ true) × (d ≡ Some n)
 took true d n e = (refl, e)
 took false d n e = let z : ◌≡◌ {A = ℕ} 0 1 = cc in absurd (omega arith)
 
-pub left : (t : Bool) (d : Digits) (n : ℕ) → cond t Not d ≡ Are n → d ≡ Are n
+pub left : (t : Bool) (d : Option ℕ) (n : ℕ) → cond t None d ≡ Some n → d ≡ Some n
 left true d n e = let z : ◌≡◌ {A = ℕ} 0 1 = cc in absurd (omega arith)
 left false d n e = e
 
-pub identifier_back : (t : MessageType) (n : ℕ) → n < 10 ^ 10 → identifier_of t (identifier_text t n) ≡ Are n
+pub identifier_back : (t : MessageType) (n : ℕ) → n < 10 ^ 10 → identifier_of t (identifier_text t n) ≡ Some n
 unfolding identifier_of identifier_text exactly
 identifier_back t n h =
     let p = (prefix_is t).0 in
     let d = digits_text 10 n in
     rw (take_at (prefix_of t) d 3 p, drop_at (prefix_of t) d 3 p, same_refl (prefix_of t), length_text 10 n) (text_back 10 10 n (omega arith) (omega arith) h)
 
-pub identifier_range : (t : MessageType) (s : List ℕ) (n : ℕ) → identifier_of t s ≡ Are n → n < 10 ^ 10
+pub identifier_range : (t : MessageType) (s : List ℕ) (n : ℕ) → identifier_of t s ≡ Some n → n < 10 ^ 10
 unfolding identifier_of exactly
 identifier_range t s n e =
     below 10 (drop 3 s) n (took (eqb (length (drop 3 s)) 10) _ n (took (same (take 3 s) (prefix_of t)) _ n e).1).1
@@ -99,11 +98,11 @@ whole_first k n h =
     let f = first_digit (w.count - 1) n (w.needed o) (rw (sym j) (w.holds h)) in
     rw (w.text, ne_eqb (get_or (digits_text w.count n) 0 0) 48 (rw (sym j) at f)) (and-false (ltb 1 (length (digits_text w.count n)))))
 
-pub sequence_back : (n : ℕ) → n < 10 ^ 10 → sequence_of (sequence_text n) ≡ Are n
+pub sequence_back : (n : ℕ) → n < 10 ^ 10 → sequence_of (sequence_text n) ≡ Some n
 unfolding sequence_of
 sequence_back n h = rw (whole_first 9 n h) (whole_back 10 9 n (omega arith) h)
 
-pub sequence_range : (s : List ℕ) (n : ℕ) → sequence_of s ≡ Are n → n < 10 ^ 10
+pub sequence_range : (s : List ℕ) (n : ℕ) → sequence_of s ≡ Some n → n < 10 ^ 10
 unfolding sequence_of
 sequence_range s n e = below 10 s n (left (ltb 1 (length s) && is 48 (get_or s 0 0)) _ n e)
 

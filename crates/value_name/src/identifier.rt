@@ -5,7 +5,6 @@ ghost use Rattle.text.specs.Puts.{limit};
 ghost use Rattle.std.proofs.lemmas.List.Edits.{sets};
 
 use crate::MessageType;
-use text::digits::Digits;
 use text::{digits, put, scan};
 
 // A type's code with its '-'.
@@ -16,15 +15,15 @@ fn prefix(t: MessageType) -> [u8; 3]
     [code[0], code[1], b'-']
 }
 
-pub fn read(t: MessageType, s: &[u8]) -> Digits
+pub fn read(t: MessageType, s: &[u8]) -> Option<u64>
     ensures { result ≡ identifier_of t s.now }
 {
     if s.len() != 13 {
-        return Digits::Not;
+        return None;
     }
     let code = prefix(t);
     if !scan::same(&s[..3], &code) {
-        return Digits::Not;
+        return None;
     }
     digits::read_digits(&s[3..], 10)
 }

@@ -9,7 +9,7 @@ ghost use Rattle.value_name.specs.Types.{code_of};
 ghost use Rattle.std.specs.Prelude.{◌≡◌};
 
 // The types that an address can have. The type comes from the address plan, never from the message.
-#[derive(Clone, Copy)]
+#[derive(Clone, Copy, PartialEq, Eq)]
 pub enum MessageType {
     Cb,
     Rc,

@@ -3,16 +3,15 @@ ghost use Rattle.value_name.specs.Names.{sequence_of};
 ghost use Rattle.std.specs.Prelude.{◌≡◌};
 
 use text::digits;
-use text::digits::Digits;
 
-pub fn read(s: &[u8]) -> Digits
+pub fn read(s: &[u8]) -> Option<u64>
     ensures { result ≡ sequence_of s.now }
 {
     if s.len() < 2 {
         return digits::read_digits(s, 10);
     }
     if s[0] == b'0' {
-        return Digits::Not;
+        return None;
     }
     digits::read_digits(s, 10)
 }

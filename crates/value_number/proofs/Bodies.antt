@@ -1,7 +1,7 @@
 -- The body of a part, for a separator that is not of a number: past digits, at a byte of a number, and behind the number. Assumes nothing.
 use Prim.Native.Nat.{ℕ, min, ◌+◌, ◌-◌, ◌≤◌, ◌<◌}
 use Rattle.value_number.specs.Parts.{part_end, is_of_number, part_body}
-use Rattle.text.proofs.Cuts.{upto_take, upto_on, upto_over, skip_here, skip_none, skip_drop, all_none}
+use Rattle.text.proofs.Cuts.{upto_take, upto_on, upto_over, skip_drop, all_none}
 use Rattle.text.proofs.Fronts.{run_front}
 use Rattle.text.proofs.Numerals.{digit_range}
 use Rattle.text.proofs.Tests.{by_test, and_parts}
@@ -39,15 +39,6 @@ end_some p [] h = absurd (true≢false h)
 end_some p (x ∷ l) h =
     by_test (p x) (λ e. keep_some p x (skip_end p l) (end_some p l (rw e at h)))
     (λ e. rw (keep_no p x (skip_end p l) e) (omega arith))
-
--- ---- the blanks at a place
-
-module _ (s : List ℕ) (at i : ℕ) (h : at ≤ i) (k : i ≤ length s) (so_far : skip is_blank (drop at s) ≡ skip is_blank (drop i s)) where
-  pub blank_here : i < length s → (get_or s i 0 ≡ 32 → ⊥) → i ≡ at + run_of is_blank (drop at s)
-  blank_here l n = omega (arith, ap length (so_far ∙ skip_here is_blank 0 s i l (ne_eqb _ _ n)), length-drop i s, length-drop at s)
-
-  pub blank_end : length s ≤ i → i ≡ at + run_of is_blank (drop at s)
-  blank_end l = omega (arith, ap length (so_far ∙ skip_none is_blank s i l), length-drop at s)
 
 -- ---- the body
 

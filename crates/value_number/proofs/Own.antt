@@ -1,17 +1,15 @@
 -- A text that is read as a number and that stands in its shortest form is the number's own text. Assumes nothing.
+use Rattle.std.specs.Prelude.{None, Option, Some}
 use Prim.Native.Nat.{ℕ, zero, suc, ◌+◌, ◌-◌, ◌*◌, ◌/◌, ◌%◌, ◌^◌, ◌≤◌, ◌<◌}
 use Rattle.value_number.proofs.Laws.{fraction_below}
 use Rattle.value_number.proofs.Texts.{fraction_less, fraction_here, decimals_some}
 use Rattle.value_number.specs.Number.{scaled, fraction_of, joined_digits, unsigned_of, plus, minus, number_of}
 use Rattle.value_number.specs.Number.{fraction_text, sign_text, number_text, zero_fits, decimals_past, short_from, are_short}
-use Rattle.value_number.specs.declared.Number.TheVariants.{Is}
 use Rattle.text.proofs.Backs.{digits_back, whole_own}
 use Rattle.text.proofs.Numerals.{digit_range, told}
 use Rattle.text.proofs.Tests.{by_eq, by_test, and_parts}
 use Rattle.text.specs.Bytes.{all, any, upto, is_digit, is_blank, first_of}
 use Rattle.text.specs.Digits.{number_from, number_in, digits_of, digits_text, whole_text}
-use Rattle.text.specs.declared.digits.Digits.{Digits}
-use Rattle.text.specs.declared.digits.Digits.TheVariants.{Are, Not}
 use borrow.Author.Tests.{eq-eqb, ne_eqb, eqb-true, not-true}
 use lib.Dec.{eqb}
 use lib.IntN.{ℤ, pos, negsuc}
@@ -138,7 +136,7 @@ module _ (u : List ℕ) (p : ℕ) (other : is_digit p ≡ false) (short : short_
   cut t e = sym (take-append-drop k u) ∙ ap (λ (x : List ℕ). take k u ++ x) e
 
   -- digits and nothing, or digits, a point and decimals
-  own_whole : (w : ℕ) → digits_of 6 (take k u) ≡ Are w → drop k u ≡ [] → thousandths (w * 1000) ≡ u
+  own_whole : (w : ℕ) → digits_of 6 (take k u) ≡ Some w → drop k u ≡ [] → thousandths (w * 1000) ≡ u
   unfolding fraction_text
   own_whole w hw ht =
       let d = told 6 (take k u) w hw in
@@ -148,7 +146,7 @@ module _ (u : List ℕ) (p : ℕ) (other : is_digit p ≡ false) (short : short_
       let whole = whole_short (take k u) [] p d.all_digits d.filled d.short other (rw (cut [] ht) at short) in
       ap₂ (λ (a b : List ℕ). a ++ b) (ap (whole_text 6) (v ∙ sym d.value) ∙ whole) (ap (fraction_text 3) z ∙ none) ∙ sym (cut [] ht)
 
-  own_both : (w f m c : ℕ) (t : List ℕ) → digits_of 6 (take k u) ≡ Are w → drop k u ≡ c ∷ t → digits_of 3 t ≡ Are m → f ≡ m * 10 ^ (3 - length t) → f < 1000
+  own_both : (w f m c : ℕ) (t : List ℕ) → digits_of 6 (take k u) ≡ Some w → drop k u ≡ c ∷ t → digits_of 3 t ≡ Some m → f ≡ m * 10 ^ (3 - length t) → f < 1000
       → thousandths (w * 1000 + f) ≡ u
   own_both w f m c t hw ht hm hf low =
       let d = told 6 (take k u) w hw in
@@ -163,7 +161,7 @@ module _ (u : List ℕ) (p : ℕ) (other : is_digit p ≡ false) (short : short_
       let g = z ∙ hf ∙ ap (λ (y : ℕ). y * 10 ^ (3 - length t)) (sym x.value) in
       ap₂ (λ (a b : List ℕ). a ++ b) (ap (whole_text 6) (v ∙ sym d.value) ∙ whole) (ap (fraction_text 3) g ∙ decimals) ∙ sym point
 
-  own : (w f : ℕ) (t : List ℕ) → digits_of 6 (take k u) ≡ Are w → drop k u ≡ t → fraction_of t ≡ Are f
+  own : (w f : ℕ) (t : List ℕ) → digits_of 6 (take k u) ≡ Some w → drop k u ≡ t → fraction_of t ≡ Some f
       → thousandths (w * 1000 + f) ≡ u
   unfolding fraction_of scaled
   own w f [] hw ht hf =
@@ -172,41 +170,41 @@ module _ (u : List ℕ) (p : ℕ) (other : is_digit p ≡ false) (short : short_
       rw z (own_whole w hw ht)
   own w f (c ∷ t) hw ht hf = go (digits_of 3 t) refl hf
     where
-      go : (x : Digits) → digits_of 3 t ≡ x → scaled t x ≡ Are f → thousandths (w * 1000 + f) ≡ u
-      go (Are m) hm e = let g : f ≡ m * 10 ^ (3 - length t) = cc in own_both w f m c t hw ht hm g (fraction_below (c ∷ t) f hf)
-      go Not hm e = let z : ◌≡◌ {A = ℕ} 0 1 = cc in absurd (omega arith)
+      go : (x : Option ℕ) → digits_of 3 t ≡ x → scaled t x ≡ Some f → thousandths (w * 1000 + f) ≡ u
+      go (Some m) hm e = let g : f ≡ m * 10 ^ (3 - length t) = cc in own_both w f m c t hw ht hm g (fraction_below (c ∷ t) f hf)
+      go None hm e = let z : ◌≡◌ {A = ℕ} 0 1 = cc in absurd (omega arith)
 
-  unsigned_own : (n : ℕ) → unsigned_of u ≡ Are n → thousandths n ≡ u
+  unsigned_own : (n : ℕ) → unsigned_of u ≡ Some n → thousandths n ≡ u
   unfolding unsigned_of joined_digits
   unsigned_own n e = go (digits_of 6 (take k u)) (fraction_of (drop k u)) refl refl e
     where
-      go : (d f : Digits) → digits_of 6 (take k u) ≡ d → fraction_of (drop k u) ≡ f → joined_digits d f ≡ Are n → thousandths n ≡ u
-      go (Are w) (Are f) hw hf j = let z : n ≡ w * 1000 + f = cc in rw z (own w f (drop k u) hw refl hf)
-      go (Are w) Not hw hf j = let z : ◌≡◌ {A = ℕ} 0 1 = cc in absurd (omega arith)
-      go Not f hw hf j = let z : ◌≡◌ {A = ℕ} 0 1 = cc in absurd (omega arith)
+      go : (d f : Option ℕ) → digits_of 6 (take k u) ≡ d → fraction_of (drop k u) ≡ f → joined_digits d f ≡ Some n → thousandths n ≡ u
+      go (Some w) (Some f) hw hf j = let z : n ≡ w * 1000 + f = cc in rw z (own w f (drop k u) hw refl hf)
+      go (Some w) None hw hf j = let z : ◌≡◌ {A = ℕ} 0 1 = cc in absurd (omega arith)
+      go None f hw hf j = let z : ◌≡◌ {A = ℕ} 0 1 = cc in absurd (omega arith)
 
 -- ---- with its sign
 
-plus_own : (p : ℕ) (s : List ℕ) (v : ℤ) (d : Digits) → is_digit p ≡ false → unsigned_of s ≡ d → plus d ≡ Is v → short_from p false s ≡ true → number_text v ≡ s
+plus_own : (p : ℕ) (s : List ℕ) (v : ℤ) (d : Option ℕ) → is_digit p ≡ false → unsigned_of s ≡ d → plus d ≡ Some v → short_from p false s ≡ true → number_text v ≡ s
 unfolding plus number_text sign_text
-plus_own p s v (Are n) o u e h = let f : v ≡ pos n = cc in rw f (unsigned_own s p o h n u)
-plus_own p s v Not o u e h = let z : ◌≡◌ {A = ℕ} 0 1 = cc in absurd (omega arith)
+plus_own p s v (Some n) o u e h = let f : v ≡ pos n = cc in rw f (unsigned_own s p o h n u)
+plus_own p s v None o u e h = let z : ◌≡◌ {A = ℕ} 0 1 = cc in absurd (omega arith)
 
 -- no sign stands before a zero alone
 minus_zero : (s : List ℕ) → whole_text 6 0 ++ fraction_text 3 0 ≡ s → short_from 45 false s ≡ true → ⊥
 unfolding whole_text digits_text fraction_text short_from zero_fits
 minus_zero s e h = false≢true (rw (sym e) at h)
 
-minus_own : (s : List ℕ) (v : ℤ) (d : Digits) → unsigned_of s ≡ d → minus d ≡ Is v → short_from 45 false s ≡ true → number_text v ≡ 45 ∷ s
+minus_own : (s : List ℕ) (v : ℤ) (d : Option ℕ) → unsigned_of s ≡ d → minus d ≡ Some v → short_from 45 false s ≡ true → number_text v ≡ 45 ∷ s
 unfolding minus number_text sign_text
-minus_own s v (Are zero) u e h = absurd (minus_zero s (unsigned_own s 45 refl h 0 u) h)
-minus_own s v (Are (suc n)) u e h =
+minus_own s v (Some zero) u e h = absurd (minus_zero s (unsigned_own s 45 refl h 0 u) h)
+minus_own s v (Some (suc n)) u e h =
     let f : v ≡ negsuc n = cc in
     rw f (ap (λ (t : List ℕ). 45 ∷ t) (unsigned_own s 45 refl h (suc n) u))
-minus_own s v Not u e h = let z : ◌≡◌ {A = ℕ} 0 1 = cc in absurd (omega arith)
+minus_own s v None u e h = let z : ◌≡◌ {A = ℕ} 0 1 = cc in absurd (omega arith)
 
 -- behind any byte that is no digit, as in a list behind its separator
-pub own_past : (p : ℕ) (s : List ℕ) (v : ℤ) → is_digit p ≡ false → number_of s ≡ Is v → short_from p false s ≡ true → number_text v ≡ s
+pub own_past : (p : ℕ) (s : List ℕ) (v : ℤ) → is_digit p ≡ false → number_of s ≡ Some v → short_from p false s ≡ true → number_text v ≡ s
 unfolding number_of
 own_past p [] v o e h = plus_own p [] v (unsigned_of []) o refl e h
 own_past p (b ∷ s) v o e h =
@@ -215,7 +213,7 @@ own_past p (b ∷ s) v o e h =
     (λ n. plus_own p (b ∷ s) v (unsigned_of (b ∷ s)) o refl (rw (ne_eqb b 45 n) at e) h)
 
 -- THE THEOREM: a number that stands in its shortest form is its own text
-pub number_own : (s : List ℕ) (v : ℤ) → number_of s ≡ Is v → are_short s ≡ true → number_text v ≡ s
+pub number_own : (s : List ℕ) (v : ℤ) → number_of s ≡ Some v → are_short s ≡ true → number_text v ≡ s
 unfolding are_short
 number_own s v e h = own_past 0 s v refl e h
 

@@ -1,63 +1,17 @@
--- Numbers in their shortest form: what a zero may stand between, and one step along the text. Assumes nothing.
+-- Numbers in their shortest form: one step along the text. Assumes nothing.
 use Prim.Native.Nat.{ℕ, ◌+◌, ◌-◌, ◌≤◌, ◌<◌}
 use Rattle.value_number.specs.Number.{before_at, zero_fits, decimals_past, short_from}
 use Rattle.text.proofs.Cuts.{drop_step}
 use Rattle.text.proofs.Tests.{by_eq}
-use Rattle.text.specs.Bytes.{is_digit}
 use borrow.Author.Tests.{eq-eqb, ne_eqb}
 use lib.Dec.{eqb}
-use lib.ListN.{length, get_or, drop, drop_of_length-le, get_or-eq_default}
+use lib.ListN.{length, get_or, drop, drop_of_length-le}
 use lib.Seq.{get_or-drop}
 use mathlib.Core.Bool.{Bool, true, false, not, ◌&&◌, ◌||◌}
 use mathlib.Core.List.{List}
 use mathlib.Core.Path.{◌≡◌, sym, ◌∙◌}
 use native.Mathlib.Nat.{add-zero}
 use native.Mathlib.Omega.{arith}
-
--- ---- a byte past the end is none
-
-module _ (s : List ℕ) (i : ℕ) (h : length s ≤ i) where
-  pub no_byte : (b : ℕ) → 1 ≤ b → false ≡ eqb (get_or s i 0) b
-  no_byte b k = rw (get_or-eq_default s 0 {n = i} h) (sym (ne_eqb 0 b (λ e. omega arith)))
-
-  pub no_digit : false ≡ is_digit (get_or s i 0)
-  no_digit = rw (get_or-eq_default s 0 {n = i} h)
-
--- ---- a zero
-
-module _ (s : List ℕ) (i : ℕ) (decimals : Bool) where
-  -- before a digit
-  module _ (d : is_digit (get_or s (i + 1) 0) ≡ true) where
-    pub decimal_on : decimals ≡ true → true ≡ zero_fits (before_at i s) decimals (get_or s (i + 1) 0)
-    unfolding zero_fits
-    decimal_on f = rw (d, f)
-
-    pub leads : decimals ≡ false → i ≡ 0 → false ≡ zero_fits (before_at i s) decimals (get_or s (i + 1) 0)
-    unfolding zero_fits
-    leads f e = rw (d, f, e)
-
-    pub follows : (r : Bool) → decimals ≡ false → (i ≡ 0 → ⊥) → r ≡ is_digit (get_or s (i - 1) 0) → r ≡ zero_fits (before_at i s) decimals (get_or s (i + 1) 0)
-    unfolding zero_fits
-    follows r f n e = e ∙ rw (d, f, ne_eqb i 0 n)
-
-  -- before anything else
-  module _ (d : is_digit (get_or s (i + 1) 0) ≡ false) where
-    pub decimal_end : decimals ≡ true → false ≡ zero_fits (before_at i s) decimals (get_or s (i + 1) 0)
-    unfolding zero_fits
-    decimal_end f = rw (d, f)
-
-    pub before_point : decimals ≡ false → eqb (get_or s (i + 1) 0) 46 ≡ true → true ≡ zero_fits (before_at i s) decimals (get_or s (i + 1) 0)
-    unfolding zero_fits
-    before_point f p = rw (d, f, p)
-
-    pub alone : decimals ≡ false → eqb (get_or s (i + 1) 0) 46 ≡ false → i ≡ 0 → true ≡ zero_fits (before_at i s) decimals (get_or s (i + 1) 0)
-    unfolding zero_fits
-    alone f p e = rw (d, f, p, e)
-
-    pub unsigned : decimals ≡ false → eqb (get_or s (i + 1) 0) 46 ≡ false → (i ≡ 0 → ⊥)
-        → not (eqb (get_or s (i - 1) 0) 45) ≡ zero_fits (before_at i s) decimals (get_or s (i + 1) 0)
-    unfolding zero_fits
-    unsigned f p n = rw (d, f, p, ne_eqb i 0 n)
 
 -- ---- one step along the text
 

@@ -1,44 +1,40 @@
 -- The numbers of a message, kept in thousandths. Document 01, "Values": optional `-`, 1 to 6 digits, optionally `.` and 1 to 3 digits;
 -- `-0` reads as 0; no `+`. "Written form": shortest form.
-use Rattle.std.specs.Prelude.{ℕ, zero, suc, ◌+◌, ◌-◌, ◌*◌, ◌/◌, ◌%◌, ◌^◌, eqb, ℤ, pos, negsuc, neg_ℤ, nat_abs, length, get_or, take, drop, Bool, true, false, not, ◌&&◌, ◌||◌, cond, List, [], ◌∷◌, ◌++◌}
-use Rattle.value_number.specs.declared.Number.{Number}
-use Rattle.value_number.specs.declared.Number.TheVariants.{Is, Bad}
+use Rattle.std.specs.Prelude.{ℕ, zero, suc, ◌+◌, ◌-◌, ◌*◌, ◌/◌, ◌%◌, ◌^◌, eqb, ℤ, pos, negsuc, neg_ℤ, nat_abs, length, get_or, take, drop, Bool, true, false, not, ◌&&◌, ◌||◌, cond, List, [], ◌∷◌, ◌++◌, None, Option, Some}
 use Rattle.text.specs.Bytes.{is_digit, first_of}
 use Rattle.text.specs.Digits.{digits_of, digits_text, whole_text}
-use Rattle.text.specs.declared.digits.Digits.{Digits}
-use Rattle.text.specs.declared.digits.Digits.TheVariants.{Are, Not}
 
 -- ---- reading
 
 -- the digits f after the point, as thousandths
-unfoldable pub scaled : List ℕ → Digits → Digits
-scaled f (Are n) = Are (n * 10 ^ (3 - length f))
-scaled f Not = Not
+unfoldable pub scaled : List ℕ → Option ℕ → Option ℕ
+scaled f (Some n) = Some (n * 10 ^ (3 - length f))
+scaled f None = None
 
 -- what stands from the point on: nothing, or the point and 1 to 3 digits
-unfoldable pub fraction_of : List ℕ → Digits
-fraction_of [] = Are 0
+unfoldable pub fraction_of : List ℕ → Option ℕ
+fraction_of [] = Some 0
 fraction_of (point ∷ f) = scaled f (digits_of 3 f)
 
-unfoldable pub joined_digits : Digits → Digits → Digits
-joined_digits (Are w) (Are f) = Are (w * 1000 + f)
-joined_digits (Are w) Not = Not
-joined_digits Not f = Not
+unfoldable pub joined_digits : Option ℕ → Option ℕ → Option ℕ
+joined_digits (Some w) (Some f) = Some (w * 1000 + f)
+joined_digits (Some w) None = None
+joined_digits None f = None
 
 -- a number without its sign, divided at the first point (46)
-unfoldable pub unsigned_of : List ℕ → Digits
+unfoldable pub unsigned_of : List ℕ → Option ℕ
 unsigned_of s = joined_digits (digits_of 6 (take (first_of 46 s) s)) (fraction_of (drop (first_of 46 s) s))
 
-unfoldable pub plus : Digits → Number
-plus (Are n) = Is (pos n)
-plus Not = Bad
+unfoldable pub plus : Option ℕ → Option ℤ
+plus (Some n) = Some (pos n)
+plus None = None
 
-unfoldable pub minus : Digits → Number
-minus (Are n) = Is (neg_ℤ (pos n))
-minus Not = Bad
+unfoldable pub minus : Option ℕ → Option ℤ
+minus (Some n) = Some (neg_ℤ (pos n))
+minus None = None
 
 -- 45 is '-'
-unfoldable pub number_of : List ℕ → Number
+unfoldable pub number_of : List ℕ → Option ℤ
 number_of s = cond (eqb (get_or s 0 0) 45) (minus (unsigned_of (drop 1 s))) (plus (unsigned_of s))
 
 -- ---- writing

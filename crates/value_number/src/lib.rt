@@ -4,20 +4,11 @@
 ghost use Rattle.std.specs.Prelude.{◌+◌, ◌-◌, ◌^◌, ◌≤◌, ◌<◌, eqb, pos, neg_ℤ, nat_abs, length, get_or, drop, false, cond, ◌∷◌, ◌≡◌};
 ghost use Rattle.value_number.specs.Number.{fraction_of, joined_digits, unsigned_of, number_of, fraction_text, decimals_text, sign_text, number_text, before_at};
 ghost use Rattle.value_number.specs.Number.{zero_fits, are_short};
-ghost use Rattle.value_number.specs.Parts.{ended, part_end, part_number, is_of_number, part_body, with_sign};
+ghost use Rattle.value_number.specs.Parts.{ended, part_end, part_number, is_of_number, part_body, with_sign, number_at};
 ghost use Rattle.text.specs.Bytes.{all, is, upto, is_digit, is_blank, run_of};
 ghost use Rattle.text.specs.Puts.{limit, Puts};
-ghost use Rattle.text.specs.declared.digits.Digits.TheVariants.{Are};
 
-use text::digits::Digits;
 use text::{digits, put, scan};
-
-// A number in thousandths, or that it is none.
-#[derive(Clone, Copy)]
-pub enum Number {
-    Is(i32),
-    Bad,
-}
 
 // What one unit of the last of n decimals is worth, in thousandths.
 fn scale(n: usize) -> u64
@@ -33,39 +24,39 @@ fn scale(n: usize) -> u64
 }
 
 // What stands from p on: nothing, or a point and 1 to 3 digits.
-fn read_fraction(s: &[u8], p: usize) -> Digits
+fn read_fraction(s: &[u8], p: usize) -> Option<u64>
     requires { p ≤ length s.now }
     ensures { result ≡ fraction_of (drop p s.now) }
 {
     if p == s.len() {
-        return Digits::Are(0);
+        return Some(0);
     }
     let from = p + 1;
     let f = &s[from..];
-    let Digits::Are(n) = digits::read_digits(f, 3) else {
-        return Digits::Not;
+    let Some(n) = digits::read_digits(f, 3) else {
+        return None;
     };
-    Digits::Are(n * scale(f.len()))
+    Some(n * scale(f.len()))
 }
 
 // A number without its sign: its first digits, and what follows them.
-fn read_unsigned(s: &[u8]) -> Digits
+fn read_unsigned(s: &[u8]) -> Option<u64>
     ensures { result ≡ unsigned_of s.now }
 {
     let w = digits::lead(s, 7);
     if (w.count == 0) | (w.count == 7) {
-        return Digits::Not;
+        return None;
     }
     let p = w.count;
     if p < s.len() {
         if s[p] != b'.' {
-            return Digits::Not;
+            return None;
         }
     }
-    let Digits::Are(f) = read_fraction(s, p) else {
-        return Digits::Not;
+    let Some(f) = read_fraction(s, p) else {
+        return None;
     };
-    Digits::Are(w.value * 1000 + f)
+    Some(w.value * 1000 + f)
 }
 
 // A number of thousandths, above zero and below it.
@@ -94,29 +85,29 @@ fn signed(minus: bool, n: u64) -> i32
     positive(n)
 }
 
-pub fn read(s: &[u8]) -> Number
+pub fn read(s: &[u8]) -> Option<i32>
     ensures { result ≡ number_of s.now }
 {
     if s.len() == 0 {
-        return Number::Bad;
+        return None;
     }
     if s[0] == b'-' {
-        let Digits::Are(n) = read_unsigned(&s[1..]) else {
-            return Number::Bad;
+        let Some(n) = read_unsigned(&s[1..]) else {
+            return None;
         };
-        return Number::Is(signed(true, n));
+        return Some(signed(true, n));
     }
-    let Digits::Are(n) = read_unsigned(s) else {
-        return Number::Bad;
+    let Some(n) = read_unsigned(s) else {
+        return None;
     };
-    Number::Is(signed(false, n))
+    Some(signed(false, n))
 }
 
 // A number of a list, with where its part ends.
 #[derive(Clone, Copy)]
-pub enum NumberAt {
-    Is(i32, usize),
-    Bad,
+pub struct NumberAt {
+    pub number: i32,
+    pub end: usize,
 }
 
 // Whether a byte may stand in a part that is a number: no such byte may be passed over as what ends one.
@@ -131,51 +122,44 @@ fn past_blanks(s: &[u8], at: usize) -> usize
     requires { at ≤ length s.now }
     ensures { result ≡ at + run_of is_blank (drop at s.now) }
 {
-    let mut i = at;
-    while i < s.len() {
-        if s[i] != b' ' {
-            return i;
-        }
-        i += 1;
-    }
-    i
+    at + s[at..].iter().take_while(|b| **b == b' ').count()
 }
 
 // What must follow the number v: blanks, and then the separator or the end.
-fn close(s: &[u8], at: usize, sep: u8, v: i32) -> NumberAt
+fn close(s: &[u8], at: usize, sep: u8, v: i32) -> Option<NumberAt>
     requires { (at ≤ length s.now) × (is_of_number sep ≡ false) }
-    ensures { result ≡ cond (all is_blank (upto (is sep) (drop at s.now))) (NumberAt.Is v (part_end sep s.now at)) NumberAt.Bad }
+    ensures { result ≡ cond (all is_blank (upto (is sep) (drop at s.now))) (number_at v (part_end sep s.now at)) None }
 {
     let e = past_blanks(s, at);
     if e < s.len() {
         if s[e] != sep {
-            return NumberAt::Bad;
+            return None;
         }
     }
-    NumberAt::Is(v, e)
+    Some(NumberAt { number: v, end: e })
 }
 
 // The decimals from a place on, behind a whole number and its point.
-fn decimals_part(s: &[u8], at: usize, sep: u8, minus: bool, whole: u64) -> NumberAt
+fn decimals_part(s: &[u8], at: usize, sep: u8, minus: bool, whole: u64) -> Option<NumberAt>
     requires { (at ≤ length s.now) × (is_of_number sep ≡ false) × (whole < 1000000) }
-    ensures { result ≡ ended (with_sign minus (joined_digits (Are whole) (fraction_of (46 ∷ part_body sep (drop at s.now))))) (part_end sep s.now at) }
+    ensures { result ≡ ended (with_sign minus (joined_digits (Some whole) (fraction_of (46 ∷ part_body sep (drop at s.now))))) (part_end sep s.now at) }
 {
     let f = digits::lead(&s[at..], 4);
     if (f.count == 0) | (f.count == 4) {
-        return NumberAt::Bad;
+        return None;
     }
     let n = whole * 1000 + f.value * scale(f.count);
     close(s, at + f.count, sep, signed(minus, n))
 }
 
 // A number without its sign from a place on.
-fn unsigned_part(s: &[u8], at: usize, sep: u8, minus: bool) -> NumberAt
+fn unsigned_part(s: &[u8], at: usize, sep: u8, minus: bool) -> Option<NumberAt>
     requires { (at ≤ length s.now) × (is_of_number sep ≡ false) }
     ensures { result ≡ ended (with_sign minus (unsigned_of (part_body sep (drop at s.now)))) (part_end sep s.now at) }
 {
     let whole = digits::lead(&s[at..], 7);
     if (whole.count == 0) | (whole.count == 7) {
-        return NumberAt::Bad;
+        return None;
     }
     let p = at + whole.count;
     if is_at(s, p, b'.') {
@@ -185,20 +169,23 @@ fn unsigned_part(s: &[u8], at: usize, sep: u8, minus: bool) -> NumberAt
 }
 
 // A part that is cut before it is read, as for a separator that is itself of a number.
-fn cut_part(s: &[u8], at: usize, sep: u8) -> NumberAt
+fn cut_part(s: &[u8], at: usize, sep: u8) -> Option<NumberAt>
     requires { at ≤ length s.now }
     ensures { result ≡ part_number sep s.now at }
 {
     let rest = &s[at..];
     let n = scan::first(rest, sep);
     match read(scan::trim(&rest[..n])) {
-        Number::Is(v) => NumberAt::Is(v, at + n),
-        Number::Bad => NumberAt::Bad,
+        Some(v) => Some(NumberAt {
+            number: v,
+            end: at + n,
+        }),
+        None => None,
     }
 }
 
 // The number of the part that starts at a place, read where it stands.
-pub fn read_part(s: &[u8], at: usize, sep: u8) -> NumberAt
+pub fn read_part(s: &[u8], at: usize, sep: u8) -> Option<NumberAt>
     requires { at ≤ length s.now }
     ensures { result ≡ part_number sep s.now at }
 {
@@ -233,14 +220,15 @@ struct Decimals {
 fn without_zeros(f: u64) -> Decimals
     ensures { (result.size ≤ 3) × (fraction_text 3 f ≡ decimals_text result.size result.value) }
 {
-    let mut k = 3;
     let mut g = f;
-    while 0 < k {
+    for cut in 0..3 {
         if g % 10 != 0 {
-            return Decimals { size: k, value: g };
+            return Decimals {
+                size: 3 - cut,
+                value: g,
+            };
         }
         g = g / 10;
-        k -= 1;
     }
     Decimals { size: 0, value: 0 }
 }
@@ -282,46 +270,26 @@ pub fn put(out: &mut [u8], at: usize, v: i32) -> usize
 fn is_digit_at(s: &[u8], i: usize) -> bool
     ensures { result ≡ is_digit (get_or s.now i 0) }
 {
-    if i < s.len() {
-        return digits::is_digit(s[i]);
-    }
-    false
+    i < s.len() && digits::is_digit(s[i])
 }
 
 fn is_at(s: &[u8], i: usize, b: u8) -> bool
     requires { 1 ≤ b }
     ensures { result ≡ eqb (get_or s.now i 0) b }
 {
-    if i < s.len() {
-        return s[i] == b;
-    }
-    false
+    i < s.len() && s[i] == b
 }
 
 // A zero of a number that stands at i: it may end whole numbers, and stand before a point; it leads nothing, ends no decimals, and has no sign alone.
+#[tactic(auto, unfolding(crate::specs::Number::zero_fits))]
 fn zero_fits(s: &[u8], i: usize, fraction: bool) -> bool
     requires { i < length s.now }
     ensures { result ≡ zero_fits (before_at i s.now) fraction (get_or s.now (i + 1) 0) }
 {
     if is_digit_at(s, i + 1) {
-        if fraction {
-            return true;
-        }
-        if i == 0 {
-            return false;
-        }
-        return digits::is_digit(s[i - 1]);
+        return fraction || (0 < i && digits::is_digit(s[i - 1]));
     }
-    if fraction {
-        return false;
-    }
-    if is_at(s, i + 1, b'.') {
-        return true;
-    }
-    if i == 0 {
-        return true;
-    }
-    s[i - 1] != b'-'
+    !fraction && (is_at(s, i + 1, b'.') || i == 0 || s[i - 1] != b'-')
 }
 
 // Whether numbers, with `;` or `,` between them, stand in their shortest form and without blanks. Of texts that are such numbers.
@@ -329,8 +297,7 @@ pub fn are_short(s: &[u8]) -> bool
     ensures { result ≡ are_short s.now }
 {
     let mut fraction = false;
-    let mut i = 0;
-    while i < s.len() {
+    for i in 0..s.len() {
         let b = s[i];
         if b == b' ' {
             return false;
@@ -341,7 +308,6 @@ pub fn are_short(s: &[u8]) -> bool
             }
         }
         fraction = (b == b'.') | (fraction & (b != b';') & (b != b','));
-        i += 1;
     }
     true
 }

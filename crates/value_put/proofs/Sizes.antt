@@ -19,7 +19,7 @@ use native.Mathlib.Omega.{arith}
 room_short : (n m : ℕ) (room : List ℕ) → length room ≤ m → length (take n room) ≤ m
 room_short n m room h = omega (arith, length-take n room)
 
-pub text_short : (t : MessageType) (r : Rooms) (v : Value) → Narrow r.unit r.reason r.note → length r.gradients ≡ 16
+pub text_short : (t : MessageType) (r : Rooms) (v : Value) → Narrow r → length r.gradients ≡ 16
     → length (value_text t r v) ≤ 623
 unfolding value_text
 text_short t r Blank w g = omega arith

@@ -4,11 +4,11 @@
 ghost use Rattle.std.specs.Prelude.{◌+◌, ◌<◌, ◌≡◌};
 ghost use Rattle.value_put.specs.Rooms.{Narrow};
 ghost use Rattle.text.specs.Puts.{limit, wrote_of, buffer_of, Puts};
-ghost use Rattle.value.specs.Texts.{lent_rooms, value_text, is_written};
+ghost use Rattle.value.specs.Texts.{lent_rooms, rooms_in, value_text, is_written};
 
-use text::put::Wrote;
+use refusal::Refusal;
 use text::{put, scan};
-use value::Value;
+use value::{Rooms, Value};
 use value_date;
 use value_list::{Triple, few, triples};
 use value_name::{MessageType, identifier};
@@ -16,31 +16,22 @@ use value_number;
 use value_word;
 
 // The text of a value, put at a place; the bytes of texts and the triples come from their rooms, which are a record's or parts of a file.
-pub fn put_value(
-    out: &mut [u8],
-    at: usize,
-    t: MessageType,
-    v: Value,
-    unit: &[u8],
-    reason: &[u8],
-    note: &[u8],
-    gradients: [Triple; 16],
-) -> usize
-    requires { (at + 2000 < limit) × Narrow unit.now reason.now note.now }
-    ensures { Puts out.old at (value_text t (lent_rooms unit reason note gradients) v) result out.new }
+pub fn put_value(out: &mut [u8], at: usize, t: MessageType, v: Value, rooms: &Rooms<'_>) -> usize
+    requires { (at + 2000 < limit) × Narrow (rooms_in rooms.now) }
+    ensures { Puts out.old at (value_text t (rooms_in rooms.now) v) result out.new }
 {
     match v {
         Value::Blank => at,
         Value::Id(n) => identifier::put(out, at, t, n),
-        Value::Unit(n) => put::put_text(out, at, scan::front(unit, n)),
+        Value::Unit(n) => put::put_text(out, at, scan::front(rooms.unit, n)),
         Value::When(d) => value_date::put(out, at, d),
         Value::Amount(x) => value_number::put(out, at, x),
         Value::Count(n) => put::put_whole(out, at, 9, n),
-        Value::Reason(n) => put::put_text(out, at, scan::front(reason, n)),
-        Value::Note(n) => put::put_text(out, at, scan::front(note, n)),
+        Value::Reason(n) => put::put_text(out, at, scan::front(rooms.reason, n)),
+        Value::Note(n) => put::put_text(out, at, scan::front(rooms.note, n)),
         Value::Word(w) => value_word::put(out, at, w),
         Value::List(x) => few::put(out, at, x, b';'),
-        Value::Triples(n) => triples::put(out, at, gradients, n),
+        Value::Triples(n) => triples::put(out, at, *rooms.gradients, n),
         Value::Voltage(x) => value_number::put(out, at, x.0),
         Value::Regulator(x) => value_number::put(out, at, x.0),
         Value::Change(x) => value_number::put(out, at, x.0),
@@ -58,19 +49,25 @@ pub fn write_value(
     reason: &[u8; 128],
     note: &[u8; 256],
     gradients: [Triple; 16],
-) -> Wrote
+) -> Result<usize, Refusal>
     ensures { (result ≡ wrote_of out.old at (value_text t (lent_rooms unit reason note gradients) v))
         × (out.new ≡ buffer_of out.old at (value_text t (lent_rooms unit reason note gradients) v)) }
 {
-    let size = put_value(&mut out[0..0], 0, t, v, unit, reason, note, gradients);
+    let rooms = Rooms {
+        unit,
+        reason,
+        note,
+        gradients: &gradients,
+    };
+    let size = put_value(&mut out[0..0], 0, t, v, &rooms);
     if out.len() < at {
-        return Wrote::NoRoom(size);
+        return Err(Refusal::NoRoom(size));
     }
     if out.len() - at < size {
-        return Wrote::NoRoom(size);
+        return Err(Refusal::NoRoom(size));
     }
-    put_value(&mut out[at..], 0, t, v, unit, reason, note, gradients);
-    Wrote::To(at + size)
+    put_value(&mut out[at..], 0, t, v, &rooms);
+    Ok(at + size)
 }
 
 // Whether the text that a value was read from is the value's own text, so that it may be copied: what is no number stands as it is written, but for

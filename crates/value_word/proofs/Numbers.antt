@@ -1,4 +1,5 @@
 -- A word and its numbers: each tells the other. Assumes nothing.
+use Rattle.std.specs.Prelude.{None}
 use Prim.Native.Nat.{ℕ, zero, suc, ◌≤◌, ◌<◌}
 use Rattle.text.proofs.Cuts.{same_refl, same_true, same_lengths}
 use Rattle.text.proofs.Loads.{Bytes, word_front, bytes_cut, bytes_drop}
@@ -10,7 +11,6 @@ use Rattle.text.specs.Words.{word_of, bytes_of}
 use Rattle.value_word.proofs.RoundTrip.{word_short}
 use Rattle.value_word.specs.Words.{command_words, mode_words, setting_words, words, word, word_from, spelling_of}
 use Rattle.value_word.specs.declared.Spelling.{Spelling}
-use Rattle.value_word.specs.declared.Word.TheVariants.{Not}
 use borrow.Author.Tests.{ltb-true, eq-eqb, eqb-true}
 use lib.Dec.{eqb, ltb}
 use lib.ListN.{length, get_or, take, drop, replicate, length-drop, drop_of_length-le}
@@ -84,7 +84,7 @@ spelt_is m w s a b c e g h ea eb ec =
     rw (e, ea, eb, ec) (numbers_same (word w) s (word_bytes w) g (omega (arith, word_short w)) (omega arith))
 
 -- a text that is longer than all words is none
-pub too_long : (n i : ℕ) (s : List ℕ) → 20 < length s → word_from n i s ≡ Not
+pub too_long : (n i : ℕ) (s : List ℕ) → 20 < length s → word_from n i s ≡ None
 unfolding word_from
 too_long zero i s h = refl
 too_long (suc n) i s h =

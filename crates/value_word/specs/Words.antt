@@ -1,13 +1,11 @@
 -- The constants of the layouts. Document 01, "Values": constants as printed in the layout; `Tipo Comando` is `SA` or `DA`; `V MAX` and `V MIN`
 -- with the space, which may be left out where they are read (document 02, A1). They are numbered from 1, once for all layouts, so that what one
 -- field may hold is a run of them. 0 is no word.
-use Rattle.std.specs.Prelude.{ℕ, zero, suc, ◌-◌, length, get_or, Bool, ◌||◌, cond, List, [], ◌∷◌, ◌++◌}
+use Rattle.std.specs.Prelude.{ℕ, zero, suc, ◌-◌, length, get_or, Bool, ◌||◌, cond, List, [], ◌∷◌, ◌++◌, None, Option, Some}
 use Rattle.text.specs.Bytes.{bytes, part, same}
 use Rattle.text.specs.Words.{word_of}
 use Rattle.value_word.specs.Names.{w_v_max, w_v_min}
 use Rattle.value_word.specs.declared.Spelling.{Spelling}
-use Rattle.value_word.specs.declared.Word.{Word}
-use Rattle.value_word.specs.declared.Word.TheVariants.{Is, Not}
 
 -- 1 to 12, of CB, EB, LB and SR: gradient, continuation, SI and NO, origin of data, kind of auction, operation
 unfoldable pub command_words : List (List ℕ)
@@ -64,18 +62,18 @@ word w = get_or words w []
 
 -- ---- reading: the first of n words from w on that the text is
 
-unfoldable pub word_from : ℕ → ℕ → List ℕ → Word
-word_from zero w s = Not
-word_from (suc n) w s = cond (same (word w) s) (Is w) (word_from n (suc w) s)
+unfoldable pub word_from : ℕ → ℕ → List ℕ → Option ℕ
+word_from zero w s = None
+word_from (suc n) w s = cond (same (word w) s) (Some w) (word_from n (suc w) s)
 
 -- one of the words from first to last
-abbrev pub word_in : ℕ → ℕ → List ℕ → Word
+abbrev pub word_in : ℕ → ℕ → List ℕ → Option ℕ
 word_in first last s = word_from (suc last - first) first s
 
 -- ---- the settings V MAX and V MIN, with the space or, as Annex A.34's own table prints them, without it (document 02, A1)
 
-unfoldable pub volt_in : List ℕ → Word
-volt_in s = cond (same (bytes "VMAX") s) (Is w_v_max) (cond (same (bytes "VMIN") s) (Is w_v_min) (word_in w_v_max w_v_min s))
+unfoldable pub volt_in : List ℕ → Option ℕ
+volt_in s = cond (same (bytes "VMAX") s) (Some w_v_max) (cond (same (bytes "VMIN") s) (Some w_v_min) (word_in w_v_max w_v_min s))
 
 -- whether a text is one of the two without the space: it is read, and it is not what is written
 unfoldable pub is_joined : List ℕ → Bool

@@ -9,15 +9,8 @@ ghost use Rattle.value_word.specs.Words.{command_words, mode_words, setting_word
 
 use text::{put, scan, words};
 
-// The word that a text is, by its number, or that it is none of those that may stand.
-#[derive(Clone, Copy)]
-pub enum Word {
-    Is(u8),
-    Not,
-}
-
 // A word as two numbers of eight bytes and one of four, the first byte of each the lowest, past its end zero; and how long it is.
-#[derive(Clone, Copy)]
+#[derive(Clone, Copy, PartialEq, Eq)]
 pub struct Spelling {
     pub size: usize,
     pub first: u64,
@@ -113,49 +106,44 @@ fn spell(w: u8) -> Spelling
 }
 
 // Which of the words from first to last s is.
-pub fn read(first: u8, last: u8, s: &[u8]) -> Word
+pub fn read(first: u8, last: u8, s: &[u8]) -> Option<u8>
     ensures { result ≡ word_in first last s.now }
 {
     let n = s.len();
     if 20 < n {
-        return Word::Not;
+        return None;
     }
     let a = words::upto(s, 0);
     let b = words::upto(s, 8);
     let c = words::upto(s, 16);
-    let end = last as usize;
-    let mut w = first as usize;
-    while w <= end {
-        let m = spell(w as u8);
+    for w in first..=last {
+        let m = spell(w);
         if (m.size == n) & (m.first == a) & (m.second == b) & (m.last == c) {
-            return Word::Is(w as u8);
+            return Some(w);
         }
-        w += 1;
     }
-    Word::Not
+    None
 }
 
 // Which of V MAX and V MIN s is, with the space or without it.
-pub fn read_volt(s: &[u8]) -> Word
+pub fn read_volt(s: &[u8]) -> Option<u8>
     ensures { result ≡ volt_in s.now }
 {
     if scan::same(b"VMAX", s) {
-        return Word::Is(names::V_MAX);
+        return Some(names::V_MAX);
     }
     if scan::same(b"VMIN", s) {
-        return Word::Is(names::V_MIN);
+        return Some(names::V_MIN);
     }
     read(names::V_MAX, names::V_MIN, s)
 }
 
 // Whether s is V MAX or V MIN without the space: it is read, and it is not what is written.
+#[tactic(auto, unfolding(crate::specs::Words::is_joined))]
 pub fn is_joined(s: &[u8]) -> bool
     ensures { result ≡ is_joined s.now }
 {
-    if scan::same(b"VMAX", s) {
-        return true;
-    }
-    scan::same(b"VMIN", s)
+    scan::same(b"VMAX", s) || scan::same(b"VMIN", s)
 }
 
 // The word w, put at a place.

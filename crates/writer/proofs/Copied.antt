@@ -7,7 +7,7 @@ use Rattle.layout.specs.Layouts.{kinds_of, kind_at, no_kind, size_of, type_of}
 use Rattle.layout.specs.Rows.{text_at}
 use Rattle.layout.specs.declared.Layout.{Layout}
 use Rattle.text_lines.proofs.Columns.{column_length}
-use Rattle.value_list.specs.Forms.{gradients_in}
+use Rattle.value_list.specs.Forms.{gradients_in, kept_triples}
 use Rattle.value_list.specs.declared.Triple.{Triple}
 use Rattle.value_name.specs.declared.MessageType.{MessageType}
 use Rattle.reader.proofs.Concluding.{concluded_yes}
@@ -15,8 +15,8 @@ use Rattle.reader.specs.Messages.{values_of, good_of, column_record}
 use Rattle.reader.specs.Reader.{read_of}
 use Rattle.reader.specs.Readings.{reading_of}
 use Rattle.reader.specs.State.{column_at}
-use Rattle.reader.specs.declared.Answer.{Answer}
-use Rattle.reader.specs.declared.Reading.{Reading}
+use Rattle.reader.specs.Refusals.{Answer}
+use Rattle.reader.specs.Readings.{ReadingSaid}
 use Rattle.reader_theorems.proofs.Held.{ReadAll, read_all}
 use Rattle.reader_theorems.proofs.Held.ReadAll.{end, next}
 use Rattle.reader_theorems.proofs.Readings.{Reads, reads_of}
@@ -37,7 +37,7 @@ use Rattle.value.specs.declared.Value.TheVariants.{Blank}
 use Rattle.writer.proofs.Ends.{Put}
 use Rattle.writer.proofs.Normal.{Normal, taken_held, taken_end}
 use Rattle.writer.specs.Copied.{all_written, Copies}
-use Rattle.writer.specs.declared.Written.{Written}
+use Rattle.writer.specs.Writer.{Written}
 use Rattle.writer_form.proofs.Sizes.{message_small}
 use Rattle.writer_form.proofs.Values.{cells_front}
 use Rattle.writer_form.specs.Written.{written_of, values_in, message_text}
@@ -69,7 +69,7 @@ texts_own t r (next {d} {ds} {s} {ts} {v} {vs} e a) h f w =
 
 -- ---- what stands beside the values of a layout: its texts, each at its field
 
-module _ (l : Layout) (col : List (List ℕ)) (g : List Triple) (triples : g ≡ (gradients_in (text_at col (gradients_field l))).list.values) where
+module _ (l : Layout) (col : List (List ℕ)) (g : List Triple) (triples : g ≡ kept_triples (gradients_in (text_at col (gradients_field l)))) where
   abbrev pub own : Rooms
   own = rooms (text_at col 2) (text_at col (reason_field l)) (text_at col (note_field l)) g
 
@@ -85,7 +85,7 @@ module _ (l : Layout) (col : List (List ℕ)) (g : List Triple) (triples : g ≡
   beside k b (IsWord first last) h = tt
   beside k b IsProfile h = tt
   beside k b IsBands h = tt
-  beside k b IsTriples h = triples ∙ ap (λ (j : ℕ). (gradients_in (text_at col j)).list.values) (sym h)
+  beside k b IsTriples h = triples ∙ ap (λ (j : ℕ). kept_triples (gradients_in (text_at col j))) (sym h)
   beside k b IsVoltage h = tt
   beside k b IsRegulator h = tt
   beside k b IsChange h = tt
@@ -98,7 +98,7 @@ module _ (l : Layout) (col : List (List ℕ)) (g : List Triple) (triples : g ≡
 
 -- ---- what was read of a file
 
-module _ (ca ioa : ℕ) (plan file : List ℕ) (x : Reading) (is : x ≡ reading_of ca ioa plan file) (yes : x.number ≡ 0) where
+module _ (ca ioa : ℕ) (plan file : List ℕ) (x : ReadingSaid) (is : x ≡ reading_of ca ioa plan file) (yes : x.number ≡ 0) where
   reads : Reads ca ioa plan file x
   reads = reads_of ca ioa plan file x is
 
@@ -116,7 +116,7 @@ module _ (ca ioa : ℕ) (plan file : List ℕ) (x : Reading) (is : x ≡ reading
   unfolding record_with record_of
   cells_are = ap (λ (r : Record). r.cells) content_is
 
-  triples_are : x.gradients ≡ (gradients_in (text_at column (gradients_field x.layout))).list.values
+  triples_are : x.gradients ≡ kept_triples (gradients_in (text_at column (gradients_field x.layout)))
   unfolding record_with record_of
   triples_are = ap (λ (r : Record). r.gradients) content_is
 

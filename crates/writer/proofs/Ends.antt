@@ -5,8 +5,8 @@ use Rattle.text.proofs.Runs.{none_put}
 use Rattle.text.specs.Puts.{buffer_of, Puts}
 use Rattle.record_check.specs.Validity.{is_valid}
 use Rattle.writer.specs.Writer.{fitted, write_of, left_by}
-use Rattle.writer.specs.declared.Written.{Written}
-use Rattle.writer.specs.declared.Written.TheVariants.{Length, Refused}
+use Rattle.writer.specs.Writer.{Written}
+use Rattle.writer.specs.Writer.Written.{Length, Refused}
 use Rattle.writer_form.specs.Written.{file_of}
 use borrow.Author.Tests.{le-leb, lt-leb}
 use lib.ListN.{length, drop, take, drop_of_length-le}

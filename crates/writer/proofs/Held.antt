@@ -2,7 +2,7 @@
 -- Assumes nothing.
 use Prim.Native.Nat.{ℕ, ◌≤◌}
 use Rattle.reader.specs.Reader.{read_of}
-use Rattle.reader.specs.declared.Answer.{Answer}
+use Rattle.reader.specs.Refusals.{Answer}
 use Rattle.reader_theorems.proofs.Validity.{read_valid}
 use Rattle.record.specs.Records.{rooms_of}
 use Rattle.record.specs.declared.Record.{Record}
@@ -22,7 +22,7 @@ use mathlib.Core.Path.{◌≡◌, sym, ap, ◌∙◌, subst}
 use native.Mathlib.Omega.{arith}
 
 -- the lengths of a valid record's rooms
-sized_narrow : (r : Record) → is_sized r ≡ true → Narrow r.unit r.reason r.note
+sized_narrow : (r : Record) → is_sized r ≡ true → Narrow (rooms_of r)
 unfolding is_sized
 sized_narrow r e =
     let p =

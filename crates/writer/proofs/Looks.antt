@@ -12,9 +12,6 @@ use Rattle.value.specs.declared.Value.{Value}
 use Rattle.value.specs.declared.Value.TheVariants.{Blank}
 use Rattle.writer.specs.Copied.{all_written}
 use Rattle.writer_form.specs.Written.{values_in}
-use Rattle.text.proofs.Tests.{and_parts}
-use borrow.Author.Tests.{ltb-true, ltb-false}
-use lib.Dec.{ltb}
 use lib.ListN.{length, get_or, take, drop, length-map, drop_of_length-le, get_or-map}
 use lib.Seq.{drop-cons, length-take-le, get_or-take}
 use mathlib.Core.Bool.{Bool, true, false, ◌&&◌}
@@ -79,25 +76,14 @@ module _ (n : ℕ) (small : n ≤ 26) (cells : List Cell) (room : length cells �
         let e : is_written (get_or vs k Blank) (get_or col k []) ≡ b = ap₂ is_written value_there text_there ∙ sym is in
         a.left ∙ one_more vs col k (omega (arith, values_count)) (omega (arith, texts_count)) ∙ ap (λ (x : Bool). x && rest) e
 
+    pub stop : b ≡ false → false ≡ all_written vs col
+    stop t = sym (step ∙ ap (λ (x : Bool). x && rest) t)
+
     pub turn : b ≡ true → Asked n cells file places (k + 1)
     turn t = rw add-one record { near = h; left = step ∙ ap (λ (x : Bool). x && rest) t }
 
--- ---- while all that were asked stand as they are written
-
--- what the loop keeps, with whether they do
-abbrev pub Asking : ℕ → List Cell → List ℕ → List Span → Bool → ℕ → Type 0
-Asking n cells file places written k = (k ≤ n) × (written ≡ true → Asked n cells file places k)
-
--- another is asked only then, and only where one is left
-pub one_left : (written : Bool) (k n : ℕ) → (written && ltb k n) ≡ true → (written ≡ true) × (k < n)
-one_left written k n e = let p = and_parts written (ltb k n) e in (p.0, ltb-true k n p.1)
-
--- once it ends, all were asked
-pub none_over : (written : Bool) (k n : ℕ) → (written && ltb k n) ≡ false → written ≡ true → n ≤ k
-none_over written k n e t = ltb-false k n (rw t at e)
-
 -- all fields of a layout
-pub of_layout : (l : Layout) (n : ℕ) → n ≡ size_of l → (cells : List Cell) (file : List ℕ) (places : List Span) (b : Bool)
-    → b ≡ all_written (first_values n cells) (column_in n file places) → b ≡ all_written (values_in l cells) (column_in (size_of l) file places)
+pub of_layout : (l : Layout) (cells : List Cell) (file : List ℕ) (places : List Span) (b : Bool)
+    → b ≡ all_written (first_values (size_of l) cells) (column_in (size_of l) file places) → b ≡ all_written (values_in l cells) (column_in (size_of l) file places)
 unfolding values_in
-of_layout l n e cells file places b q = q ∙ ap (λ (m : ℕ). all_written (first_values m cells) (column_in m file places)) e
+of_layout l cells file places b q = q

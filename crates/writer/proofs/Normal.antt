@@ -10,8 +10,8 @@ use Rattle.reader.specs.Reader.{read_of}
 use Rattle.reader.specs.Refusals.{refused, accepted}
 use Rattle.reader.specs.Readings.{reading_of}
 use Rattle.reader.specs.State.{column_at}
-use Rattle.reader.specs.declared.Answer.{Answer}
-use Rattle.reader.specs.declared.Reading.{Reading}
+use Rattle.reader.specs.Refusals.{Answer}
+use Rattle.reader.specs.Readings.{ReadingSaid}
 use Rattle.reader_theorems.proofs.Held.{unit_short, reason_short, note_short}
 use Rattle.reader_theorems.proofs.Readings.{Reads, reads_of}
 use Rattle.reader_theorems.proofs.Validity.{good_of_lem}
@@ -26,8 +26,8 @@ use Rattle.writer.proofs.Ends.{Put}
 use Rattle.writer.proofs.Held.{read_held}
 use Rattle.writer.proofs.Own.{own_held, own_text}
 use Rattle.writer.specs.Writer.{normalise_of, normal_left}
-use Rattle.writer.specs.declared.Written.{Written}
-use Rattle.writer.specs.declared.Written.TheVariants.{Refused}
+use Rattle.writer.specs.Writer.{Written}
+use Rattle.writer.specs.Writer.Written.{Refused}
 use Rattle.writer_form.specs.Held.{Held}
 use Rattle.writer_form.specs.Written.{message_text, file_of}
 use borrow.Author.Tests.{ne_eqb}
@@ -52,7 +52,7 @@ module _ (out : List ℕ) where
 
 -- ---- what was read of a file
 
-module _ (ca ioa : ℕ) (plan file : List ℕ) (x : Reading) (is : x ≡ reading_of ca ioa plan file) where
+module _ (ca ioa : ℕ) (plan file : List ℕ) (x : ReadingSaid) (is : x ≡ reading_of ca ioa plan file) where
   reads : Reads ca ioa plan file x
   reads = reads_of ca ioa plan file x is
 
@@ -87,7 +87,7 @@ module _ (ca ioa : ℕ) (plan file : List ℕ) (x : Reading) (is : x ≡ reading
     unfolding values_of
     read_good = good_of_lem (values_of x.layout column) (reads.readable yes)
 
-    narrow : Narrow u s n
+    narrow : Narrow (rooms u s n x.gradients)
     narrow =
         record {
           unit_few = omega (arith, ap length u_is, unit_short x.layout column _ read_good);

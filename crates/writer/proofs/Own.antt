@@ -69,7 +69,7 @@ kept_own n s h k v =
 
 -- ---- the values
 
-module _ (t : MessageType) (u s n : List ℕ) (g : List Triple) (narrow : Narrow u s n) where
+module _ (t : MessageType) (u s n : List ℕ) (g : List Triple) (narrow : Narrow (rooms u s n g)) where
   abbrev own : Rooms
   own = rooms u s n g
 
@@ -120,7 +120,7 @@ module _ (t : MessageType) (u s n : List ℕ) (g : List Triple) (narrow : Narrow
 
 -- ---- the message
 
-module _ (l : Layout) (u s n : List ℕ) (g : List Triple) (cells : List Cell) (narrow : Narrow u s n)
+module _ (l : Layout) (u s n : List ℕ) (g : List Triple) (cells : List Cell) (narrow : Narrow (rooms u s n g))
     (held : Held l (rooms (kept_in 16 u) (kept_in 128 s) (kept_in 256 n) g) cells) where
   pub own_held : Held l (rooms u s n g) cells
   own_held = record { narrow = narrow; hold = (all_own (type_of l) u s n g narrow held.hold).0 }

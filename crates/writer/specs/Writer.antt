@@ -1,14 +1,24 @@
 -- What the writer and the normaliser answer, and what they leave in the output. Document 01, "Refusal numbers": writer 12, 11; normaliser the reader's,
 -- then 11, with the length as its detail. A write that succeeds leaves the bytes past its length unchanged; a refusal changes none.
-use Rattle.std.specs.Prelude.{ℕ, eqb, leb, length, cond, List, [], ◌∷◌}
-use Rattle.reader.specs.declared.Answer.{Answer}
+use Rattle.std.specs.Prelude.{ℕ, eqb, leb, length, cond, List, [], ◌∷◌, Result, Ok, Err}
+use Rattle.reader.specs.Refusals.{Answer}
 use Rattle.record.specs.declared.Record.{Record}
+use Rattle.refusal.specs.Numbers.{number_of, detail_of}
+use Rattle.refusal.specs.declared.Refusal.{Refusal}
 use Rattle.text.specs.Puts.{buffer_of}
 use Rattle.text.specs.Said.{Said, said}
 use Rattle.record_check.specs.Validity.{is_valid}
-use Rattle.writer.specs.declared.Written.{Written}
-use Rattle.writer.specs.declared.Written.TheVariants.{Length, Refused}
 use Rattle.writer_form.specs.Written.{file_of}
+
+-- how many bytes were written, or a refusal's number and detail
+pub data Written : Type 0 where
+  Length : ℕ → Written
+  Refused : ℕ → ℕ → Written
+
+-- what the functions answer, said so
+abbrev pub written_by : Result ℕ Refusal → Written
+written_by (Ok n) = Length n
+written_by (Err e) = Refused (number_of e) (detail_of e)
 
 -- what an answer says: the length that is written, or a refusal's number and detail
 abbrev pub of_written : Written → Said

@@ -5,7 +5,7 @@ ghost use Rattle.std.specs.Prelude.{◌+◌, ◌≤◌, ◌<◌, length, [], ◌
 ghost use Rattle.layout.specs.Layouts.{label_at, labels_of, size_of, type_of};
 ghost use Rattle.text_lines.specs.Places.{Placed, column_in};
 ghost use Rattle.text.specs.Puts.{limit, Puts};
-ghost use Rattle.value.specs.Texts.{rooms, lent_rooms, value_text};
+ghost use Rattle.value.specs.Texts.{rooms_in, value_text};
 ghost use Rattle.writer_form.specs.Held.{Spoken, Held};
 ghost use Rattle.writer_form.specs.Written.{lines_text, after_equals, param_line, param_lines, values_in};
 
@@ -13,58 +13,29 @@ use layout::Layout;
 use record::Cell;
 use text::put;
 use text_lines::Span;
-use value::Value;
-use value_list::Triple;
+use value::{Rooms, Value};
 use value_name::MessageType;
 
 // What stands after `=`: unless the value is blank, a space and the value.
-fn put_after(
-    out: &mut [u8],
-    at: usize,
-    t: MessageType,
-    v: Value,
-    unit: &[u8],
-    reason: &[u8],
-    note: &[u8],
-    gradients: [Triple; 16],
-) -> usize
-    requires { (at + 2500 < limit) × Spoken t (rooms unit.now reason.now note.now gradients) v }
-    ensures { Puts out.old at (after_equals (value_text t (lent_rooms unit reason note gradients) v)) result out.new }
+fn put_after(out: &mut [u8], at: usize, t: MessageType, v: Value, rooms: &Rooms<'_>) -> usize
+    requires { (at + 2500 < limit) × Spoken t (rooms_in rooms.now) v }
+    ensures { Puts out.old at (after_equals (value_text t (rooms_in rooms.now) v)) result out.new }
 {
     if !value_ask::is_filled(v) {
         return at;
     }
     let from = put::put_byte(out, at, b' ');
-    value_put::put_value(out, from, t, v, unit, reason, note, gradients)
+    value_put::put_value(out, from, t, v, rooms)
 }
 
 // The line of the field k with its value, and its end.
-fn put_line(
-    out: &mut [u8],
-    at: usize,
-    l: Layout,
-    k: usize,
-    v: Value,
-    unit: &[u8],
-    reason: &[u8],
-    note: &[u8],
-    gradients: [Triple; 16],
-) -> usize
-    requires { (at + 3000 < limit) × (1 ≤ k) × (k ≤ size_of l) × Spoken (type_of l) (rooms unit.now reason.now note.now gradients) v }
-    ensures { Puts out.old at (lines_text (param_line (label_at l k) (value_text (type_of l) (lent_rooms unit reason note gradients) v) ∷ [])) result out.new }
+fn put_line(out: &mut [u8], at: usize, l: Layout, k: usize, v: Value, rooms: &Rooms<'_>) -> usize
+    requires { (at + 3000 < limit) × (1 ≤ k) × (k ≤ size_of l) × Spoken (type_of l) (rooms_in rooms.now) v }
+    ensures { Puts out.old at (lines_text (param_line (label_at l k) (value_text (type_of l) (rooms_in rooms.now) v) ∷ [])) result out.new }
 {
     let padded = layout_label::put(out, at, layout_label::of_field(l, k));
     let equals = put::put_byte(out, padded, b'=');
-    let said = put_after(
-        out,
-        equals,
-        layout::type_of(l),
-        v,
-        unit,
-        reason,
-        note,
-        gradients,
-    );
+    let said = put_after(out, equals, layout::type_of(l), v, rooms);
     put::put_byte(out, said, b'\n')
 }
 
@@ -74,22 +45,14 @@ pub fn put_lines(
     at: usize,
     l: Layout,
     cells: [Cell; 26],
-    unit: &[u8],
-    reason: &[u8],
-    note: &[u8],
-    gradients: [Triple; 16],
+    rooms: &Rooms<'_>,
 ) -> usize
-    requires { (at + 90000 < limit) × Held l (rooms unit.now reason.now note.now gradients) cells }
-    ensures { Puts out.old at (lines_text (param_lines (labels_of l) (map (value_text (type_of l) (lent_rooms unit reason note gradients)) (values_in l cells)))) result out.new }
+    requires { (at + 90000 < limit) × Held l (rooms_in rooms.now) cells }
+    ensures { Puts out.old at (lines_text (param_lines (labels_of l) (map (value_text (type_of l) (rooms_in rooms.now)) (values_in l cells)))) result out.new }
 {
-    let size = layout::size(l);
     let mut p = at;
-    let mut k = 0;
-    while k < size {
-        let c = cells[k];
-        let v = c.value;
-        p = put_line(out, p, l, k + 1, v, unit, reason, note, gradients);
-        k += 1;
+    for k in 0..layout::size(l) {
+        p = put_line(out, p, l, k + 1, cells[k].value, rooms);
     }
     p
 }
@@ -120,15 +83,12 @@ pub fn put_text_lines(
     requires { (at + 300000 < limit) × Placed (size_of l) file.now places × (length file.now ≤ 8192) }
     ensures { Puts out.old at (lines_text (param_lines (labels_of l) (column_in (size_of l) file.now places))) result out.new }
 {
-    let size = layout::size(l);
     let mut p = at;
-    let mut k = 0;
-    while k < size {
+    for k in 0..layout::size(l) {
         let w = places[k + 1];
         let from = w.from as usize;
         let to = w.to as usize;
         p = put_text_line(out, p, l, k + 1, &file[from..to]);
-        k += 1;
     }
     p
 }

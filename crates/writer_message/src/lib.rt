@@ -6,7 +6,7 @@ ghost use Rattle.layout.specs.Layouts.{size_of};
 ghost use Rattle.layout.specs.Rows.{row_of};
 ghost use Rattle.text_lines.specs.Places.{HoldsText, Placed, column_in};
 ghost use Rattle.text.specs.Puts.{limit, Puts};
-ghost use Rattle.value.specs.Texts.{rooms, lent_rooms};
+ghost use Rattle.value.specs.Texts.{rooms_in};
 ghost use Rattle.writer_form.specs.Held.{Held};
 ghost use Rattle.writer_form.specs.Written.{written_of, message_text};
 
@@ -14,7 +14,7 @@ use layout::Layout;
 use record::Cell;
 use text::put;
 use text_lines::Span;
-use value_list::Triple;
+use value::Rooms;
 
 // A message of a layout: banner, an empty line, its parameter lines, and its row between separators.
 pub fn put_message(
@@ -22,19 +22,16 @@ pub fn put_message(
     at: usize,
     l: Layout,
     cells: [Cell; 26],
-    unit: &[u8],
-    reason: &[u8],
-    note: &[u8],
-    gradients: [Triple; 16],
+    rooms: &Rooms<'_>,
 ) -> usize
-    requires { (at + 200000 < limit) × Held l (rooms unit.now reason.now note.now gradients) cells }
-    ensures { Puts out.old at (message_text l (lent_rooms unit reason note gradients) cells) result out.new }
+    requires { (at + 200000 < limit) × Held l (rooms_in rooms.now) cells }
+    ensures { Puts out.old at (message_text l (rooms_in rooms.now) cells) result out.new }
 {
     let head = layout_banner::put(out, at, l);
     let body = put::put_byte(out, head, b'\n');
-    let above = writer_lines::put_lines(out, body, l, cells, unit, reason, note, gradients);
+    let above = writer_lines::put_lines(out, body, l, cells, rooms);
     let from = put::put_text(out, above, b"+++++\n");
-    let to = writer_row::put_row(out, from, l, cells, unit, reason, note, gradients);
+    let to = writer_row::put_row(out, from, l, cells, rooms);
     put::put_text(out, to, b"\n+++++\n")
 }
 

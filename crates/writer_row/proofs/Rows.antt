@@ -2,8 +2,8 @@
 use Prim.Native.Nat.{ℕ, suc, ◌+◌, ◌≤◌, ◌<◌}
 use Rattle.text.specs.Puts.{Puts}
 use Rattle.value_ask.specs.Values.{is_filled}
-use Rattle.layout.specs.contracts.Layout.{the_type}
-use Rattle.layout.proofs.Rows.{first_field, row_few, row_some, row_fields_lem, row_cut}
+use Rattle.layout.proofs.Labels.{few}
+use Rattle.layout.proofs.Rows.{first_field, row_few, row_some, no_bands, row_fields_lem, row_cut}
 use Rattle.layout.specs.Fields.{command, technical, sr}
 use Rattle.layout.specs.Layouts.{fields_of, size_of, type_of}
 use Rattle.layout.specs.Rows.{row_fields, text_at, halves, bands_in, tail_text, row_text, row_of}
@@ -23,7 +23,6 @@ use Rattle.writer_form.proofs.Columns.{column_of, text_at_lem, field_short}
 use Rattle.writer_form.proofs.Joins.{row_first, no_value_more, one_value_more, row_short, first_values}
 use Rattle.writer_form.specs.Held.{Held, Halved}
 use borrow.Author.Tests.{leb-true}
-use denote.Enum.Declared.{tag_of}
 use lib.Dec.{lit≤}
 use lib.ListN.{length, get_or, take, drop, length-append, length-map, get_or-map}
 use lib.Seq.{sets, length-sets, take_all}
@@ -32,7 +31,6 @@ use mathlib.Core.List.{List, [], ◌∷◌, ◌++◌, map, append-nil}
 use mathlib.Core.Path.{◌≡◌, refl, sym, ap, ◌∙◌}
 use native.Mathlib.Numerals.{add-one}
 use native.Mathlib.Omega.{arith}
-use types.Run.{OneOf, miss}
 
 -- ---- the values of the row's fields
 
@@ -138,6 +136,12 @@ module _ (l : Layout) (r : Rooms) (cells : List Cell) (out : List ℕ) (at : ℕ
       ∙ sym (row_first (texts_of l r cells) (texts_some l r cells)) in
       same_puts (row_text (texts_of l r cells)) e (then (puts {t = value_text t r v} w) s.done)
 
+-- the number of a row's field stands among those of all fields
+pub number_in : (l : Layout) (i n k : ℕ) → i < n → n ≡ length (row_fields l) → k ≡ get_or (row_fields l) i 0 → (1 ≤ k) × (k ≤ 26)
+number_in l i n k h e f =
+    let w = row_fields_lem l i (omega arith) in
+    (omega (arith, w.0), omega (arith, w.1, few l))
+
 -- ---- the half-bands, put
 
 module _ (t : MessageType) (r : Rooms) (v : Value) (l : List ℕ) (at a : ℕ) (l₁ : List ℕ) (b : ℕ) (m : List ℕ)
@@ -152,25 +156,12 @@ module _ (t : MessageType) (r : Rooms) (v : Value) (l : List ℕ) (at a : ℕ) (
 
 -- ---- the row of a layout
 
--- only SR has half-bands
-no_bands : (l : Layout) (col : List (List ℕ)) → OneOf (0 ∷ 1 ∷ 2 ∷ 3 ∷ 4 ∷ 5 ∷ 7 ∷ 8 ∷ 9 ∷ []) (tag_of the_type l) → bands_in l col ≡ []
-no_bands Market col o = refl
-no_bands Mfrr col o = refl
-no_bands Revocation col o = refl
-no_bands Generic col o = refl
-no_bands Exclusion col o = refl
-no_bands Limitation col o = refl
-no_bands Secondary col o = absurd (miss (0 ∷ 1 ∷ 2 ∷ 3 ∷ 4 ∷ 5 ∷ 7 ∷ 8 ∷ 9 ∷ []) 6 tt o)
-no_bands VoltVar col o = refl
-no_bands Rejection col o = refl
-no_bands Reserve col o = refl
-
 six_text : (r : Rooms) (cells : List Cell) → text_at (column_of Secondary r cells) 6 ≡ value_text Sr r (field_of cells 6)
 unfolding fields_of command technical sr
 six_text r cells = text_at_lem Secondary r cells 6 (lit≤ tt) (leb-true 6 (size_of Secondary) refl)
 
 module _ (l : Layout) (r : Rooms) (cells : List Cell) (out : List ℕ) (at : ℕ) where
-  pub plain_row : OneOf (0 ∷ 1 ∷ 2 ∷ 3 ∷ 4 ∷ 5 ∷ 7 ∷ 8 ∷ 9 ∷ []) (tag_of the_type l) → (p : ℕ) (m : List ℕ) → Puts out at (row_text (texts_of l r cells)) p m
+  pub plain_row : (l ≡ Secondary → ⊥) → (p : ℕ) (m : List ℕ) → Puts out at (row_text (texts_of l r cells)) p m
       → Puts out at (row_of l (column_of l r cells)) p m
   unfolding tail_text
   plain_row o p m w =

@@ -1,4 +1,5 @@
 -- THEOREM A: a written file is read as the column that it was written from. It says nothing of kinds or records. Assumes nothing.
+use Rattle.std.specs.Prelude.{None}
 use Prim.Native.Nat.{ℕ, suc}
 use Rattle.reader_accent.proofs.Table.{accents_good}
 use Rattle.reader_accent.specs.Accents.{accents_of}
@@ -26,7 +27,6 @@ use Rattle.writer_form.specs.Written.{lines_text, param_lines, block, written_of
 use lib.ListN.{length}
 use mathlib.Core.Bool.{Bool, true, false, cond}
 use mathlib.Core.List.{List, [], ◌∷◌, ◌++◌, map, append_assoc}
-use mathlib.Core.Option.{none}
 use mathlib.Core.Path.{◌≡◌, refl, sym, ap, ◌∙◌}
 use native.Mathlib.Omega.{arith}
 
@@ -36,7 +36,7 @@ pub record ReadBack (l : Layout) (col : List (List ℕ)) (file : List ℕ) : Typ
   pub is_framed : framed (texts file) ≡ true
   pub row_is : row_in file ≡ row_of l col
   pub layout_is : layout_in (type_of l) (given (type_of l) file) ≡ l
-  pub none_twice : again [] (entries (labels_of l) (given (type_of l) file)) ≡ none
+  pub none_twice : again [] (entries (labels_of l) (given (type_of l) file)) ≡ None
   pub none_missing : missing 1 (labels_of l) (entries (labels_of l) (given (type_of l) file)) ≡ 0
   pub column_is : column 1 (labels_of l) (entries (labels_of l) (given (type_of l) file)) ≡ col
 

@@ -1,5 +1,6 @@
 -- The parameters of a written file: the labels of a layout, each with its value of a column. Their entries are numbered in order, so none stands twice,
 -- none is missing, and the column is the one that was paired. Assumes nothing.
+use Rattle.std.specs.Prelude.{None}
 use Prim.Native.Nat.{ℕ, suc, ◌+◌, ◌≤◌, ◌<◌}
 use Rattle.text_lines.specs.Entries.{Entry, entry, place_of, entry_of, entries, stands, again, missing, value_at, column}
 use Rattle.text_lines.specs.Lines.{Param, param}
@@ -9,7 +10,6 @@ use borrow.Author.Tests.{eq-eqb, ne_eqb}
 use lib.ListN.{length, get_or}
 use mathlib.Core.Bool.{Bool, false, ◌||◌, cond}
 use mathlib.Core.List.{List, [], ◌∷◌}
-use mathlib.Core.Option.{none}
 use mathlib.Core.Path.{◌≡◌, refl, ap, ◌∙◌}
 use native.Mathlib.Omega.{arith}
 
@@ -57,12 +57,12 @@ before_next : (k : ℕ) (s : List ℕ) (es : List Entry) → Before k es → Bef
 unfolding stands
 before_next k s es b j h = rw (ne_eqb j k (λ (q : j ≡ k). omega arith)) (b j (omega arith))
 
-again_from : (k : ℕ) (seen : List Entry) (col : List (List ℕ)) → Before k seen → again seen (numbered k col) ≡ none
+again_from : (k : ℕ) (seen : List Entry) (col : List (List ℕ)) → Before k seen → again seen (numbered k col) ≡ None
 unfolding again numbered
 again_from k seen [] b = refl
 again_from k seen (s ∷ col) b = rw (b k (omega arith)) (again_from (suc k) (entry k s ∷ seen) col (before_next k s seen b))
 
-pub none_again : (k : ℕ) (col : List (List ℕ)) → again [] (numbered k col) ≡ none
+pub none_again : (k : ℕ) (col : List (List ℕ)) → again [] (numbered k col) ≡ None
 unfolding stands
 none_again k col = again_from k [] col (λ j h. refl)
 

@@ -5,13 +5,13 @@ use Rattle.layout.specs.Rows.{text_at}
 use Rattle.layout.specs.declared.Layout.{Layout}
 use Rattle.value_name.specs.declared.MessageType.{MessageType}
 use Rattle.plan.specs.Plans.{plan_of, sought_of}
-use Rattle.plan.specs.declared.Sought.{Sought}
+use Rattle.plan.specs.Plans.{SoughtSaid}
 use Rattle.reader.proofs.Firsts.{accepted_none, numbers}
 use Rattle.reader.proofs.Chosen.{type_in}
 use Rattle.reader.specs.Messages.{given, layout_in, values_of, column_record, good_of}
 use Rattle.reader.specs.Reader.{body_column, record_in, message_of, unit_in, planned, answer_at, read_of}
 use Rattle.reader.specs.Refusals.{accepted as taken}
-use Rattle.reader.specs.declared.Answer.{Answer}
+use Rattle.reader.specs.Refusals.{Answer}
 use Rattle.reader_theorems.proofs.Agreed.{Accepted, accepted}
 use Rattle.reader_theorems.proofs.Held.{unit_text, record_valid}
 use Rattle.reader_theorems.proofs.Validity.{good_of_lem, tidy_body}
@@ -66,7 +66,7 @@ message_normal t unit file h =
 
 -- ---- at an address of a plan
 
-at_normal : (s : Sought) (file : List ℕ) → (answer_at s file).number ≡ 0 → NoneHolds (planned s file)
+at_normal : (s : SoughtSaid) (file : List ℕ) → (answer_at s file).number ≡ 0 → NoneHolds (planned s file)
     → answer_at s (file_of (answer_at s file).content) ≡ answer_at s file
 unfolding planned
 at_normal s file h (next e (next d n)) =

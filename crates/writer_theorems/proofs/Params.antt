@@ -1,4 +1,5 @@
 -- A written parameter line: it can stand above the row, and is read as its label and its value. Assumes nothing.
+use Rattle.std.specs.Prelude.{Some}
 use Prim.Native.Nat.{ℕ, zero, suc, ◌-◌, ◌<◌}
 use Rattle.layout_label.specs.Labels.{padded}
 use Rattle.layout.proofs.Labels.{GoodLabel}
@@ -17,7 +18,6 @@ use Rattle.writer_form.specs.Written.{after_equals, param_line, param_lines}
 use lib.ListN.{length, get_or, replicate}
 use mathlib.Core.Bool.{Bool, true, not}
 use mathlib.Core.List.{List, [], ◌∷◌, ◌++◌, map, append_assoc}
-use mathlib.Core.Option.{some}
 use mathlib.Core.Path.{◌≡◌, refl, ap, ◌∙◌}
 use native.Mathlib.Omega.{arith}
 
@@ -58,18 +58,18 @@ module _ (label s : List ℕ) (g : GoodLabel label) (h : tidy s ≡ true) where
   line_upper : upper (param_line label s) ≡ true
   line_upper = rw (line_plain, line_no_sep)
 
-  line_param : param_of (trim (param_line label s)) ≡ some (param label s)
+  line_param : param_of (trim (param_line label s)) ≡ Some (param label s)
   unfolding param_line padded
   line_param =
       ap (λ (x : List ℕ). param_of (trim x)) (append_assoc label pad (61 ∷ after_equals s))
       ∙ head_param label pad (after_equals s) (tidy_parts label g.is_tidy).1 g.no_equals (all_replicate is_blank 32 refl (36 - length label))
-      ∙ ap (λ (v : List ℕ). some (param label v)) (after_trim s ∙ (tidy_parts s h).1)
+      ∙ ap (λ (v : List ℕ). Some (param label v)) (after_trim s ∙ (tidy_parts s h).1)
 
   -- its label has no accent
-  line_param_in : (sp : List Spelling) → all_good sp ≡ true → param_in sp (trim (param_line label s)) ≡ some (param label s)
+  line_param_in : (sp : List Spelling) → all_good sp ≡ true → param_in sp (trim (param_line label s)) ≡ Some (param label s)
   unfolding param_in
   line_param_in sp good =
-      ap (respelt sp) line_param ∙ ap (λ (x : List ℕ). some (param x s)) (respell_plain sp label good (tidy_parts label g.is_tidy).0)
+      ap (respelt sp) line_param ∙ ap (λ (x : List ℕ). Some (param x s)) (respell_plain sp label good (tidy_parts label g.is_tidy).0)
 
 -- ---- the lines of a column
 

@@ -4,8 +4,7 @@ use Rattle.value_ask.specs.Values.{size_in}
 use Rattle.report_brief.specs.Brief.{unit_of}
 use Rattle.layout.specs.Rows.{text_at}
 use Rattle.value_list.proofs.RoundTrip.{gradients_back}
-use Rattle.value_list.specs.Forms.{gradients_in}
-use Rattle.value_list.specs.declared.GradientsRead.{GradientsRead}
+use Rattle.value_list.specs.Forms.{gradients_in, kept_triples}
 use Rattle.value_list.specs.declared.Triple.{Triple}
 use Rattle.value_name.specs.declared.MessageType.{MessageType}
 use Rattle.reader_theorems.proofs.Held.{no_gradients}
@@ -82,12 +81,12 @@ module _ {r : Record} {vs : List Value} (v : ValidAs r vs) where
       kept 256 (text_at col (note_field r.layout)) r.note v.note_is (front_short f)
 
   -- the triples that a text lists are read from it
-  listed_back : (room : List Triple) (s : List ℕ) → Listed room s → (gradients_in s).list.values ≡ room
+  listed_back : (room : List Triple) (s : List ℕ) → Listed room s → kept_triples (gradients_in s) ≡ room
   listed_back room s x =
-      ap (λ (t : List ℕ). (gradients_in t).list.values) x.text_is
-      ∙ ap (λ (y : GradientsRead). y.list.values) (gradients_back room x.count x.are)
+      ap (λ (t : List ℕ). kept_triples (gradients_in t)) x.text_is
+      ∙ ap kept_triples (gradients_back room x.count x.are)
 
-  triples_back : (gradients_in (text_at col (gradients_field r.layout))).list.values ≡ r.gradients
+  triples_back : kept_triples (gradients_in (text_at col (gradients_field r.layout))) ≡ r.gradients
   unfolding texts_of
   triples_back =
       let k = gradients_field r.layout in

@@ -9,7 +9,7 @@ use Rattle.text_lines.specs.Lines.{texts, framed, allowed_upto}
 use Rattle.text_lines.specs.Spellings.{Spelling}
 use Rattle.value_name.specs.declared.MessageType.{MessageType}
 use Rattle.plan.specs.Plans.{plan_of, sought_of}
-use Rattle.plan.specs.declared.Sought.{Sought}
+use Rattle.plan.specs.Plans.{SoughtSaid}
 use Rattle.reader.proofs.Firsts.{answer_no, none_given}
 use Rattle.reader.specs.Messages.{given, row_in, layout_in, entries_in, values_of, is_bad, column_record, good_of}
 use Rattle.reader.specs.Reader.{is_there, valued, labelled, reading, body_column, record_in, message_of, unit_in, planned, answer_at, read_of}
@@ -104,14 +104,14 @@ module _ {r : Record} {vs : List Value} (v : ValidAs r vs) where
 -- ---- at an address of a plan
 
 -- where the plan is good and has the address, a file is read as a message, whatever it is
-pub planned_back : (s : Sought) (file : List ℕ) → eqb s.number 13 ≡ false → eqb s.number 1 ≡ false
+pub planned_back : (s : SoughtSaid) (file : List ℕ) → eqb s.number 13 ≡ false → eqb s.number 1 ≡ false
     → answer_at s file ≡ message_of s.message (unit_in s) file
 unfolding answer_at planned message_of
 planned_back s file e h =
     answer_no 13 s.detail (eqb s.number 13) _ (record_in s.message file) e
     ∙ answer_no 1 0 (eqb s.number 1) _ (record_in s.message file) h
 
-at_back : (r : Record) → Valid r → (s : Sought) → Fitting r s → answer_at s (file_of r) ≡ accepted r
+at_back : (r : Record) → Valid r → (s : SoughtSaid) → Fitting r s → answer_at s (file_of r) ≡ accepted r
 at_back r w s a =
     planned_back s (file_of r) (rw a.found) (rw a.found)
     ∙ ap (λ (t : MessageType). message_of t (unit_in s) (file_of r)) a.type_is

@@ -1,7 +1,8 @@
 use Prim.Native.Nat.{◌<◌}
+use Rattle.book.specs.Answers.{in_force_by}
 use Rattle.book.proofs.Asking.{none_live, some_live}
 use Rattle.book_places.proofs.Staying.{place_inside}
-use mathlib.Core.Path.{sym, ◌∙◌}
+use mathlib.Core.Path.{sym, ap, ◌∙◌}
 use native.Mathlib.Omega.{arith}
 use Rattle.book.proofs.in_force_in.Goals as goal
 
@@ -9,20 +10,21 @@ use Rattle.book.proofs.in_force_in.Goals as goal
 pub last_live-requires : goal.last_live-requires
 last_live-requires c = (omega arith, c.requires.0)
 
-pub returns-in_default : goal.returns-in_default
-returns-in_default c =
-    none_live c.args.t c.args.count c.args.orders c.requires.1 _ c.last_live.ensures c.in_default.in_default-own.keys2
+pub returns-in_err-i : goal.returns-in_err-i
+returns-in_err-i c =
+    ap in_force_by c.from_residual.ensures
+    ∙ none_live c.args.t c.args.count c.args.orders c.requires.1 _ c.last_live.ensures c.in_err-i.was
 
 pub offset_bounds-orders-i : goal.offset_bounds-orders-i
 offset_bounds-orders-i c =
-    let inside : c.in-At.i < c.args.count = place_inside c.args.t 0 c.args.count _ c.args.orders (omega arith) (sym c.in-At.is ∙ c.last_live.ensures) in
+    let inside : c.in_ok-i.i < c.args.count = place_inside c.args.t 0 c.args.count _ c.args.orders (omega arith) (sym c.in_ok-i.was ∙ c.last_live.ensures) in
     omega (arith, inside, c.requires.0)
 
 pub bounds-orders-i : goal.bounds-orders-i
 bounds-orders-i c =
-    let inside : c.in-At.i < c.args.count = place_inside c.args.t 0 c.args.count _ c.args.orders (omega arith) (sym c.in-At.is ∙ c.last_live.ensures) in
+    let inside : c.in_ok-i.i < c.args.count = place_inside c.args.t 0 c.args.count _ c.args.orders (omega arith) (sym c.in_ok-i.was ∙ c.last_live.ensures) in
     omega (arith, inside, c.requires.0)
 
 pub returns : goal.returns
 returns c =
-    some_live c.args.t c.args.count c.args.orders c.requires.1 _ c.last_live.ensures _ c.in-At.is
+    some_live c.args.t c.args.count c.args.orders c.requires.1 _ c.last_live.ensures _ c.in_ok-i.was

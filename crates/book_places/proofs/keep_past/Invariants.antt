@@ -1,4 +1,3 @@
-use Prim.Native.Nat.{◌-◌, ◌≤◌}
 use Rattle.book_order.specs.Orders.{empty_order}
 use Rattle.book_places.specs.Places.{past_order, stays}
 use Rattle.book_shelf.proofs.Keeping.{Passed}
@@ -9,7 +8,4 @@ use Rattle.book_places.proofs.keep_past.Given as goal
 -- The orders passed that stay stand in the first places.
 abbrev pub invariant-loop-i : goal.invariant-loop-i
 invariant-loop-i l =
-    (l.i ≤ l.count) × (length l.next ≡ 96) × Passed empty_order past_order 96 (stays l.from l.to l.t) l.i l.kept l.orders l.next
-
-abbrev pub decreases-loop-i : goal.decreases-loop-i
-decreases-loop-i l = l.count - l.i
+    (length l.next ≡ 96) × Passed empty_order past_order 96 (stays l.from l.to l.t) l.i l.kept l.orders l.next

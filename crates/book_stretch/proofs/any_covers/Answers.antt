@@ -1,6 +1,11 @@
-use Rattle.book_stretch.proofs.Four.{four_any}
-use borrow.Author.Rules.{rules}
+use Rattle.text.proofs.Chains.{any_is}
+use Rattle.book_stretch.specs.Stretches.{covers}
+use Rattle.std.proofs.Common.{rules, ◌∙◌, tests}
+use Rattle.std.proofs.lemmas.Iterator.{YieldsList-from_slice}
+use Rattle.std.proofs.lemmas.Iterator.Search.{any_from_yields_List}
 use Rattle.book_stretch.proofs.any_covers.Goals as goal
 
 pub returns : goal.returns
-returns c = search (four_any, rules)
+returns c =
+    any_from_yields_List (covers c.args.t) _ _ c.any.result c.any.ensures.ran (YieldsList-from_slice c.args.list cc) (λ x b q k. search (rules, tests))
+    ∙ any_is (covers c.args.t) c.args.list

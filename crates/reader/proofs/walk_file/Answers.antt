@@ -2,19 +2,19 @@ use Rattle.reader.proofs.Walking.{too_small, too_large, bad_byte, seps_not_two, 
 use Rattle.reader.proofs.walk_file.Goals as goal
 
 pub returns-then-file-eq0 : goal.returns-then-file-eq0
-returns-then-file-eq0 c = rw c.unplaced.ensures (search too_small)
+returns-then-file-eq0 c = search too_small
 
 pub returns-then-file-gt8192 : goal.returns-then-file-gt8192
-returns-then-file-gt8192 c = rw c.unplaced-then-file-gt8192.ensures (search too_large)
+returns-then-file-gt8192 c = search too_large
 
 pub returns-then-found-file : goal.returns-then-found-file
-returns-then-found-file c = rw c.unplaced-then-found-file.ensures (search bad_byte)
+returns-then-found-file c = search bad_byte
 
 pub returns-then-frame-ne2 : goal.returns-then-frame-ne2
-returns-then-frame-ne2 c = rw c.unplaced-then-frame-ne2.ensures (search seps_not_two)
+returns-then-frame-ne2 c = search seps_not_two
 
 pub returns-then-frame-ne1 : goal.returns-then-frame-ne1
-returns-then-frame-ne1 c = rw c.unplaced-then-frame-ne1.ensures (search not_one_inside)
+returns-then-frame-ne1 c = search not_one_inside
 
 pub place-requires : goal.place-requires
 place-requires c = search mfrr_few

@@ -4,7 +4,6 @@ use Rattle.layout.specs.Layouts.{size_of}
 use Rattle.text_lines.specs.Places.{column_in}
 use Rattle.record.proofs.Rooms.{gradients_in}
 use mathlib.Core.List.{List}
-use mathlib.Core.Path.{◌∙◌}
 use native.Mathlib.Omega.{arith}
 use Rattle.reader_fill.proofs.gradients_of.Goals as goal
 
@@ -12,7 +11,7 @@ pub returns-then-at-eq0 : goal.returns-then-at-eq0
 returns-then-at-eq0 c =
     let a = c.args in
     let col : List (List ℕ) = column_in (size_of a.l) a.file.now a.spans in
-    c.none.ensures ∙ none_there col _ _ c.gradients_field-at.ensures c.if-at-eq0.true
+    none_there col _ _ c.gradients_field-at.ensures c.if-at-eq0.true
 
 pub text_at-requires : goal.text_at-requires
 text_at-requires c = (omega (arith, gradients_in c.args.l, c.gradients_field-at.ensures), c.requires)

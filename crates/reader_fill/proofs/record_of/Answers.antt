@@ -23,6 +23,6 @@ text_at-requires-3 c =
 pub returns : goal.returns
 returns c = let a = c.args in
     let col : List (List ℕ) = column_in (size_of a.l) a.file.now a.spans in
-    record_is _ _ _ _ _ _ _ (room_is _ col _ _ 2 2 c.keep_unit-unit.ensures c.text_at.ensures refl)
-    (room_is _ col _ _ _ _ c.keep_reason-reason.ensures c.text_at-2.ensures c.reason_field.ensures)
-    (room_is _ col _ _ _ _ c.keep_note-note.ensures c.text_at-3.ensures c.note_field.ensures)
+    record_is _ _ _ _ _ _ _ (room_is _ col _ _ 2 2 c.keep-unit.ensures c.text_at.ensures refl)
+    (room_is _ col _ _ _ _ c.keep-reason.ensures c.text_at-2.ensures c.reason_field.ensures)
+    (room_is _ col _ _ _ _ c.keep-note.ensures c.text_at-3.ensures c.note_field.ensures)

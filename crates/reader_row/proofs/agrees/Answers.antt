@@ -9,14 +9,14 @@ returns-in_default c =
 
 pub skip_bands-requires : goal.skip_bands-requires
 skip_bands-requires c =
-    (fields_fit _ _ _ _ (column_in (size_of c.args.l) c.args.file.now c.args.spans) c.requires.0 c.requires.1 _ c.skip_fields.ensures _ c.in-To.is, c.requires.1, c.requires.2)
+    (fields_fit _ _ _ _ (column_in (size_of c.args.l) c.args.file.now c.args.spans) c.requires.0 c.requires.1 _ c.skip_fields.ensures _ c.in-Some.is, c.requires.1, c.requires.2)
 
 pub returns-in_default-skip_bands : goal.returns-in_default-skip_bands
 returns-in_default-skip_bands c =
     bands_other _ _ _ _ _ c.requires.0 c.requires.1 _ c.skip_fields.ensures _
-    c.in-To.is _ c.skip_bands.ensures c.in_default-skip_bands.is
+    c.in-Some.is _ c.skip_bands.ensures c.in_default-skip_bands.is
 
 pub returns : goal.returns
 returns c =
     bands_last _ _ _ _ _ c.requires.0 c.requires.1 _ c.skip_fields.ensures _
-    c.in-To.is _ c.skip_bands.ensures _ c.in-To-skip_bands.is
+    c.in-Some.is _ c.skip_bands.ensures _ c.in-Some-skip_bands.is

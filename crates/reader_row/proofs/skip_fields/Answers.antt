@@ -18,7 +18,7 @@ returns-in_default c =
 pub loop-i-init : goal.loop-i-init
 loop-i-init c =
     first_on _ _ _ _ _ c.requires.0 c.requires.1 c.requires.2 _ c.skip_piece.ensures _
-    c.size-n.ensures _ c.in-To.is
+    c.size-n.ensures _ c.in-Some.is
 
 pub field-k-requires : goal.field-k-requires
 field-k-requires c = omega (arith, c.loop-i.invariant.size)
@@ -62,7 +62,7 @@ loop-i-preserved c =
     let s = c.loop-i.invariant in
     let h = c.loop-i-test.true in
     let f = c.field-k.ensures in
-    later_on _ _ _ _ _ _ _ _ s h _ f _ c.skip_mark.ensures _ c.in-To-skip_mark.is
+    later_on _ _ _ _ _ _ _ _ s h _ f _ c.skip_mark.ensures _ c.in-Some-skip_mark.is
 
 pub returns : goal.returns
 returns c = all_on _ _ _ _ _ _ _ _ c.loop-i.invariant c.loop-i-test.false

@@ -66,18 +66,18 @@ pub loop-at-smaller : goal.loop-at-smaller
 loop-at-smaller c =
     let ended_at : c.line_of-item.result.end ≡ c.loop-at.at + line_run (accents_of c.args.t) (drop c.loop-at.at c.args.s.now) = end_is _ _ _ _ _ c.line_of-item.ensures in
     shorter _ (accents_good c.args.t) _ _ _ c.loop-at-test.true ended_at _
-    (sym c.in-After.is ∙ c.break_at.ensures)
+    (sym c.in-Some.is ∙ c.break_at.ensures)
 
 pub loop-at-preserved : goal.loop-at-preserved
 loop-at-preserved c =
     turned _ _ _ _ _ _ _ _ c.loop-at.invariant _ _ _ _ _ c.loop-at-test.true c.line_of-item.ensures
-    (sym c.in-After.is ∙ c.break_at.ensures)
+    (sym c.in-Some.is ∙ c.break_at.ensures)
     c.frame_in-frame.ensures c.note-a.ensures c.note-b.ensures
 
 pub overflow_add-at : goal.overflow_add-at
 overflow_add-at c =
     let ended_at : c.line_of-item.result.end ≡ c.loop-at.at + line_run (accents_of c.args.t) (drop c.loop-at.at c.args.s.now) = end_is _ _ _ _ _ c.line_of-item.ensures in
-    let ended = sym c.in-After.is ∙ c.break_at.ensures in
+    let ended = sym c.in-Some.is ∙ c.break_at.ensures in
     let near =
     past_near _ (accents_good c.args.t) c.args.s.now c.loop-at.at c.line_of-item.result.end c.loop-at-test.true ended_at _ ended in
     omega (arith, near, c.requires)

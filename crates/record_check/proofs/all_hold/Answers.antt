@@ -23,9 +23,6 @@ returns-then-not-holds c =
     one_fails _ _ _ _ _ _ c.loop-k.invariant c.loop-k-test.true _ c.of_field.ensures _ c.holds.ensures
     (ap not c.if-not-holds.true)
 
-pub overflow_add-k-in-loop-k : goal.overflow_add-k-in-loop-k
-overflow_add-k-in-loop-k c = omega (arith, small _ _ _ _ _ _ c.loop-k.invariant c.loop-k-test.true)
-
 pub loop-k-preserved : goal.loop-k-preserved
 loop-k-preserved c =
     one_holds _ _ _ _ _ _ c.loop-k.invariant c.loop-k-test.true _ c.of_field.ensures _ c.holds.ensures

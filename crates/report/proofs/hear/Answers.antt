@@ -13,12 +13,12 @@ returns-in_default-number c = search no_ioa
 
 pub overflow_cast-ca : goal.overflow_cast-ca
 overflow_cast-ca c =
-    let h = number_within (bytes "ca=") 65534 c.args.input.now _ (sym c.in-Are.is ∙ c.number.ensures) in
+    let h = number_within (bytes "ca=") 65534 c.args.input.now _ (sym c.in-Some.is ∙ c.number.ensures) in
     search rules
 
 pub overflow_cast-ioa : goal.overflow_cast-ioa
 overflow_cast-ioa c =
-    let h = number_within (bytes "ioa=") 16777215 c.below-second.result.now _ (sym c.in-Are-number.is ∙ c.number-2.ensures) in
+    let h = number_within (bytes "ioa=") 16777215 c.below-second.result.now _ (sym c.in-Some-number.is ∙ c.number-2.ensures) in
     search rules
 
 pub returns : goal.returns

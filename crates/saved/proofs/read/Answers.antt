@@ -1,14 +1,11 @@
-use Rattle.saved.proofs.Opening.{opened, no_book, book_below}
-use borrow.Author.Tests.{not-true, not-false}
-use mathlib.Core.Path.{◌∙◌}
+use Rattle.book.specs.declared.Book.{Book}
+use Rattle.saved.specs.Saved.{book_by}
+use mathlib.Core.Path.{sym, ap, ◌∙◌}
 use Rattle.saved.proofs.read.Goals as goal
 
--- The book of a text is the one that is read below its head; without a head there is none.
-pub returns-then-not-h : goal.returns-then-not-h
-returns-then-not-h c = c.unread.ensures ∙ no_book _ _ c.read_head-h.ensures (not-true _ c.if-not-h.true)
+pub returns-in-Ok : goal.returns-in-Ok
+returns-in-Ok c = ap book_by (sym c.in-Ok.is) ∙ c.read_book.ensures
 
-pub read_below-requires : goal.read_below-requires
-read_below-requires c = (opened _ _ c.read_head-h.ensures (not-false _ c.if-not-h.false)).asked
-
-pub returns : goal.returns
-returns c = c.read_below.ensures ∙ book_below _ _ c.read_head-h.ensures (not-false _ c.if-not-h.false)
+pub returns-in-Err : goal.returns-in-Err
+returns-in-Err c =
+    ap (λ (b : Book). record { number = 50; detail = c.in-Err.line; book = b }) c.zero.ensures ∙ ap book_by (sym c.in-Err.is) ∙ c.read_book.ensures

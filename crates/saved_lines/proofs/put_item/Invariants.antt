@@ -1,4 +1,3 @@
-use Prim.Native.Nat.{◌-◌}
 use Rattle.saved_lines.proofs.Putting.{Put}
 use Rattle.saved_lines.specs.Tables.{next_of}
 use Rattle.saved_lines.proofs.put_item.Given as goal
@@ -6,6 +5,3 @@ use Rattle.saved_lines.proofs.put_item.Given as goal
 -- One loop over the lines: what is put so far is the text of the values so far.
 abbrev pub invariant-loop-n : goal.invariant-loop-n
 invariant-loop-n l = Put (next_of l.t l.a) l.initial.out l.at l.v l.count l.n l.p l.out
-
-abbrev pub decreases-loop-n : goal.decreases-loop-n
-decreases-loop-n l = l.count - l.n

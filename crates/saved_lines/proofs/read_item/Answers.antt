@@ -2,9 +2,9 @@ use Prim.Native.Nat.{◌+◌, ◌-◌, ◌≤◌, ◌<◌}
 use Rattle.saved_lines.proofs.Going.{Going, wrong_here, over_here, says_here, full_here}
 use Rattle.saved_lines.specs.Tables.{next_of}
 use Rattle.saved_lines.specs.Values.{met_of}
-use Rattle.saved_lines.specs.declared.Next.{Next}
+use Rattle.saved_lines.specs.Values.{Next}
 use lib.ListN.{length, take, drop, set}
-use mathlib.Core.Path.{◌≡◌, ap, ◌∙◌}
+use mathlib.Core.Path.{◌≡◌, refl, ap, ◌∙◌}
 use native.Mathlib.Omega.{arith}
 use Rattle.saved_lines.proofs.read_item.Goals as goal
 
@@ -14,7 +14,7 @@ next_of-x-requires c = let g = c.loop-n.invariant in (g.few, g.small)
 pub returns-in-Wrong : goal.returns-in-Wrong
 returns-in-Wrong c =
     let met : c.meet.result ≡ met_of ((next_of c.args.t c.args.a) (take c.loop-n.n c.loop-n.v)) c.loop-n.rest.now = c.meet.ensures ∙ ap (λ (x : Next). met_of x c.loop-n.rest.now) c.next_of-x.ensures in
-    wrong_here _ _ _ _ _ c.loop-n.invariant _ met c.loop-n-test.true c.in-Wrong.is _ c.wrong.ensures
+    wrong_here _ _ _ _ _ c.loop-n.invariant _ met c.loop-n-test.true c.in-Wrong.is _ refl
 
 pub returns-in-Over : goal.returns-in-Over
 returns-in-Over c =
@@ -49,4 +49,4 @@ loop-n-preserved c =
     said.1
 
 pub returns : goal.returns
-returns c = full_here _ _ _ _ _ c.loop-n.invariant c.loop-n-test.false _ c.wrong-2.ensures
+returns c = full_here _ _ _ _ _ c.loop-n.invariant c.loop-n-test.false _ refl

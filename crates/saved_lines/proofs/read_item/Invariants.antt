@@ -1,4 +1,3 @@
-use Prim.Native.Nat.{◌-◌}
 use Rattle.saved_lines.proofs.Going.{Going}
 use Rattle.saved_lines.specs.Tables.{next_of}
 use Rattle.saved_lines.proofs.read_item.Given as goal
@@ -6,6 +5,3 @@ use Rattle.saved_lines.proofs.read_item.Given as goal
 -- The loop keeps `Going`: what is read so far, with what the rest gives after it, is the item.
 abbrev pub invariant-loop-n : goal.invariant-loop-n
 invariant-loop-n l = Going (next_of l.t l.a) l.s l.v l.n l.rest
-
-abbrev pub decreases-loop-n : goal.decreases-loop-n
-decreases-loop-n l = 18 - l.n

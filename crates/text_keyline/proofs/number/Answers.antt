@@ -6,4 +6,4 @@ returns-in_default c = no_line _ _ _ _ c.line_of.ensures c.in_default.is
 
 pub returns : goal.returns
 returns c =
-    line_number _ _ _ _ c.line_of.ensures _ _ _ c.in-Ends.is c.value.ensures c.whole.ensures
+    line_number _ _ _ _ c.line_of.ensures _ _ _ c.in-Some.is c.value.ensures c.whole.ensures

@@ -6,4 +6,4 @@ returns-in_default c = no_number_line _ _ _ c.line_of.ensures c.in_default.is
 
 pub returns : goal.returns
 returns c =
-    number_line_lem _ _ _ c.line_of.ensures _ _ _ c.in-Ends.is c.value.ensures c.is_number.ensures
+    number_line_lem _ _ _ c.line_of.ensures _ _ _ c.in-Some.is c.value.ensures c.is_number.ensures

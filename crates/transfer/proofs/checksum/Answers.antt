@@ -1,16 +1,16 @@
-use Rattle.transfer.proofs.Sums.{sum_begins, sum_goes, sum_ends}
+use Prim.Native.Nat.{◌≤◌}
 use borrow.Author.Rules.{rules}
+use Rattle.transfer.proofs.Sums.{sum_begins, sum_goes, sum_ends}
 use mathlib.Core.Path.{refl}
-use native.Mathlib.Omega.{arith}
 use Rattle.transfer.proofs.checksum.Goals as goal
 
-pub loop-k-init : goal.loop-k-init
-loop-k-init c = (search rules, search rules, sum_begins _)
+pub loop-b-init : goal.loop-b-init
+loop-b-init c = sum_begins _
 
-pub loop-k-preserved : goal.loop-k-preserved
-loop-k-preserved c =
-    (search rules, omega (arith, c.add-sum.ensures), sum_goes _ _ _ _ _ c.loop-k-test.true refl c.add-sum.ensures c.loop-k.invariant.2)
+pub loop-b-preserved : goal.loop-b-preserved
+loop-b-preserved c = sum_goes _ _ _ _ _ c.loop-b-test.true refl refl c.loop-b.invariant
 
 pub returns : goal.returns
 returns c =
-    sum_ends _ _ _ c.loop-k-test.false c.loop-k.invariant.1 c.loop-k.invariant.2
+    let fits : c.loop-b.sum ≤ 255 = search rules in
+    sum_ends _ _ _ c.loop-b-test.false fits c.loop-b.invariant

@@ -1,50 +1,30 @@
-use Prim.Native.Nat.{◌+◌, ◌<◌}
-use Rattle.text.specs.Bytes.{part}
+use Rattle.transfer.proofs.Turns.{at_end, section_ends}
+use Rattle.transfer.specs.Collect.{in_turn, taken_as}
+use Rattle.std.proofs.lemmas.Result.{err_from_is_err_and}
 use Rattle.transfer_unit.specs.declared.Told.TheVariants.{LastSegment}
-use Rattle.transfer.proofs.Turns.{out_of_turn, not_summed, not_met, too_long_lem, not_refused, agrees, differs, last_told, section_ends, section_sum}
-use Rattle.transfer.specs.Collect.{in_turn, checksum, summed}
-use borrow.Author.Tests.{lt-ltb, le-ltb, eq-eqb, ne_eqb}
-use lib.Dec.{ltb}
-use mathlib.Core.Bool.{Bool, ◌&&◌, true}
-use mathlib.Core.Path.{◌≡◌, ap₂}
-use mathlib.Core.Bool.{not}
-use mathlib.Core.Path.{ap}
+use borrow.Author.Tests.{lt-ltb, le-ltb}
+use mathlib.Core.Bool.{true}
+use mathlib.Core.Path.{◌≡◌, refl, sym, ◌∙◌}
 use Rattle.transfer.proofs.last_segment.Goals as goal
+use Rattle.transfer.proofs.last_segment.Goals.{then-not-is_open-via-then-not-is_open, then-not-is_open-via-else-not-is_open+then-c}
 
-pub returns-then-not-is_within-is_next : goal.returns-then-not-is_within-is_next
-returns-then-not-is_within-is_next c =
-    let turn_is : (c.is_within.result && c.is_next.result && (ltb c.args.c.start c.args.c.count)) ≡ in_turn c.args.c (LastSegment c.args.i c.args.sum) = ap₂ (λ (w n : Bool). w && n && (ltb c.args.c.start c.args.c.count)) c.is_within.ensures c.is_next.ensures in
-    (out_of_turn _ _ _ _ _ turn_is (ap not c.if-not-is_within-is_next.true) c.dropped.ensures).0
+pub returns-then-not-is_open : goal.returns-then-not-is_open
+unfolding taken_as
+returns-then-not-is_open c = elim c.then-not-is_open.branch [
+  | then-not-is_open-via-then-not-is_open w ↦ (rw (sym w.if-not-is_open.ensures), refl)
+  | then-not-is_open-via-else-not-is_open+then-c w ↦ (rw (sym w.if-not-is_open.ensures, le-ltb _ _ w.if-c.true), refl)
+]
 
-pub returns-then-sum-checksum : goal.returns-then-sum-checksum
-returns-then-sum-checksum c =
-    let turn_is : (c.is_within.result && c.is_next.result && (ltb c.args.c.start c.args.c.count)) ≡ in_turn c.args.c (LastSegment c.args.i c.args.sum) = ap₂ (λ (w n : Bool). w && n && (ltb c.args.c.start c.args.c.count)) c.is_within.ensures c.is_next.ensures in
-    let sum_is : c.checksum.result ≡ checksum (part c.args.c.start c.args.c.count c.args.file.now) = section_sum c.args.file.now _ _ c.args.c.start c.args.c.count _ c.rest.ensures c.front-section.ensures
-    c.checksum.ensures in
-    (not_summed _ _ _ _ _ turn_is (ap not c.if-not-is_within-is_next.false) (differs _ _ sum_is c.if-sum-checksum.true) c.dropped-then-sum-checksum.ensures).0
-
-pub returns-then-size-c : goal.returns-then-size-c
-returns-then-size-c c =
-    let turn_is : (c.is_within.result && c.is_next.result && (ltb c.args.c.start c.args.c.count)) ≡ in_turn c.args.c (LastSegment c.args.i c.args.sum) = ap₂ (λ (w n : Bool). w && n && (ltb c.args.c.start c.args.c.count)) c.is_within.ensures c.is_next.ensures in
-    let sum_is : c.checksum.result ≡ checksum (part c.args.c.start c.args.c.count c.args.file.now) = section_sum c.args.file.now _ _ c.args.c.start c.args.c.count _ c.rest.ensures c.front-section.ensures
-    c.checksum.ensures in
-    let summed_is : summed c.args.c c.args.file.now (LastSegment c.args.i c.args.sum) ≡ true = agrees _ _ sum_is c.if-sum-checksum.false in
-    (not_met _ _ _ _ _ turn_is (ap not c.if-not-is_within-is_next.false) summed_is (ne_eqb _ _ c.if-size-c.true) c.dropped-then-size-c.ensures).0
-
-pub returns-then-c-gt8192 : goal.returns-then-c-gt8192
-returns-then-c-gt8192 c =
-    let turn_is : (c.is_within.result && c.is_next.result && (ltb c.args.c.start c.args.c.count)) ≡ in_turn c.args.c (LastSegment c.args.i c.args.sum) = ap₂ (λ (w n : Bool). w && n && (ltb c.args.c.start c.args.c.count)) c.is_within.ensures c.is_next.ensures in
-    let sum_is : c.checksum.result ≡ checksum (part c.args.c.start c.args.c.count c.args.file.now) = section_sum c.args.file.now _ _ c.args.c.start c.args.c.count _ c.rest.ensures c.front-section.ensures
-    c.checksum.ensures in
-    let summed_is : summed c.args.c c.args.file.now (LastSegment c.args.i c.args.sum) ≡ true = agrees _ _ sum_is c.if-sum-checksum.false in
-    (too_long_lem _ _ _ _ _ turn_is (ap not c.if-not-is_within-is_next.false) summed_is (eq-eqb _ _ c.if-size-c.false) (lt-ltb _ _ c.if-c-gt8192.true) c.dropped-then-c-gt8192.ensures).0
+pub returns-in_err-ended : goal.returns-in_err-ended
+returns-in_err-ended c =
+    let turn : in_turn c.args.c (LastSegment c.args.i c.args.sum) ≡ true = rw (sym c.if-not-is_open.ensures, lt-ltb _ _ c.if-c.false) in
+    let judged = rw (c.front-section.ensures, c.rest.ensures) at c.ended.ensures in
+    let p = err_from_is_err_and c.from_residual.result c.from_residual.ensures.1 in
+    rw (p.1, p.2) (at_end _ _ _ turn (sym c.in_err-ended.was ∙ judged))
 
 pub returns : goal.returns
 returns c =
-    let turn_is : (c.is_within.result && c.is_next.result && (ltb c.args.c.start c.args.c.count)) ≡ in_turn c.args.c (LastSegment c.args.i c.args.sum) = ap₂ (λ (w n : Bool). w && n && (ltb c.args.c.start c.args.c.count)) c.is_within.ensures c.is_next.ensures in
-    let told : (c.args.i ≡ c.args.c.ended + 1) × (c.args.c.start < c.args.c.count) = last_told c.args.c c.args.i c.args.sum _ turn_is (ap not c.if-not-is_within-is_next.false) in
-    let sum_is : c.checksum.result ≡ checksum (part c.args.c.start c.args.c.count c.args.file.now) = section_sum c.args.file.now _ _ c.args.c.start c.args.c.count _ c.rest.ensures c.front-section.ensures
-    c.checksum.ensures in
-    let summed_is : summed c.args.c c.args.file.now (LastSegment c.args.i c.args.sum) ≡ true = agrees _ _ sum_is c.if-sum-checksum.false in
-    section_ends c.args.c _ told.0
-    (not_refused _ _ _ _ _ turn_is (ap not c.if-not-is_within-is_next.false) summed_is (eq-eqb _ _ c.if-size-c.false) (le-ltb _ _ c.if-c-gt8192.false)).0
+    let turn : in_turn c.args.c (LastSegment c.args.i c.args.sum) ≡ true = rw (sym c.if-not-is_open.ensures, lt-ltb _ _ c.if-c.false) in
+    let judged = rw (c.front-section.ensures, c.rest.ensures) at c.ended.ensures in
+    let ends = at_end _ _ _ turn (sym c.in_ok-ended.was ∙ judged) in
+    (section_ends c.args.c _ (sym c.if-not-is_open.ensures) ends.0, refl)

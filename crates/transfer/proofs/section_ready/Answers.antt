@@ -1,24 +1,22 @@
-use Rattle.transfer_unit.specs.declared.Told.TheVariants.{SectionReady}
-use Rattle.transfer.proofs.Turns.{out_of_turn, too_long_lem, not_refused}
-use Rattle.transfer.specs.Collect.{in_turn}
+use Rattle.transfer.proofs.Turns.{between_is, unlike, alike}
+use Rattle.transfer.specs.Collect.{taken_as}
 use borrow.Author.Tests.{lt-ltb, le-ltb}
-use mathlib.Core.Bool.{◌&&◌}
-use mathlib.Core.Path.{◌≡◌, refl, ap₂}
-use mathlib.Core.Bool.{not}
-use mathlib.Core.Path.{ap}
+use mathlib.Core.Path.{refl, sym}
 use Rattle.transfer.proofs.section_ready.Goals as goal
+use Rattle.transfer.proofs.section_ready.Goals.{then-ne-via-then-ne, then-ne-via-else-ne+then-not-is_next}
 
-pub returns-then-not-is_between-is_next : goal.returns-then-not-is_between-is_next
-returns-then-not-is_between-is_next c =
-    let turn_is : (c.is_between.result && c.is_next.result) ≡ in_turn c.args.c (SectionReady c.args.i c.args.n) = ap₂ ◌&&◌ c.is_between.ensures c.is_next.ensures in
-    (out_of_turn _ _ _ _ _ turn_is (ap not c.if-not-is_between-is_next.true) c.dropped.ensures).0
+pub returns-then-ne : goal.returns-then-ne
+unfolding taken_as
+returns-then-ne c = elim c.then-ne.branch [
+  | then-ne-via-then-ne w ↦ (rw (unlike (between_is _) w.if-ne.ensures), refl)
+  | then-ne-via-else-ne+then-not-is_next w ↦ (rw (alike (between_is _) w.if-ne.ensures, sym w.if-not-is_next.ensures), refl)
+]
 
 pub returns-then-n-gt8192 : goal.returns-then-n-gt8192
+unfolding taken_as
 returns-then-n-gt8192 c =
-    let turn_is : (c.is_between.result && c.is_next.result) ≡ in_turn c.args.c (SectionReady c.args.i c.args.n) = ap₂ ◌&&◌ c.is_between.ensures c.is_next.ensures in
-    (too_long_lem _ _ _ _ _ turn_is (ap not c.if-not-is_between-is_next.false) refl refl (lt-ltb _ _ c.if-n-gt8192.true) c.dropped-then-n-gt8192.ensures).0
+    (rw (alike (between_is _) c.if-ne.ensures, sym c.if-not-is_next.ensures, lt-ltb _ _ c.if-n-gt8192.true), refl)
 
 pub returns : goal.returns
-returns c =
-    let turn_is : (c.is_between.result && c.is_next.result) ≡ in_turn c.args.c (SectionReady c.args.i c.args.n) = ap₂ ◌&&◌ c.is_between.ensures c.is_next.ensures in
-    (not_refused _ _ _ _ _ turn_is (ap not c.if-not-is_between-is_next.false) refl refl (le-ltb _ _ c.if-n-gt8192.false)).0
+unfolding taken_as
+returns c = (rw (alike (between_is _) c.if-ne.ensures, sym c.if-not-is_next.ensures, le-ltb _ _ c.if-n-gt8192.false), refl)

@@ -4,4 +4,4 @@ use Rattle.value_date.proofs.clock.Goals as goal
 pub returns : goal.returns
 unfolding clock_of passed
 returns c =
-    rw (c.less-3.ensures, c.less-2.ensures, c.less.ensures, c.days_of.ensures.0, c.months_before-months.ensures)
+    rw (c.saturating_sub-3.ensures, c.saturating_sub-2.ensures, c.saturating_sub.ensures, c.days_of.ensures.0, c.saturating_sub-months.ensures)

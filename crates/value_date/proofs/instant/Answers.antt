@@ -3,4 +3,4 @@ use Rattle.value_date.proofs.instant.Goals as goal
 
 pub returns : goal.returns
 unfolding instant_of
-returns c = rw (c.less.ensures, c.ahead_of.ensures, c.clock.ensures)
+returns c = rw (c.saturating_sub.ensures, c.ahead_of.ensures, c.clock.ensures)

@@ -10,19 +10,19 @@ use Rattle.value_number.proofs.are_short.Goals.{then-b-eq48+else-not-zero_fits, 
 
 pub loop-i-init : goal.loop-i-init
 unfolding are_short
-loop-i-init c = (omega arith, refl)
+loop-i-init c = refl
 
 pub returns-then-b-eq32 : goal.returns-then-b-eq32
 returns-then-b-eq32 c =
     let l = c.loop-i in
-    short_blank c.args.s.now l.i _ _ c.loop-i-test.true c.if-b-eq32.true ∙ sym l.invariant.1
+    short_blank c.args.s.now l.i _ _ (omega arith) c.if-b-eq32.true ∙ sym l.invariant
 
 pub returns-then-not-zero_fits : goal.returns-then-not-zero_fits
 returns-then-not-zero_fits c =
     let l = c.loop-i in
     let s = c.args.s.now in
     let bad = sym c.zero_fits.ensures ∙ c.if-not-zero_fits.true in
-    short_bad s l.i (before_at l.i s) l.fraction c.loop-i-test.true c.if-b-eq48.true bad ∙ sym l.invariant.1
+    short_bad s l.i (before_at l.i s) l.fraction (omega arith) c.if-b-eq48.true bad ∙ sym l.invariant
 
 pub loop-i-preserved : goal.loop-i-preserved
 loop-i-preserved c =
@@ -33,10 +33,10 @@ loop-i-preserved c =
       | then-b-eq48+else-not-zero_fits w ↦ sym w.zero_fits.ensures ∙ w.if-not-zero_fits.false
       | else-b-eq48 w ↦ absurd (w.if-b-eq48.false e)
     ] in
-    (omega arith, l.invariant.1 ∙ short_on s l.i _ _ c.loop-i-test.true c.if-b-eq32.false fits)
+    l.invariant ∙ short_on s l.i _ _ (omega arith) c.if-b-eq32.false fits
 
 pub returns : goal.returns
 returns c =
     let l = c.loop-i in
     let s = c.args.s.now in
-    short_end s l.i _ _ c.loop-i-test.false ∙ sym l.invariant.1
+    short_end s l.i _ _ (omega arith) ∙ sym l.invariant

@@ -1,8 +1,8 @@
+use Rattle.std.specs.Prelude.{Option, ℤ}
 use Prim.Native.Nat.{◌+◌, ◌≤◌}
 use Rattle.value_number.proofs.Parts.{cut_fits, cut_is}
 use Rattle.value_number.specs.Number.{number_of}
 use Rattle.value_number.specs.Parts.{ended, part_number}
-use Rattle.value_number.specs.declared.Number.{Number}
 use Rattle.text.proofs.Cuts.{tail, front_count}
 use Rattle.text.specs.Bytes.{first_of}
 use borrow.Author.Rules.{rules}
@@ -27,22 +27,22 @@ overflow_add-result c =
     omega (arith, cut_fits a.sep a.s.now a.at _ found, length-drop a.at a.s.now) in
     search rules
 
-pub returns-in-Is : goal.returns-in-Is
+pub returns-in-Some : goal.returns-in-Some
 unfolding ended
-returns-in-Is c =
+returns-in-Some c =
     let found : c.first-n.result ≡ first_of c.args.sep (drop c.args.at c.args.s.now) = let a = c.args in rw (tail a.s.now a.at) at c.first-n.ensures in
-    let was_read : (d : Number) → c.read.result ≡ d → ended d (c.args.at + c.first-n.result) ≡ part_number c.args.sep c.args.s.now c.args.at = λ d e. let a = c.args in
+    let was_read : (d : Option ℤ) → c.read.result ≡ d → ended d (c.args.at + c.first-n.result) ≡ part_number c.args.sep c.args.s.now c.args.at = λ d e. let a = c.args in
     cut_is a.sep a.s.now a.at _ found d _
     (ap (take c.first-n.result) (tail a.s.now a.at))
     (sym e ∙ c.read.ensures ∙ ap number_of c.trim.ensures) in
-    rw (to_z-of_z w32 c.in-Is.v (search rules)) (was_read _ c.in-Is.is)
+    rw (to_z-of_z w32 c.in-Some.v (search rules)) (was_read _ c.in-Some.is)
 
-pub returns-in-Bad : goal.returns-in-Bad
+pub returns-in-None : goal.returns-in-None
 unfolding ended
-returns-in-Bad c =
+returns-in-None c =
     let found : c.first-n.result ≡ first_of c.args.sep (drop c.args.at c.args.s.now) = let a = c.args in rw (tail a.s.now a.at) at c.first-n.ensures in
-    let was_read : (d : Number) → c.read.result ≡ d → ended d (c.args.at + c.first-n.result) ≡ part_number c.args.sep c.args.s.now c.args.at = λ d e. let a = c.args in
+    let was_read : (d : Option ℤ) → c.read.result ≡ d → ended d (c.args.at + c.first-n.result) ≡ part_number c.args.sep c.args.s.now c.args.at = λ d e. let a = c.args in
     cut_is a.sep a.s.now a.at _ found d _
     (ap (take c.first-n.result) (tail a.s.now a.at))
     (sym e ∙ c.read.ensures ∙ ap number_of c.trim.ensures) in
-    was_read _ c.in-Bad.is
+    was_read _ c.in-None.is

@@ -1,8 +1,7 @@
+use Rattle.std.specs.Prelude.{None, Some}
 use Rattle.value_number.proofs.Laws.{unsigned_below, number_none, number_minus, number_plus}
 use Rattle.value_number.specs.Number.{unsigned_of, plus, minus}
-use Rattle.value_number.specs.declared.Number.TheVariants.{Is}
 use Rattle.text.proofs.Cuts.{tail}
-use Rattle.text.specs.declared.digits.Digits.TheVariants.{Are, Not}
 use lib.ListN.{drop}
 use mathlib.Core.Path.{◌≡◌, sym, ap, ◌∙◌}
 use mir.Syntax.{w32}
@@ -17,18 +16,18 @@ pub returns-in_default : goal.returns-in_default
 unfolding minus
 returns-in_default c =
     let s = c.args.s.now in
-    let e : unsigned_of (drop 1 s) ≡ Not = rw (tail s 1) at (sym c.read_unsigned.ensures ∙ c.in_default.is) in
+    let e : unsigned_of (drop 1 s) ≡ None = rw (tail s 1) at (sym c.read_unsigned.ensures ∙ c.in_default.is) in
     ap minus (sym e) ∙ number_minus s c.if-s-eq45.true
 
 pub signed-requires : goal.signed-requires
-signed-requires c = unsigned_below _ _ (sym c.read_unsigned.ensures ∙ c.in-Are.is)
+signed-requires c = unsigned_below _ _ (sym c.read_unsigned.ensures ∙ c.in-Some.is)
 
 pub returns-then-s-eq45 : goal.returns-then-s-eq45
 unfolding minus
 returns-then-s-eq45 c =
     let s = c.args.s.now in
-    let e : unsigned_of (drop 1 s) ≡ Are c.in-Are.n = rw (tail s 1) at (sym c.read_unsigned.ensures ∙ c.in-Are.is) in
-    ap Is (to_z-of_z w32 c.signed.result (record { sfits = c.signed.type_inv }) ∙ c.signed.ensures)
+    let e : unsigned_of (drop 1 s) ≡ Some c.in-Some.n = rw (tail s 1) at (sym c.read_unsigned.ensures ∙ c.in-Some.is) in
+    ap Some (to_z-of_z w32 c.signed.result (record { sfits = c.signed.type_inv }) ∙ c.signed.ensures)
     ∙ ap minus (sym e) ∙ number_minus s c.if-s-eq45.true
 
 pub returns-in_default-read_unsigned : goal.returns-in_default-read_unsigned
@@ -37,10 +36,10 @@ returns-in_default-read_unsigned c =
     ap plus (sym (sym c.read_unsigned-2.ensures ∙ c.in_default-read_unsigned.is)) ∙ number_plus _ c.if-s-eq45.false
 
 pub signed-requires-2 : goal.signed-requires-2
-signed-requires-2 c = unsigned_below _ _ (sym c.read_unsigned-2.ensures ∙ c.in-Are-read_unsigned.is)
+signed-requires-2 c = unsigned_below _ _ (sym c.read_unsigned-2.ensures ∙ c.in-Some-read_unsigned.is)
 
 pub returns : goal.returns
 unfolding plus
 returns c =
-    ap Is (to_z-of_z w32 c.signed-2.result (record { sfits = c.signed-2.type_inv }) ∙ c.signed-2.ensures)
-    ∙ ap plus (sym (sym c.read_unsigned-2.ensures ∙ c.in-Are-read_unsigned.is)) ∙ number_plus _ c.if-s-eq45.false
+    ap Some (to_z-of_z w32 c.signed-2.result (record { sfits = c.signed-2.type_inv }) ∙ c.signed-2.ensures)
+    ∙ ap plus (sym (sym c.read_unsigned-2.ensures ∙ c.in-Some-read_unsigned.is)) ∙ number_plus _ c.if-s-eq45.false

@@ -25,5 +25,12 @@ loop-w-preserved c =
     c.spell-m.ensures c.shared_slice_known-1.given (omega arith) c.upto-a.ensures c.upto-b.ensures c.upto-c.ensures in
     c.loop-w.invariant ∙ word_on _ _ _ c.loop-w-test.true (sym is ∙ c.if-m-n.false)
 
-pub returns : goal.returns
-returns c = sym (c.loop-w.invariant ∙ word_end _ _ _ c.loop-w-test.false)
+-- Past the last word, or behind it.
+pub returns-else-n-gt20 : goal.returns-else-n-gt20
+returns-else-n-gt20 c = sym (c.loop-w.invariant ∙ word_end _ _ _ c.loop-w-test.false)
+
+pub returns-else-m-n : goal.returns-else-m-n
+returns-else-m-n c =
+    let is = spelt_is c.spell-m.result c.loop-w.w c.args.s.now c.upto-a.result c.upto-b.result c.upto-c.result
+    c.spell-m.ensures c.shared_slice_known-1.given (omega arith) c.upto-a.ensures c.upto-b.ensures c.upto-c.ensures in
+    sym (c.loop-w.invariant ∙ word_on _ _ _ c.loop-w-test.true (sym is ∙ c.if-m-n.false) ∙ word_end _ _ _ (omega arith))

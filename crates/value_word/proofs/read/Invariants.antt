@@ -6,6 +6,3 @@ use Rattle.value_word.proofs.read.Given as goal
 -- The words from w on answer as all of them do; a longer text is none.
 abbrev pub invariant-loop-w : goal.invariant-loop-w
 invariant-loop-w l = word_in l.first l.last l.s ≡ word_from (suc l.last - l.w) l.w l.s
-
-abbrev pub decreases-loop-w : goal.decreases-loop-w
-decreases-loop-w l = suc l.last - l.w

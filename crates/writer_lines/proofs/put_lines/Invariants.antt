@@ -1,12 +1,8 @@
-use Prim.Native.Nat.{◌-◌}
 use Rattle.writer_lines.proofs.Lines.{Sofar}
-use Rattle.value.specs.Texts.{rooms}
+use Rattle.value.specs.Texts.{rooms_in}
 use Rattle.writer_form.proofs.Columns.{column_of}
 use Rattle.writer_lines.proofs.put_lines.Given as goal
 
 -- The loop keeps `Sofar`: the first lines are put.
 abbrev pub invariant-loop-k : goal.invariant-loop-k
-invariant-loop-k l = Sofar l.l (column_of l.l (rooms l.unit l.reason l.note l.gradients) l.cells) l.initial.out l.at l.k l.p l.out
-
-abbrev pub decreases-loop-k : goal.decreases-loop-k
-decreases-loop-k l = l.size - l.k
+invariant-loop-k l = Sofar l.l (column_of l.l (rooms_in l.rooms) l.cells) l.initial.out l.at l.k l.p l.out

@@ -11,7 +11,7 @@ use Rattle.writer_lines.proofs.put_text_lines.Goals as goal
 
 pub put_text_line-p-requires : goal.put_text_line-p-requires
 put_text_line-p-requires c =
-    let in_size : c.loop-k.k < size_of c.args.l = omega (arith, c.size-size.ensures, c.loop-k-test.true) in
+    let in_size : c.loop-k.k < size_of c.args.l = omega arith in
     let a = c.args in
     let h = in_size in
     let low = place_low a.l _ _ _ (column_full _ _ _ c.requires.1) _ _ _ c.loop-k.invariant 214240 (all_lines_small _ _ _ c.requires.1 c.requires.2) in
@@ -19,7 +19,7 @@ put_text_line-p-requires c =
 
 pub loop-k-preserved : goal.loop-k-preserved
 loop-k-preserved c =
-    let in_size : c.loop-k.k < size_of c.args.l = omega (arith, c.size-size.ensures, c.loop-k-test.true) in
+    let in_size : c.loop-k.k < size_of c.args.l = omega arith in
     let a = c.args in
     turn a.l _ _ _ (column_full _ _ _ c.requires.1) _ _ _ c.loop-k.invariant in_size _ (text_there a.l _ _ c.requires.1 _ in_size)
     _ _ c.put_text_line-p.ensures
@@ -29,56 +29,32 @@ shape_of-out c = let k = same_room _ _ _ _ _ _ _ c.loop-k.invariant in search ru
 
 pub returns : goal.returns
 returns c =
-    finish c.args.l _ _ _ (column_full _ _ _ c.requires.1) _ _ _ c.loop-k.invariant (omega (arith, c.size-size.ensures, c.loop-k-test.false))
+    finish c.args.l _ _ _ (column_full _ _ _ c.requires.1) _ _ _ c.loop-k.invariant (omega arith)
 
 pub loop-k-init : goal.loop-k-init
 loop-k-init c = start _ _ _ _
 
-pub overflow_add-w : goal.overflow_add-w
-overflow_add-w c =
-    let in_size : c.loop-k.k < size_of c.args.l = omega (arith, c.size-size.ensures, c.loop-k-test.true) in
-    let at_k : c.loop-k.k < 26 = omega (arith, in_size, few c.args.l) in
-    omega (arith, at_k)
-
-pub offset_bounds-places-k : goal.offset_bounds-places-k
-offset_bounds-places-k c =
-    let in_size : c.loop-k.k < size_of c.args.l = omega (arith, c.size-size.ensures, c.loop-k-test.true) in
-    let at_k : c.loop-k.k < 26 = omega (arith, in_size, few c.args.l) in
-    omega (arith, at_k)
-
-pub bounds-places-k : goal.bounds-places-k
-bounds-places-k c =
-    let in_size : c.loop-k.k < size_of c.args.l = omega (arith, c.size-size.ensures, c.loop-k-test.true) in
-    let at_k : c.loop-k.k < 26 = omega (arith, in_size, few c.args.l) in
-    omega (arith, at_k)
-
-pub overflow_add-k : goal.overflow_add-k
-overflow_add-k c =
-    let in_size : c.loop-k.k < size_of c.args.l = omega (arith, c.size-size.ensures, c.loop-k-test.true) in
-    let at_k : c.loop-k.k < 26 = omega (arith, in_size, few c.args.l) in
-    omega (arith, at_k)
-
 pub slice_bounds-put_text_line-count : goal.slice_bounds-put_text_line-count
 slice_bounds-put_text_line-count c =
-    let in_size : c.loop-k.k < size_of c.args.l = omega (arith, c.size-size.ensures, c.loop-k-test.true) in
+    let in_size : c.loop-k.k < size_of c.args.l = omega arith in
     let ordered : (span_at c.args.places (c.loop-k.k + 1)).from ≤ (span_at c.args.places (c.loop-k.k + 1)).to = c.requires.1.ordered _ (omega arith) (omega (arith, in_size)) in
     ordered
 
 pub slice_bounds-put_text_line-start : goal.slice_bounds-put_text_line-start
 slice_bounds-put_text_line-start c =
-    let in_size : c.loop-k.k < size_of c.args.l = omega (arith, c.size-size.ensures, c.loop-k-test.true) in
+    let in_size : c.loop-k.k < size_of c.args.l = omega arith in
     let ordered : (span_at c.args.places (c.loop-k.k + 1)).from ≤ (span_at c.args.places (c.loop-k.k + 1)).to = c.requires.1.ordered _ (omega arith) (omega (arith, in_size)) in
     let inside : (span_at c.args.places (c.loop-k.k + 1)).to ≤ length c.args.file.now = c.requires.1.inside _ (omega arith) (omega (arith, in_size)) in
     omega (arith, ordered, inside)
 
 pub slice_bounds-put_text_line-end : goal.slice_bounds-put_text_line-end
 slice_bounds-put_text_line-end c =
-    let in_size : c.loop-k.k < size_of c.args.l = omega (arith, c.size-size.ensures, c.loop-k-test.true) in
+    let in_size : c.loop-k.k < size_of c.args.l = omega arith in
     let inside : (span_at c.args.places (c.loop-k.k + 1)).to ≤ length c.args.file.now = c.requires.1.inside _ (omega arith) (omega (arith, in_size)) in
     omega (arith, inside)
 
-pub overflow_add-k-in-loop-k : goal.overflow_add-k-in-loop-k
-overflow_add-k-in-loop-k c =
-    let in_size : c.loop-k.k < size_of c.args.l = omega (arith, c.size-size.ensures, c.loop-k-test.true) in
-    let at_k : c.loop-k.k < 26 = omega (arith, in_size, few c.args.l) in
-    omega (arith, at_k)
+pub offset_bounds-places-k : goal.offset_bounds-places-k
+offset_bounds-places-k c = omega (arith, few c.args.l)
+
+pub bounds-places-k : goal.bounds-places-k
+bounds-places-k c = omega (arith, few c.args.l)

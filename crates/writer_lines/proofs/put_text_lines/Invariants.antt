@@ -1,4 +1,3 @@
-use Prim.Native.Nat.{◌-◌}
 use Rattle.writer_lines.proofs.Lines.{Sofar}
 use Rattle.layout.specs.Layouts.{size_of}
 use Rattle.text_lines.specs.Places.{column_in}
@@ -7,6 +6,3 @@ use Rattle.writer_lines.proofs.put_text_lines.Given as goal
 -- The loop keeps `Sofar`: the first lines are put, with the texts of the file.
 abbrev pub invariant-loop-k : goal.invariant-loop-k
 invariant-loop-k l = Sofar l.l (column_in (size_of l.l) l.file l.places) l.initial.out l.at l.k l.p l.out
-
-abbrev pub decreases-loop-k : goal.decreases-loop-k
-decreases-loop-k l = l.size - l.k

@@ -1,11 +1,7 @@
-use Prim.Native.Nat.{◌-◌}
 use Rattle.writer_row.proofs.Rows.{Sofar}
-use Rattle.value.specs.Texts.{rooms}
+use Rattle.value.specs.Texts.{rooms_in}
 use Rattle.writer_row.proofs.put_pieces.Given as goal
 
 -- The loop keeps `Sofar`: after the first value, the others up to a place are put. The values stand in the cells before their fields' numbers.
 abbrev pub invariant-loop-i : goal.invariant-loop-i
-invariant-loop-i l = Sofar l.l (rooms l.unit l.reason l.note l.gradients) l.cells l.initial.out l.initial.p l.i l.p l.out
-
-abbrev pub decreases-loop-i : goal.decreases-loop-i
-decreases-loop-i l = l.n - l.i
+invariant-loop-i l = Sofar l.l (rooms_in l.rooms) l.cells l.initial.out l.initial.p l.i l.p l.out

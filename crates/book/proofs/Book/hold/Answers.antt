@@ -1,24 +1,25 @@
-use Rattle.book.specs.declared.Tally.TheVariants.{Holds}
+use Rattle.std.specs.Prelude.{Some}
 use Rattle.book.proofs.Calls.{undone_malformed}
 use Rattle.book.proofs.Formed.{deed_invalid}
+use Rattle.book.specs.Answers.{outcome_by}
 use Rattle.book.proofs.Holding.{Holding, holds}
 use Rattle.book.proofs.Sizes.{sized}
 use Rattle.book.specs.Places.{tally_of}
 use borrow.Author.Rules.{rules}
-use mathlib.Core.Path.{◌≡◌, sym, ◌∙◌}
+use mathlib.Core.Path.{◌≡◌, sym, ap, ◌∙◌}
 use Rattle.book.proofs.Book.hold.Goals as goal
 
 pub returns-in_default : goal.returns-in_default
-returns-in_default c = c.answered.ensures ∙ undone_malformed _ _ _ c.tally.ensures c.in_default.in_default-own.keys2
+returns-in_default c = ap outcome_by c.hand_back.ensures ∙ undone_malformed _ _ _ c.tally.ensures c.in_default.is
 
 pub returns-then-not-is_brought : goal.returns-then-not-is_brought
 returns-then-not-is_brought c =
-    let holding : Holding c.args.self c.in-Holds.count = holds c.args.self _ c.tally.ensures _ (sized c.args.self (search rules) (search rules)) c.in-Holds.is in
-    c.answered-then-not-is_brought.ensures ∙ deed_invalid _ _ holding.formed (sym c.is_brought.ensures ∙ c.if-not-is_brought.true)
+    let holding : Holding c.args.self c.in-Some.count = holds c.args.self _ c.tally.ensures _ (sized c.args.self (search rules) (search rules)) c.in-Some.is in
+    ap outcome_by c.hand_back-then-not-is_brought.ensures ∙ deed_invalid _ _ holding.formed (sym c.is_brought.ensures ∙ c.if-not-is_brought.true)
 
 pub hold_in-requires : goal.hold_in-requires
 hold_in-requires c =
-    let counted : tally_of c.args.self ≡ Holds c.in-Holds.count = sym c.tally.ensures ∙ c.in-Holds.is in
+    let counted : tally_of c.args.self ≡ Some c.in-Some.count = sym c.tally.ensures ∙ c.in-Some.is in
     (counted, sym c.is_brought.ensures ∙ c.if-not-is_brought.false)
 
 pub returns : goal.returns

@@ -8,11 +8,11 @@ returns-in_default c =
 
 pub overflow_sub-result : goal.overflow_sub-result
 overflow_sub-result c =
-    omega (arith, whole_most _ _ _ _ _ c.whole.ensures c.in-Are.is)
+    omega (arith, whole_most _ _ _ _ _ c.whole.ensures c.in-Some.is)
 
 pub returns-then-starts : goal.returns-then-starts
 returns-then-starts c =
-    under_is _ _ c.starts.ensures c.if-starts.true _ c.rest.ensures _ c.whole.ensures _ c.in-Are.is
+    under_is _ _ c.starts.ensures c.if-starts.true _ c.rest.ensures _ c.whole.ensures _ c.in-Some.is
 
 pub returns-in_default-whole : goal.returns-in_default-whole
 returns-in_default-whole c =
@@ -20,8 +20,8 @@ returns-in_default-whole c =
 
 pub overflow_add-result : goal.overflow_add-result
 overflow_add-result c =
-    omega (arith, whole_most _ _ _ _ _ c.whole-2.ensures c.in-Are-whole.is)
+    omega (arith, whole_most _ _ _ _ _ c.whole-2.ensures c.in-Some-whole.is)
 
 pub returns : goal.returns
 returns c =
-    over_is _ _ c.starts.ensures c.if-starts.false _ c.whole-2.ensures _ c.in-Are-whole.is
+    over_is _ _ c.starts.ensures c.if-starts.false _ c.whole-2.ensures _ c.in-Some-whole.is

@@ -8,16 +8,16 @@ returns-in_default c =
 pub returns-in_default-value_of : goal.returns-in_default-value_of
 returns-in_default-value_of c =
     no_value _ _ _ _ _ _ c.key_of-key.ensures _ c.front.ensures _ c.line_of.ensures
-    _ c.in-Ends.is _ _ c.front-2.ensures c.rest.ensures _ c.value_of.ensures c.in_default-value_of.is
+    _ c.in-Some.is _ _ c.front-2.ensures c.rest.ensures _ c.value_of.ensures c.in_default-value_of.is
 
-pub returns-then-v-least : goal.returns-then-v-least
-returns-then-v-least c =
+pub returns-then-v-x : goal.returns-then-v-x
+returns-then-v-x c =
     value_out _ _ _ _ _ _ c.key_of-key.ensures _ c.front.ensures _ c.line_of.ensures
-    _ c.in-Ends.is _ _ c.front-2.ensures c.rest.ensures _ c.value_of.ensures
-    _ c.in-Are.is c.if-v-least.true
+    _ c.in-Some.is _ _ c.front-2.ensures c.rest.ensures _ c.value_of.ensures
+    _ c.in-Some-value_of.is c.if-v-x.true
 
 pub returns : goal.returns
 returns c =
     value_in_lem _ _ _ _ _ _ c.key_of-key.ensures _ c.front.ensures _ c.line_of.ensures
-    _ c.in-Ends.is _ _ c.front-2.ensures c.rest.ensures _ c.value_of.ensures
-    _ c.in-Are.is c.if-v-least.false
+    _ c.in-Some.is _ _ c.front-2.ensures c.rest.ensures _ c.value_of.ensures
+    _ c.in-Some-value_of.is c.if-v-x.false

@@ -1,4 +1,4 @@
 use Rattle.saved_lines.proofs.line.meet.Goals as goal
 
-pub returns-in-Line : goal.returns-in-Line
-returns-in-Line c = rw c.in-Line.is c.line_says.ensures
+pub returns-in-Some : goal.returns-in-Some
+returns-in-Some c = rw c.in-Some.is c.line_says.ensures

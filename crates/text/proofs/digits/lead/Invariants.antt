@@ -1,14 +1,15 @@
-use Prim.Native.Nat.{◌-◌, ◌^◌, ◌≤◌, ◌<◌}
+use Prim.Native.Nat.{◌^◌, ◌<◌}
 use Rattle.text.specs.Bytes.{skip, is_digit}
 use Rattle.text.specs.Digits.{number_in}
-use lib.ListN.{length, take, drop}
+use lib.ListN.{take, drop}
 use mathlib.Core.Path.{◌≡◌}
 use Rattle.text.proofs.digits.lead.Given as goal
 
 -- The digits up to i wrote the value; the run ends there, or as many are read as may be.
 abbrev pub invariant-loop-i : goal.invariant-loop-i
 invariant-loop-i l =
-    (l.i ≤ length l.s) × (l.i ≤ l.most) × (l.value < 10 ^ l.i) × (l.value ≡ number_in (take l.i l.s)) × (skip is_digit l.s ≡ skip is_digit (drop l.i l.s))
-
-abbrev pub decreases-loop-i : goal.decreases-loop-i
-decreases-loop-i l = length l.s - l.i
+    record {
+      below : l.value < 10 ^ l.i;
+      written : l.value ≡ number_in (take l.i l.s);
+      skipped : skip is_digit l.s ≡ skip is_digit (drop l.i l.s);
+    }

@@ -3,14 +3,8 @@ use mathlib.Core.Path.{refl, sym, ◌∙◌}
 use native.Mathlib.Omega.{arith}
 use Rattle.text.proofs.put.put_digits_clipped.Goals as goal
 
-pub loop-j-init : goal.loop-j-init
-loop-j-init c = (refl, omega arith, refl)
-
 pub loop-j-preserved : goal.loop-j-preserved
-loop-j-preserved c =
-    let l = c.loop-j in
-    let b = c.put_byte in
-    (b.auto.out ∙ l.invariant.0, omega arith, digit_step _ _ _ l.j _ c.loop-j-test.true b.ensures.1 ∙ l.invariant.2)
+loop-j-preserved c = digit_step _ _ _ c.loop-j.j _ c.loop-j-test.true c.put_byte.ensures.1 ∙ c.loop-j.invariant
 
 pub returns : goal.returns
-returns c = (refl, sym (digit_end _ _ _ _ c.loop-j-test.false) ∙ c.loop-j.invariant.2)
+returns c = (refl, sym (digit_end _ _ c.loop-j.j _ (omega arith)) ∙ c.loop-j.invariant)

@@ -3,5 +3,5 @@ use Rattle.text.proofs.put.put_eight.Goals as goal
 
 pub returns : goal.returns
 returns c =
-    eight_moved c.args.t.now c.args.i c.args.out.now c.args.at c.shared_slice_known-1.given c.requires.1 c.eight.ensures
+    eight_moved c.args.t.now c.args.i c.args.out.now c.args.at c.type_inv.t c.requires.1 c.eight.ensures
     c.put_word.ensures

@@ -1,4 +1,3 @@
-use Prim.Native.Nat.{◌-◌, ◌≤◌}
 use Rattle.text.specs.Bytes.{same}
 use lib.ListN.{take, drop}
 use mathlib.Core.Path.{◌≡◌}
@@ -6,7 +5,4 @@ use Rattle.text.proofs.scan.few_alike.Given as goal
 
 -- The first n of both are the same where those from i on are.
 abbrev pub invariant-loop-i : goal.invariant-loop-i
-invariant-loop-i l = (l.i ≤ l.n) × (same (take l.n l.a) (take l.n l.b) ≡ same (drop l.i (take l.n l.a)) (drop l.i (take l.n l.b)))
-
-abbrev pub decreases-loop-i : goal.decreases-loop-i
-decreases-loop-i l = l.n - l.i
+invariant-loop-i l = (same (take l.n l.a) (take l.n l.b) ≡ same (drop l.i (take l.n l.a)) (drop l.i (take l.n l.b)))

@@ -3,14 +3,4 @@ use Rattle.transfer.proofs.state.collector_in.Goals as goal
 
 pub returns : goal.returns
 unfolding collector_in
-returns c =
-    λ i. record {
-      turn = c.turn_in.ensures i;
-      ca = c.two.ensures i;
-      ioa = c.three.ensures i;
-      announced = c.two-2.ensures i;
-      ended = c.one.ensures i;
-      start = c.two-3.ensures i;
-      due = c.two-4.ensures i;
-      count = c.two-5.ensures i;
-    }
+returns c = rw (c.turn_in.ensures, c.two.ensures, c.three.ensures, c.two-2.ensures, c.two-3.ensures, c.two-4.ensures, c.two-5.ensures)

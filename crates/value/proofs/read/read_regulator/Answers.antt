@@ -5,13 +5,13 @@ use mir.Syntax.{w32}
 use mir.ValLaws.{to_z-of_z}
 use Rattle.value.proofs.read.read_regulator.Goals as goal
 
-pub returns-in-Is : goal.returns-in-Is
-returns-in-Is c =
-    rw (to_z-of_z w32 c.in-Is.n (record { sfits = c.in-Is.known_told-1-own.given.0.1 }))
-    (is_number regulator _ _ _ c.in-Is.is c.read.ensures)
+pub returns-in-Some : goal.returns-in-Some
+returns-in-Some c =
+    rw (to_z-of_z w32 c.in-Some.n (record { sfits = c.in-Some.known_told-1-own.given.0.1 }))
+    (is_number regulator _ _ _ c.in-Some.is c.read.ensures)
 
-pub returns-in-Bad : goal.returns-in-Bad
-returns-in-Bad c =
+pub returns-in-None : goal.returns-in-None
+returns-in-None c =
     c.worded.ensures
     ∙ ap got_word c.read_volt.ensures
-    ∙ is_word regulator _ _ _ c.in-Bad.is c.read.ensures
+    ∙ is_word regulator _ _ _ c.in-None.is c.read.ensures

@@ -1,13 +1,15 @@
 use Rattle.value_fits.proofs.Gradients.{few_triples, many_triples, these_triples}
+use Rattle.value_fits.proofs.triples.are_listed.Goals.{then-n-lt1-via-then-n-lt1, then-n-lt1-via-else-n-lt1+then-n-gt16}
 use borrow.Author.Rules.{rules}
 use Rattle.value_fits.proofs.triples.are_listed.Goals as goal
 
 -- Too few, too many, or test by test as the definition says.
 pub returns-then-n-lt1 : goal.returns-then-n-lt1
-returns-then-n-lt1 c = few_triples _ _ c.if-n-lt1.true
-
-pub returns-then-n-gt16 : goal.returns-then-n-gt16
-returns-then-n-gt16 c = many_triples _ _ c.if-n-gt16.true
+returns-then-n-lt1 c =
+    elim c.then-n-lt1.branch [
+      | then-n-lt1-via-then-n-lt1 w ↦ few_triples _ _ w.if-n-lt1.true
+      | then-n-lt1-via-else-n-lt1+then-n-gt16 w ↦ many_triples _ _ w.if-n-gt16.true
+    ]
 
 pub returns : goal.returns
 returns c =

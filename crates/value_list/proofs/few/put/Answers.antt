@@ -21,14 +21,14 @@ returns-then-n-eq0 c =
     none_put number_text c.args.sep (list_of c.args.x) c.args.out.now c.args.at (sym c.held-n.ensures.0 ∙ c.if-n-eq0.true)
 
 pub loop-i-init : goal.loop-i-init
-loop-i-init c = (omega arith, omega (arith, c.if-n-eq0.false), begin_put number_text _ _ _ _)
+loop-i-init c = begin_put number_text _ _ _ _
 
 pub put_byte-q-requires : goal.put_byte-q-requires
 put_byte-q-requires c =
     let near : c.loop-i.p ≤ c.args.at + 51 = let x = c.args.x in
     omega (
       arith,
-      place_near number_text c.args.sep 12 number_short c.loop-i.invariant.2,
+      place_near number_text c.args.sep 12 number_short c.loop-i.invariant,
       length-drop 1 (list_of x),
       c.held-n.ensures,
       c.put-p.ensures.0,
@@ -41,7 +41,7 @@ put-p-requires-in-loop-i c =
     let near : c.loop-i.p ≤ c.args.at + 51 = let x = c.args.x in
     omega (
       arith,
-      place_near number_text c.args.sep 12 number_short c.loop-i.invariant.2,
+      place_near number_text c.args.sep 12 number_short c.loop-i.invariant,
       length-drop 1 (list_of x),
       c.held-n.ensures,
       c.put-p.ensures.0,
@@ -57,14 +57,11 @@ loop-i-preserved c =
       c.loop-i-test.true,
       c.held-n.ensures,
     )) in
-    let h = c.held-n.ensures in (
-      omega arith,
-      omega arith,
-      next_put number_text _ (pos 0) _ c.loop-i.invariant.2 at_next (omega arith) (puts_of 1 refl c.put_byte-q.ensures) (puts c.put-p-in-loop-i.ensures),
-    )
+    let h = c.held-n.ensures in
+    next_put number_text _ (pos 0) _ c.loop-i.invariant at_next (omega arith) (puts_of 1 refl c.put_byte-q.ensures) (puts c.put-p-in-loop-i.ensures)
 
 pub shape_of-out : goal.shape_of-out
-shape_of-out c = let k = same_room _ _ c.loop-i.invariant.2 in search rules
+shape_of-out c = let k = same_room _ _ c.loop-i.invariant in search rules
 
 pub returns : goal.returns
 unfolding numbers_text
@@ -73,4 +70,4 @@ returns c =
     to_z-of_z w32 x.first (search rules) ∙ held_at x 0 (omega (arith, c.held-n.ensures, c.if-n-eq0.false)) in
     let h = c.held-n.ensures in
     all_put number_text _ (pos 0) _ at_first (omega (arith, c.if-n-eq0.false)) (puts c.put-p.ensures)
-    c.loop-i.invariant.2 (omega arith)
+    c.loop-i.invariant (omega arith)

@@ -13,23 +13,23 @@ use Rattle.value_list.proofs.triples.put.Goals as goal
 pub returns-then-held-eq0 : goal.returns-then-held-eq0
 unfolding gradients_text
 returns-then-held-eq0 c =
-    let all_of : c.at_most_16-held.result ≡ length (take c.args.n c.args.values) = let e : length c.args.values ≡ 16 = search rules in
-    omega (arith, c.at_most_16-held.ensures, length-take c.args.n c.args.values) in
+    let all_of : c.min-held.result ≡ length (take c.args.n c.args.values) = let e : length c.args.values ≡ 16 = search rules in
+    omega (arith, c.min-held.ensures, length-take c.args.n c.args.values) in
     none_put triple_text 59 (take c.args.n c.args.values) c.args.out.now c.args.at (sym all_of ∙ c.if-held-eq0.true)
 
 pub loop-i-init : goal.loop-i-init
-loop-i-init c = (omega arith, omega (arith, c.if-held-eq0.false), begin_put triple_text _ _ _ _)
+loop-i-init c = begin_put triple_text _ _ _ _
 
 pub put_byte-q-requires : goal.put_byte-q-requires
 put_byte-q-requires c =
-    let all_of : c.at_most_16-held.result ≡ length (take c.args.n c.args.values) = let e : length c.args.values ≡ 16 = search rules in
-    omega (arith, c.at_most_16-held.ensures, length-take c.args.n c.args.values) in
+    let all_of : c.min-held.result ≡ length (take c.args.n c.args.values) = let e : length c.args.values ≡ 16 = search rules in
+    omega (arith, c.min-held.ensures, length-take c.args.n c.args.values) in
     let near : c.loop-i.p ≤ c.args.at + 623 = omega (
       arith,
-      place_near triple_text 59 38 triple_short c.loop-i.invariant.2,
+      place_near triple_text 59 38 triple_short c.loop-i.invariant,
       length-drop 1 (take c.args.n c.args.values),
       all_of,
-      c.at_most_16-held.ensures,
+      c.min-held.ensures,
       c.put_triple-p.ensures.0,
       triple_short (get_or c.args.values 0 no_triple),
     ) in
@@ -37,14 +37,14 @@ put_byte-q-requires c =
 
 pub put_triple-p-requires-in-loop-i : goal.put_triple-p-requires-in-loop-i
 put_triple-p-requires-in-loop-i c =
-    let all_of : c.at_most_16-held.result ≡ length (take c.args.n c.args.values) = let e : length c.args.values ≡ 16 = search rules in
-    omega (arith, c.at_most_16-held.ensures, length-take c.args.n c.args.values) in
+    let all_of : c.min-held.result ≡ length (take c.args.n c.args.values) = let e : length c.args.values ≡ 16 = search rules in
+    omega (arith, c.min-held.ensures, length-take c.args.n c.args.values) in
     let near : c.loop-i.p ≤ c.args.at + 623 = omega (
       arith,
-      place_near triple_text 59 38 triple_short c.loop-i.invariant.2,
+      place_near triple_text 59 38 triple_short c.loop-i.invariant,
       length-drop 1 (take c.args.n c.args.values),
       all_of,
-      c.at_most_16-held.ensures,
+      c.min-held.ensures,
       c.put_triple-p.ensures.0,
       triple_short (get_or c.args.values 0 no_triple),
     ) in
@@ -52,21 +52,21 @@ put_triple-p-requires-in-loop-i c =
 
 pub loop-i-preserved : goal.loop-i-preserved
 loop-i-preserved c =
-    let all_of : c.at_most_16-held.result ≡ length (take c.args.n c.args.values) = let e : length c.args.values ≡ 16 = search rules in
-    omega (arith, c.at_most_16-held.ensures, length-take c.args.n c.args.values) in
+    let all_of : c.min-held.result ≡ length (take c.args.n c.args.values) = let e : length c.args.values ≡ 16 = search rules in
+    omega (arith, c.min-held.ensures, length-take c.args.n c.args.values) in
     let at_place : (i : ℕ) → i < length (take c.args.n c.args.values) → get_or c.args.values i no_triple ≡ get_or (take c.args.n c.args.values) i no_triple = λ i h. sym (get_or-take c.args.n c.args.values i no_triple (omega (arith, length-take c.args.n c.args.values))) in
     let h = all_of in
-    (omega arith, omega arith, next_put triple_text 59 no_triple _ c.loop-i.invariant.2 (at_place c.loop-i.i (omega arith)) (omega arith) (puts_of 1 refl c.put_byte-q.ensures) (puts c.put_triple-p-in-loop-i.ensures))
+    next_put triple_text 59 no_triple _ c.loop-i.invariant (at_place c.loop-i.i (omega arith)) (omega arith) (puts_of 1 refl c.put_byte-q.ensures) (puts c.put_triple-p-in-loop-i.ensures)
 
 pub shape_of-out : goal.shape_of-out
-shape_of-out c = let k = same_room _ _ c.loop-i.invariant.2 in search rules
+shape_of-out c = let k = same_room _ _ c.loop-i.invariant in search rules
 
 pub returns : goal.returns
 unfolding gradients_text
 returns c =
-    let all_of : c.at_most_16-held.result ≡ length (take c.args.n c.args.values) = let e : length c.args.values ≡ 16 = search rules in
-    omega (arith, c.at_most_16-held.ensures, length-take c.args.n c.args.values) in
+    let all_of : c.min-held.result ≡ length (take c.args.n c.args.values) = let e : length c.args.values ≡ 16 = search rules in
+    omega (arith, c.min-held.ensures, length-take c.args.n c.args.values) in
     let at_place : (i : ℕ) → i < length (take c.args.n c.args.values) → get_or c.args.values i no_triple ≡ get_or (take c.args.n c.args.values) i no_triple = λ i h. sym (get_or-take c.args.n c.args.values i no_triple (omega (arith, length-take c.args.n c.args.values))) in
     let h = all_of in
-    let n : 0 < c.at_most_16-held.result = omega (arith, c.if-held-eq0.false) in
-    all_put triple_text 59 no_triple _ (at_place 0 (omega arith)) (omega arith) (puts c.put_triple-p.ensures) c.loop-i.invariant.2 (omega arith)
+    let n : 0 < c.min-held.result = omega (arith, c.if-held-eq0.false) in
+    all_put triple_text 59 no_triple _ (at_place 0 (omega arith)) (omega arith) (puts c.put_triple-p.ensures) c.loop-i.invariant (omega arith)

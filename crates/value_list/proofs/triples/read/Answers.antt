@@ -1,9 +1,9 @@
+use Rattle.std.specs.Prelude.{Some}
 use Rattle.value_list.proofs.Cuts.{begin, too_many, ends, bad_part, next_part}
 use Rattle.value_list.proofs.Lines.{no_gradients, are_gradients}
 use Rattle.value_list.specs.Forms.{triple_is, triple_in, no_triple}
 use Rattle.text.specs.Bytes.{part, trim}
 use lib.ListN.{length-set}
-use mathlib.Core.Option.{some}
 use mathlib.Core.Path.{◌≡◌, refl, sym, ap, ◌∙◌}
 use native.Mathlib.Omega.{arith}
 use Rattle.value_list.proofs.triples.read.Goals as goal
@@ -15,17 +15,15 @@ pub slice_bounds-part_triple-end : goal.slice_bounds-part_triple-end
 slice_bounds-part_triple-end c =
     ends triple_in _ _ _ _ _ _ _ c.loop-n.invariant.1 c.part_end-e.ensures
 
-pub returns-in_default : goal.returns-in_default
-returns-in_default c =
-    c.none.ensures
-    ∙ no_gradients _ (bad_part triple_in _ _ _ _ _ _ _ c.loop-n.invariant.1 c.part_end-e.ensures _ _
-    (ap triple_is (sym c.part_triple.ensures ∙ c.in_default.is)))
+pub returns-in_err-values : goal.returns-in_err-values
+returns-in_err-values c =
+    c.from_residual.ensures ∙ no_gradients _ (bad_part triple_in _ _ _ _ _ _ _ c.loop-n.invariant.1 c.part_end-e.ensures _ _
+    (ap triple_is (sym c.part_triple.ensures ∙ c.in_err-values.was)))
 
 pub returns-then-e-s : goal.returns-then-e-s
 returns-then-e-s c =
-    let was_read : triple_in (trim (part c.loop-n.at c.part_end-e.result c.args.s.now)) ≡ some c.in-It.t = ap triple_is (sym c.part_triple.ensures ∙ c.in-It.is) in
-    c.are.ensures
-    ∙ are_gradients _ _ _ _ _ c.in-It.t c.loop-n.invariant.0 c.loop-n.invariant.1 c.part_end-e.ensures was_read c.if-e-s.true
+    let was_read : triple_in (trim (part c.loop-n.at c.part_end-e.result c.args.s.now)) ≡ Some c.in_ok-values.field-0 = ap triple_is (sym c.part_triple.ensures ∙ c.in_ok-values.was) in
+    are_gradients _ _ _ _ _ c.in_ok-values.field-0 c.loop-n.invariant.0 c.loop-n.invariant.1 c.part_end-e.ensures was_read c.if-e-s.true
     (omega arith)
 
 pub overflow_add-at : goal.overflow_add-at
@@ -34,11 +32,11 @@ overflow_add-at c =
 
 pub loop-n-preserved : goal.loop-n-preserved
 loop-n-preserved c =
-    let was_read : triple_in (trim (part c.loop-n.at c.part_end-e.result c.args.s.now)) ≡ some c.in-It.t = ap triple_is (sym c.part_triple.ensures ∙ c.in-It.is) in (
-      length-set c.loop-n.values c.loop-n.n c.in-It.t ∙ c.loop-n.invariant.0,
-      next_part triple_in _ _ _ _ _ _ _ c.loop-n.invariant.1 c.part_end-e.ensures c.in-It.t (omega arith) was_read c.if-e-s.false,
+    let was_read : triple_in (trim (part c.loop-n.at c.part_end-e.result c.args.s.now)) ≡ Some c.in_ok-values.field-0 = ap triple_is (sym c.part_triple.ensures ∙ c.in_ok-values.was) in (
+      length-set c.loop-n.values c.loop-n.n c.in_ok-values.field-0 ∙ c.loop-n.invariant.0,
+      next_part triple_in _ _ _ _ _ _ _ c.loop-n.invariant.1 c.part_end-e.ensures c.in_ok-values.field-0 (omega arith) was_read c.if-e-s.false,
     )
 
 pub returns : goal.returns
 returns c =
-    c.none-2.ensures ∙ no_gradients _ (too_many triple_in _ _ _ _ _ _ _ _ c.loop-n.invariant.1 c.loop-n-test.false)
+    no_gradients _ (too_many triple_in _ _ _ _ _ _ _ _ c.loop-n.invariant.1 (omega arith))

@@ -1,4 +1,3 @@
-use Prim.Native.Nat.{◌-◌}
 use Rattle.value_list.proofs.Cuts.{Sofar}
 use Rattle.value_list.specs.Forms.{triple_in, no_triple}
 use lib.ListN.{length}
@@ -8,6 +7,3 @@ use Rattle.value_list.proofs.triples.read.Given as goal
 -- As the reader of numbers, with a triple for a number: the room holds what is read up to `at`, and what is left is the list of the rest.
 abbrev pub invariant-loop-n : goal.invariant-loop-n
 invariant-loop-n l = (length l.values ≡ 16) × Sofar triple_in 59 no_triple l.s l.at l.n l.values
-
-abbrev pub decreases-loop-n : goal.decreases-loop-n
-decreases-loop-n l = 16 - l.n

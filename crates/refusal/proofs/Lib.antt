@@ -1,0 +1,2 @@
+pub mod Some
+pub mod Told
