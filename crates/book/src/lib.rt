@@ -174,13 +174,12 @@ impl Book {
             return hand_back(Err(Refusal::NotHeld), self);
         };
         let o = orders[at];
-        match book_order::strike(o, over) {
-            Err(refusal) => hand_back(Err(refusal), self),
-            Ok(struck) => {
-                orders[at] = struck;
-                hand_back(Ok(()), self.made(self.floor, self.held, self.next, orders))
-            }
-        }
+        let struck = match book_order::strike(o, over) {
+            Ok(struck) => struck,
+            Err(refusal) => return hand_back(Err(refusal), self),
+        };
+        orders[at] = struck;
+        hand_back(Ok(()), self.made(self.floor, self.held, self.next, orders))
     }
 
     // Holds an order. 12: no valid CB record brings it.

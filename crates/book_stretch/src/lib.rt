@@ -77,7 +77,8 @@ fn fits(c: Stretch, least: u64, most: u32) -> bool
     (least <= c.from as u64) & (c.from < c.to) & (c.to <= most)
 }
 
-// Whether they are well formed in an order's own time. Of most orders nothing is struck, which is told first.
+// Whether they are well formed in an order's own time. Of most orders nothing is struck, which is told first. Each stretch is copied out and tested by
+// value: tested by a reference, as `==` does, all are read one by one even where nothing is struck, and a full book's call runs a quarter more instructions.
 pub fn are_formed(list: [Stretch; 4], time: Stretch) -> bool
     ensures { result ≡ formed_in time list }
 {
@@ -85,11 +86,12 @@ pub fn are_formed(list: [Stretch; 4], time: Stretch) -> bool
         return true;
     }
     let mut least = time.from as u64;
-    for (i, c) in list.iter().enumerate() {
-        if *c == NONE {
+    for i in 0..4 {
+        let c = list[i];
+        if is_none(c) {
             return all_none(&list[i..]);
         }
-        if !fits(*c, least, time.to) {
+        if !fits(c, least, time.to) {
             return false;
         }
         least = c.to as u64 + 1;

@@ -1,5 +1,6 @@
 // `book UNIT CALLS`: a fresh book for a unit, and calls on it one after another.
-use crate::hex::{self, Hex};
+use crate::answers::LARGEST;
+use crate::hex::{self, say_hex};
 use crate::request::{cut, items_of, number_of};
 use crate::said::{say_code, say_unknown};
 use book::{Answered, Book, Panel};
@@ -64,29 +65,38 @@ fn say_why<W: Write>(reply: &mut W, refusal: Refusal) -> io::Result<()> {
     say_code(reply, refusal.number(), refusal.detail())
 }
 
-// What a call answered, and the book that it handed back.
-fn handed<W: Write>(reply: &mut W, o: Answered<()>) -> io::Result<Book> {
-    let answer = o.answer;
-    match answer {
-        Ok(()) => say_code(reply, 0, 0)?,
-        Err(refusal) => say_why(reply, refusal)?,
+fn say_done<W: Write>(reply: &mut W, a: Result<(), Refusal>) -> io::Result<()> {
+    match a {
+        Ok(()) => say_code(reply, 0, 0),
+        Err(refusal) => say_why(reply, refusal),
     }
-    Ok(o.book)
+}
+
+// What a call answered. (A book is some 6 KB: it stays in one place, where each call puts the one that it handed back.)
+fn take_back<W: Write>(reply: &mut W, b: &mut Book, o: Answered<()>) -> io::Result<()> {
+    let answer = o.answer;
+    *b = o.book;
+    say_done(reply, answer)
+}
+
+fn close<W: Write>(reply: &mut W, b: &mut Book, t: u32) -> io::Result<()> {
+    let closed = b.close(t);
+    take_back(reply, b, closed)
 }
 
 fn say_in_force<W: Write>(reply: &mut W, a: Result<Option<u64>, Refusal>) -> io::Result<()> {
     match a {
-        Ok(None) => write!(reply, "f:none"),
+        Ok(None) => reply.write_all(b"f:none"),
         Ok(Some(n)) => write!(reply, "f:{n}"),
         Err(refusal) => say_why(reply, refusal),
     }
 }
 
-fn ask<W: Write>(reply: &mut W, b: Book, t: u32) -> io::Result<Book> {
+fn ask<W: Write>(reply: &mut W, b: &mut Book, t: u32) -> io::Result<()> {
     let asked = b.in_force(t);
     let answer = asked.answer;
-    say_in_force(reply, answer)?;
-    Ok(asked.book)
+    *b = asked.book;
+    say_in_force(reply, answer)
 }
 
 fn say_panel<W: Write>(reply: &mut W, p: Result<Panel, Refusal>) -> io::Result<()> {
@@ -96,11 +106,11 @@ fn say_panel<W: Write>(reply: &mut W, p: Result<Panel, Refusal>) -> io::Result<(
     }
 }
 
-fn show<W: Write>(reply: &mut W, b: Book) -> io::Result<Book> {
+fn show<W: Write>(reply: &mut W, b: &mut Book) -> io::Result<()> {
     let shown = b.panel();
     let answer = shown.answer;
-    say_panel(reply, answer)?;
-    Ok(shown.book)
+    *b = shown.book;
+    say_panel(reply, answer)
 }
 
 // Reads an order's file by a plan of the one row ca=1, ioa=1, its unit and its type. (Of a unit and a type that are too long, as much as shows that.)
@@ -121,61 +131,64 @@ fn record_of(o: Order) -> io::Result<Option<Record>> {
     Ok(read.ok())
 }
 
-fn give<W: Write>(reply: &mut W, b: Book, act: Act, o: Order) -> io::Result<Book> {
+fn give<W: Write>(reply: &mut W, b: &mut Book, act: Act, o: Order) -> io::Result<()> {
     let Some(r) = record_of(o)? else {
-        write!(reply, "unread")?;
-        return Ok(b);
+        return reply.write_all(b"unread");
     };
     let outcome = match act {
         Act::Command => b.command(r),
         Act::Revoke => b.revoke(r),
     };
-    handed(reply, outcome)
+    take_back(reply, b, outcome)
 }
 
 fn say_saved<W: Write>(reply: &mut W, s: Result<usize, Refusal>, out: &[u8]) -> io::Result<()> {
     match s {
-        Ok(n) => write!(reply, "t:{}", Hex(scan::front(out, n))),
+        Ok(n) => {
+            reply.write_all(b"t:")?;
+            say_hex(reply, scan::front(out, n))
+        }
         Err(refusal) => say_why(reply, refusal),
     }
 }
 
-// Into a buffer of so many bytes, at most 65,536.
-fn save<W: Write>(reply: &mut W, b: Book, room: u32) -> io::Result<Book> {
-    let mut space = [0; 65536];
-    let Some(out) = space.get_mut(..room as usize) else {
-        say_unknown(reply)?;
-        return Ok(b);
-    };
-    let s = saved::save(b, out);
-    say_saved(reply, s, out)?;
-    Ok(b)
+// Into a buffer of so many bytes.
+fn save<W: Write>(reply: &mut W, b: &Book, room: u32) -> io::Result<()> {
+    let size = room as usize;
+    if LARGEST < size {
+        return say_unknown(reply);
+    }
+    let mut space = [0; LARGEST];
+    let out = &mut space[..size];
+    let s = saved::save(*b, out);
+    say_saved(reply, s, out)
 }
 
-// One call. After `L` the book read, or the all-zero book, is the book from then on.
-fn answer<W: Write>(reply: &mut W, b: Book, call: &mut [u8]) -> io::Result<Book> {
+// The book read, or the all-zero book, is the book from then on.
+fn load<W: Write>(reply: &mut W, b: &mut Book, text: &[u8]) -> io::Result<()> {
+    take_back(reply, b, saved::read(text))
+}
+
+// One call.
+fn answer<W: Write>(reply: &mut W, b: &mut Book, call: &mut [u8]) -> io::Result<()> {
     match call_in(call) {
         Some(Call::Give(act, o)) => give(reply, b, act, o),
-        Some(Call::Close(t)) => handed(reply, b.close(t)),
+        Some(Call::Close(t)) => close(reply, b, t),
         Some(Call::Ask(t)) => ask(reply, b, t),
         Some(Call::Save(room)) => save(reply, b, room),
-        Some(Call::Load(text)) => handed(reply, saved::read(text)),
+        Some(Call::Load(text)) => load(reply, b, text),
         Some(Call::Panel) => show(reply, b),
-        None => {
-            say_unknown(reply)?;
-            Ok(b)
-        }
+        None => say_unknown(reply),
     }
 }
 
-fn answer_calls<W: Write>(reply: &mut W, fresh: Book, calls: &mut [u8]) -> io::Result<()> {
+fn answer_calls<W: Write>(reply: &mut W, b: &mut Book, calls: &mut [u8]) -> io::Result<()> {
     let Some(calls) = items_of(calls) else {
         return Ok(());
     };
-    let mut b = fresh;
     for call in calls.split_mut(|b| *b == b',') {
-        write!(reply, " ")?;
-        b = answer(reply, b, call)?;
+        reply.write_all(b" ")?;
+        answer(reply, b, call)?;
     }
     Ok(())
 }
@@ -186,6 +199,9 @@ pub(crate) fn answer_all<W: Write>(reply: &mut W, fields: &mut [u8]) -> io::Resu
     let Some(unit) = hex::decode(unit) else {
         return say_unknown(reply);
     };
-    let fresh = handed(reply, book::fresh(unit))?;
-    answer_calls(reply, fresh, calls)
+    let fresh = book::fresh(unit);
+    let answer = fresh.answer;
+    let mut b = fresh.book;
+    say_done(reply, answer)?;
+    answer_calls(reply, &mut b, calls)
 }

@@ -1,7 +1,8 @@
 // Bytes as lowercase hex, `-` for none: those of a request are decoded where they stand, and those of an answer are printed.
 ghost use Rattle.std.specs.Prelude.{◌<◌, IfSome};
 
-use std::fmt;
+use std::io::{self, Write};
+use text::scan;
 
 fn digit_of(b: u8) -> Option<u8>
     ensures { IfSome result (λ d. d < 16) }
@@ -28,18 +29,29 @@ pub(crate) fn decode(field: &mut [u8]) -> Option<&[u8]> {
     Some(&field[..size])
 }
 
-// What is printed of bytes.
-#[derive(Clone, Copy)]
-pub(crate) struct Hex<'a>(pub(crate) &'a [u8]);
-
-impl fmt::Display for Hex<'_> {
-    fn fmt<W: fmt::Write>(&self, f: &mut fmt::Formatter<W>) -> fmt::Result {
-        if self.0.is_empty() {
-            return f.write_str("-");
-        }
-        for b in self.0 {
-            write!(f, "{b:02x}")?;
-        }
-        Ok(())
+fn hex_digit(n: u8) -> u8 {
+    match n {
+        0..=9 => b'0' + n,
+        10..=15 => b'a' + (n - 10),
+        _ => b'?',
     }
+}
+
+// At most 2,048 bytes.
+fn say_chunk<W: Write>(reply: &mut W, s: &[u8]) -> io::Result<()> {
+    let mut digits = [[0u8; 2]; 2048];
+    for (pair, b) in digits.iter_mut().zip(s) {
+        *pair = [hex_digit(b / 16), hex_digit(b % 16)];
+    }
+    reply.write_all(scan::front(digits.as_flattened(), 2 * s.len()))
+}
+
+pub(crate) fn say_hex<W: Write>(reply: &mut W, s: &[u8]) -> io::Result<()> {
+    if s.is_empty() {
+        return reply.write_all(b"-");
+    }
+    for chunk in s.chunks(2048) {
+        say_chunk(reply, chunk)?;
+    }
+    Ok(())
 }

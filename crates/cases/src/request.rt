@@ -1,12 +1,12 @@
 // A request line: its fields, which single blanks part, and the requests that ask one thing. (The calls on a book and the units of a transfer are taken
 // one by one: calls.rt, transfers.rt.) Bytes are decoded where they stand, so a line is lent to be written.
 use crate::hex;
-use text::digits;
+use text::{digits, scan};
 use times_sheet::Which;
 
 // What stands before the first b, and what stands after it.
 pub(crate) fn cut(text: &mut [u8], b: u8) -> (&mut [u8], &mut [u8]) {
-    let size = text.iter().position(|x| *x == b).unwrap_or(text.len());
+    let size = scan::first(text, b).min(text.len());
     let (front, rest) = text.split_at_mut(size);
     match rest.split_first_mut() {
         Some((_, back)) => (front, back),
@@ -14,9 +14,20 @@ pub(crate) fn cut(text: &mut [u8], b: u8) -> (&mut [u8], &mut [u8]) {
     }
 }
 
-// How many fields a line has, its key among them.
+// The most fields that a request has, its key among them.
+const MOST_FIELDS: usize = 7;
+
+// How many fields a line has, or what stands of it from the blank after its key on: one more than a request can have says that there are more, and nothing
+// after these is looked at.
 pub(crate) fn field_count(line: &[u8]) -> usize {
-    line.split(|b| *b == b' ').count()
+    let mut rest = line;
+    for count in 1..=MOST_FIELDS {
+        let Some((_, after)) = scan::rest(rest, scan::first(rest, b' ')).split_first() else {
+            return count;
+        };
+        rest = after;
+    }
+    MOST_FIELDS + 1
 }
 
 // A decimal number of 32 bits, in at most ten digits.

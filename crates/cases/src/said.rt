@@ -13,5 +13,5 @@ pub(crate) fn say_code<W: Write>(reply: &mut W, number: u8, detail: usize) -> io
 
 // A request that is not of the form, or a call or a unit that is not.
 pub(crate) fn say_unknown<W: Write>(reply: &mut W) -> io::Result<()> {
-    write!(reply, "?")
+    reply.write_all(b"?")
 }

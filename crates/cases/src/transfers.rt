@@ -1,5 +1,5 @@
 // `collect UNITS`: a fresh collector, and units of a transfer one after another.
-use crate::hex::{self, Hex};
+use crate::hex::{self, say_hex};
 use crate::request::items_of;
 use crate::said::{say_code, say_unknown};
 use refusal::Refusal;
@@ -14,7 +14,10 @@ fn say_heard<W: Write>(
 ) -> io::Result<()> {
     match heard {
         Ok(None) => say_code(reply, 0, 0),
-        Ok(Some(whole)) => write!(reply, "F:{}", Hex(scan::front(file, whole.size))),
+        Ok(Some(whole)) => {
+            reply.write_all(b"F:")?;
+            say_hex(reply, scan::front(file, whole.size))
+        }
         Err(refusal) => say_code(reply, refusal.number(), 0),
     }
 }
@@ -53,7 +56,7 @@ pub(crate) fn answer_all<W: Write>(reply: &mut W, units: &mut [u8]) -> io::Resul
     let mut c = transfer::fresh();
     for (i, unit) in units.split_mut(|b| *b == b',').enumerate() {
         if i != 0 {
-            write!(reply, " ")?;
+            reply.write_all(b" ")?;
         }
         c = answer(reply, c, unit, &mut file)?;
     }

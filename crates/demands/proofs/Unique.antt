@@ -39,8 +39,10 @@ use Rattle.writer.specs.Writer.{written_by}
 use Rattle.text.proofs.Determined.{equation, equations, three_equations, buffer_equation, text_equation}
 use Rattle.text.proofs.Numerals.{length_text}
 use Rattle.transfer.proofs.Told.{taken_equations}
+use contract.BorrowLft.{⊑_static}
 use lib.ListN.{length}
 use mathlib.Core.Path.{sym, ap, ◌∙◌}
+use native.Mathlib.Omega.{arith}
 
 pub calls : Calls
 calls =
@@ -147,7 +149,7 @@ within =
       text_lines_trim_span = λ κs a. equation _;
       text_lines_is_separator = (λ κs a. tt, λ κs a. equation _);
       text_lines_Span_text = λ κs a. text_equation _ _;
-      text_room_keep = λ t n f κs a. equation _;
+      text_room_keep = λ t n f. (λ κs a. equation _, λ h κs a. (⊑_static _, omega (arith, h)));
       value_list_few_read = λ κs a. equation _;
       value_list_few_put = λ κs a. equations _ _ _;
       value_list_triples_kept = (λ κs a. tt, λ κs a. equation _);
@@ -255,6 +257,7 @@ within =
       reader_judged = (λ κs a. tt, λ κs a. told_equation reading_by reading_one _);
       report_put_record = λ κs a. equations _ _ _;
       report_put_refusal = λ κs a. equations _ _ _;
+      report_told = (λ κs a. tt, λ κs a. equation _);
       report_put_answer = λ κs a. equations _ _ _;
       writer_lines_put_text_lines = λ κs a. equations _ _ _;
       writer_lines_put_lines = λ κs a. equations _ _ _;

@@ -1,6 +1,6 @@
 -- The functions that are public because crates above or files beside them call them: one answer at most satisfies the contract of each. What some ask is
 -- in docs/DESIGN.md, D10; the others ask nothing (`Answers`, `Writes`, `Lends`).
-use Rattle.std.specs.Prelude.{ℕ}
+use Rattle.std.specs.Prelude.{ℕ, ◌<◌}
 use Rattle.refusal.specs.contracts as refusal_contracts
 use Rattle.refusal.proofs as refusal
 use denote.RattleType.{RattleType}
@@ -21,7 +21,7 @@ use Rattle.writer_message.specs.contracts as writer_message_contracts
 use Rattle.writer_message.proofs as writer_message
 use Rattle.value_date.specs.contracts as value_date_contracts
 use Rattle.value_date.proofs as value_date
-use Rattle.text.specs.Shapes.{Answers, Lends, OneOutput, OneResult, OneText, Writes}
+use Rattle.text.specs.Shapes.{Answers, AsksNothing, Lends, OneOutput, OneResult, OneText, Writes}
 use Rattle.reader_accent.specs.contracts as reader_accent_contracts
 use Rattle.reader_accent.proofs as reader_accent
 use Rattle.reader_line.specs.contracts as reader_line_contracts
@@ -150,8 +150,10 @@ pub record Within : Type 2 where
   pub text_lines_trim_span : OneResult text_lines_contracts.trim_span.ended text_lines.trim_span.Reads.Learnt
   pub text_lines_is_separator : Answers text_lines_contracts.is_separator.ended text_lines.is_separator.Reads.Asked text_lines.is_separator.Reads.Learnt
   pub text_lines_Span_text : OneText text_lines_contracts.Span.text.ended (λ κs z. z.now) text_lines.Span.text.Reads.Learnt
-  -- text_room: a room of any size
-  pub text_room_keep : (t : RattleType) (n : ℕ) (f : Fits w64 n) → OneResult (text_room_contracts.keep.ended t) (text_room.keep.Reads.Learnt n f)
+  -- text_room: a room of any size; of any that an array can have, nothing is asked
+  pub text_room_keep :
+      (t : RattleType) (n : ℕ) (f : Fits w64 n) → OneResult (text_room_contracts.keep.ended t) (text_room.keep.Reads.Learnt n f)
+      × (n < 9223372036854775808 → AsksNothing (text_room_contracts.keep.ended t) (text_room.keep.Reads.Asked n f))
   -- value_list
   pub value_list_few_read : OneResult value_list_contracts.few.read.ended value_list.few.read.Reads.Learnt
   pub value_list_few_put : OneOutput value_list_contracts.few.put.ended (λ κs e. e.0.now) value_list.few.put.Reads.Learnt
@@ -285,6 +287,7 @@ pub record Within : Type 2 where
   -- report
   pub report_put_record : OneOutput report_contracts.put_record.ended (λ κs e. e.0.now) report.put_record.Reads.Learnt
   pub report_put_refusal : OneOutput report_contracts.put_refusal.ended (λ κs e. e.0.now) report.put_refusal.Reads.Learnt
+  pub report_told : Answers report_contracts.told.ended report.told.Reads.Asked report.told.Reads.Learnt
   pub report_put_answer : OneOutput report_contracts.put_answer.ended (λ κs e. e.0.now) report.put_answer.Reads.Learnt
   -- writer_lines
   pub writer_lines_put_text_lines : OneOutput writer_lines_contracts.put_text_lines.ended (λ κs e. e.0.now) writer_lines.put_text_lines.Reads.Learnt

@@ -52,10 +52,10 @@ room_of_unit (Err e) h = refl
 -- put into a room of as many bytes
 pub all_printed : (plan input : List ℕ) (x : Result Record Refusal) (n : ℕ) (l room : List ℕ)
     → ((r : Record) → x ≡ Ok r → length r.unit ≡ 16) → answer_by x ≡ heard_of plan input
-    → (n ≡ 0 + length (report_of (answer_by x))) × (room ≡ sets l 0 (report_of (answer_by x))) → length l ≡ 89 → take n room ≡ printed_of plan input
+    → (t : List ℕ) → t ≡ report_of (answer_by x)
+    → (n ≡ 0 + length t) × (room ≡ sets l 0 t) → length l ≡ 89 → take n room ≡ printed_of plan input
 unfolding printed_of
-all_printed plan input x n l room u h p w =
-    let t = report_of (answer_by x) in
+all_printed plan input x n l room u h t e p w =
     let k : n ≡ length t = omega (arith, p.0) in
-    let z : 0 + length t ≤ length l = omega (arith, longest (answer_by x) (room_of_unit x u), w) in
-    ap₂ (λ (i : ℕ) (x : List ℕ). take i x) k (p.1 ∙ sets-eq t l 0 z) ∙ take-append_seam t (drop (0 + length t) l) ∙ ap report_of h
+    let z : 0 + length t ≤ length l = omega (arith, longest (answer_by x) (room_of_unit x u), ap length e, w) in
+    ap₂ (λ (i : ℕ) (x : List ℕ). take i x) k (p.1 ∙ sets-eq t l 0 z) ∙ take-append_seam t (drop (0 + length t) l) ∙ e ∙ ap report_of h

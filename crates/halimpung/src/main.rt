@@ -40,7 +40,7 @@ fn printed<'a>(room: &'a mut [u8; ROOM], readable: bool, plan: &[u8], input: &[u
     ensures { result.now ≡ printed_of (as_read readable plan.now) input.now }
 {
     let answer = report::hear(as_read(readable, plan), input);
-    let size = report::put_answer(room, 0, answer);
+    let size = report::put_answer(room, 0, report::told(answer));
     scan::front(room, size)
 }
 

@@ -15,8 +15,8 @@ use record::{Cell, Record};
 use value::Rooms;
 
 // Each value of the layout's fields is one that its kind may hold.
-fn all_hold(l: Layout, cells: [Cell; 26], rooms: &Rooms<'_>) -> bool
-    ensures { result ≡ holds_all (type_of l) (rooms_in rooms.now) (kinds_of l) (values_in l cells) }
+fn all_hold(l: Layout, cells: [Cell; 26], rooms: Rooms<'_>) -> bool
+    ensures { result ≡ holds_all (type_of l) (rooms_in rooms.entry) (kinds_of l) (values_in l cells) }
 {
     let t = layout::type_of(l);
     let size = layout::size(l);
@@ -47,11 +47,11 @@ pub fn is_valid(r: Record) -> bool
         unit: &r.unit,
         reason: &r.reason,
         note: &r.note,
-        gradients: &r.gradients,
+        gradients: r.gradients,
     };
-    all_hold(l, cells, &rooms)
+    all_hold(l, cells, rooms)
         & are_blank(cells, layout::size(l))
         & rooms::are_clear(l, cells, rooms.unit, rooms.reason, rooms.note)
         & rooms::has_no_triples(l, r.gradients)
-        & record_rules::lowest_of(l, &cells, rooms.gradients).is_none()
+        & record_rules::lowest_of(l, &cells, &r.gradients).is_none()
 }

@@ -1,13 +1,17 @@
 -- The ways through the program's first two lines, and what is printed of the answer. Assumes nothing.
-use Rattle.std.specs.Prelude.{None, Option, Some}
+use Rattle.std.specs.Prelude.{None, Option, Some, Result}
 use Prim.Native.Nat.{ℕ}
 use Rattle.plan_row.specs.Rows.{ca_at, ioa_at}
 use Rattle.text.specs.Puts.{Puts}
 use Rattle.text_keyline.specs.Keylines.{below}
 use Rattle.reader.specs.Reader.{read_of}
 use Rattle.reader.specs.Refusals.{Answer}
+use Rattle.reader.specs.Said.{answer_by}
+use Rattle.record.specs.declared.Record.{Record}
+use Rattle.refusal.specs.declared.Refusal.{Refusal}
+use Rattle.report.proofs.Fields.{told_report}
 use Rattle.report.specs.Program.{at_address, heard_of, printed_of}
-use Rattle.report.specs.Report.{report_of}
+use Rattle.report.specs.Report.{report_of, told_as, told_lines}
 use lib.ListN.{length}
 use lib.Seq.{sets}
 use mathlib.Core.List.{List}
@@ -46,9 +50,11 @@ module _ (plan input second file : List ℕ) (a : Answer) (d : Option ℕ) (two 
     both_read i y r = r ∙ ap (read_of c i plan) rest_is ∙ read_at (Some i) y
 
 -- what is put at the start, of the answer
-pub print_put : (plan input l : List ℕ) (a : Answer) (r : ℕ) (m : List ℕ) → a ≡ heard_of plan input → Puts l 0 (report_of a) r m
+pub print_put : (plan input l : List ℕ) (x : Result Record Refusal) {y : Result Record (ℕ × ℕ)} (r : ℕ) (m : List ℕ)
+    → answer_by x ≡ heard_of plan input → y ≡ told_as x → Puts l 0 (told_lines y) r m
     → (r ≡ length (printed_of plan input)) × (m ≡ sets l 0 (printed_of plan input))
 unfolding printed_of
-print_put plan input l a r m e p =
-    let n : r ≡ length (report_of a) = omega (arith, p.0) in
-    (n ∙ ap (λ (x : Answer). length (report_of x)) e, p.1 ∙ ap (λ (x : Answer). sets l 0 (report_of x)) e)
+print_put plan input l x {y} r m e t p =
+    let same : told_lines y ≡ report_of (heard_of plan input) = ap told_lines t ∙ told_report x ∙ ap report_of e in
+    let n : r ≡ length (told_lines y) = omega (arith, p.0) in
+    (n ∙ ap length same, p.1 ∙ ap (sets l 0) same)

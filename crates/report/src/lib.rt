@@ -4,7 +4,7 @@
 ghost use Rattle.std.specs.Prelude.{◌+◌, ◌<◌, length, ◌≡◌};
 ghost use Rattle.report_brief.specs.Brief.{six_lines};
 ghost use Rattle.report.specs.Program.{heard_of, printed_of};
-ghost use Rattle.report.specs.Report.{two_lines, report_of};
+ghost use Rattle.report.specs.Report.{two_lines, told_as, told_lines};
 ghost use Rattle.reader.specs.Said.{answer_by};
 ghost use Rattle.text.specs.Puts.{limit, Puts};
 ghost use Rattle.std.proofs.lemmas.List.Edits.{sets};
@@ -29,14 +29,24 @@ pub fn put_refusal(out: &mut [u8], at: usize, number: u8, detail: usize) -> usiz
     text_keyline::put_number(out, a, b"detail=", detail as u64)
 }
 
-// What is printed of an answer.
-pub fn put_answer(out: &mut [u8], at: usize, answer: Result<Record, Refusal>) -> usize
+// An answer as it is told: a refusal by its number and its detail.
+pub fn told(answer: Result<Record, Refusal>) -> Result<Record, (u8, usize)>
+    ensures { result ≡ told_as answer }
+{
+    match answer {
+        Ok(record) => Ok(record),
+        Err(e) => Err((e.number(), e.detail())),
+    }
+}
+
+// What is printed of an answer: of a record, or of a number and a detail, whatever they are.
+pub fn put_answer(out: &mut [u8], at: usize, answer: Result<Record, (u8, usize)>) -> usize
     requires { at + 200 < limit }
-    ensures { Puts out.old at (report_of (answer_by answer)) result out.new }
+    ensures { Puts out.old at (told_lines answer) result out.new }
 {
     match answer {
         Ok(record) => put_record(out, at, record),
-        Err(e) => put_refusal(out, at, e.number(), e.detail()),
+        Err((number, detail)) => put_refusal(out, at, number, detail),
     }
 }
 
@@ -59,5 +69,5 @@ pub fn hear(plan: &[u8], input: &[u8]) -> Result<Record, Refusal>
 pub fn print(out: &mut [u8], plan: &[u8], input: &[u8]) -> usize
     ensures { (result ≡ length (printed_of plan.now input.now)) × (out.new ≡ sets out.old 0 (printed_of plan.now input.now)) }
 {
-    put_answer(out, 0, hear(plan, input))
+    put_answer(out, 0, told(hear(plan, input)))
 }

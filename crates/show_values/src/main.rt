@@ -4,7 +4,7 @@
 
 mod kinds;
 
-use std::io::{self, BufRead, BufWriter, Read, Write};
+use std::io::{self, BufWriter, Read, Write};
 use text::scan;
 use value::{Kind, Value, read};
 use value_list::triples;
@@ -15,11 +15,11 @@ const MOST: u64 = 65536;
 
 // The value as it is written. Whatever room its kind has, s is what is kept there.
 fn show_text<W: Write>(reply: &mut W, v: Value, s: &[u8]) -> io::Result<()> {
+    let mut out = [0u8; 1024];
     let unit = text_room::keep(s);
     let reason = text_room::keep(s);
     let note = text_room::keep(s);
     let gradients = triples::kept(triples::read(s));
-    let mut out = [0u8; 1024];
     match value_put::write_value(
         &mut out,
         0,
@@ -31,7 +31,7 @@ fn show_text<W: Write>(reply: &mut W, v: Value, s: &[u8]) -> io::Result<()> {
         gradients,
     ) {
         Ok(n) => reply.write_all(scan::front(&out, n)),
-        Err(_) => write!(reply, "no room"),
+        Err(_) => reply.write_all(b"no room"),
     }
 }
 
@@ -44,7 +44,7 @@ fn show_instant<W: Write>(reply: &mut W, v: Value) -> io::Result<()> {
 
 fn show_value<W: Write>(reply: &mut W, k: Kind, s: &[u8]) -> io::Result<()> {
     let Some(v) = read::read(k, s) else {
-        return write!(reply, "refused");
+        return reply.write_all(b"refused");
     };
     show_text(reply, v, s)?;
     show_instant(reply, v)
@@ -55,20 +55,20 @@ fn show_line<W: Write>(reply: &mut W, line: &[u8]) -> io::Result<()> {
     let key = scan::front(line, p);
     let text = scan::trim(scan::rest(line, p));
     reply.write_all(line)?;
-    write!(reply, ": ")?;
+    reply.write_all(b": ")?;
     match kinds::kind_named(key) {
         Some(k) => show_value(reply, k, text)?,
-        None => write!(reply, "no such kind")?,
+        None => reply.write_all(b"no such kind")?,
     }
-    writeln!(reply)
+    reply.write_all(b"\n")
 }
 
 fn main(rt: HostRuntime) -> io::Result<()> {
     let mut input = Vec::new(rt.alloc());
     rt.stdin().take(MOST).read_to_end(&mut input)?;
     let mut reply = BufWriter::new(rt.alloc(), rt.stdout())?;
-    for line in BufRead::split(&input[..], rt.alloc(), b'\n') {
-        show_line(&mut reply, &line?)?;
+    for line in input.split_inclusive(|b| *b == b'\n') {
+        show_line(&mut reply, line.strip_suffix(b"\n").unwrap_or(line))?;
     }
     reply.flush()
 }

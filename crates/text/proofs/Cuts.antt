@@ -7,7 +7,7 @@ use borrow.Author.Tests.{eq-eqb, ne_eqb, eqb-true}
 use lib.Dec.{eqb}
 use lib.ListN.{length, get_or, take, drop, length-append, length-drop, length-take, drop_of_length-le, take-append-drop}
 use lib.Seq.{drop-cons, drop-append_seam, get_or-take, take_all, drop-drop, take-take, take-nil}
-use mathlib.Core.Bool.{Bool, true, false, ◌&&◌, and_assoc, and-true, and-false, false≢true}
+use mathlib.Core.Bool.{Bool, true, false, ◌&&◌, ◌||◌, and_assoc, and-true, and-false, or_assoc, or-false, false≢true}
 use mathlib.Core.List.{List, [], ◌∷◌, ◌++◌, append-nil}
 use mathlib.Core.Path.{◌≡◌, refl, sym, ap, ap₂, ◌∙◌}
 use native.Mathlib.Nat.{le_refl, add-zero, sub-zero, suc-sub-suc, zero-sub}
@@ -115,6 +115,33 @@ pub all_end : {A : Type 0} (p : A → Bool) (s : List A) (i : ℕ) → length s 
 unfolding all
 all_end p s i h = rw (drop_of_length-le s h)
 
+-- eight tests, as one
+pub all_eight : {A : Type 0} (p : A → Bool) (d : A) (s : List A) (i : ℕ) → i + 8 ≤ length s
+    → (p (get_or s i d)
+    && p (get_or s (i + 1) d)
+    && p (get_or s (i + 2) d)
+    && p (get_or s (i + 3) d)
+    && p (get_or s (i + 4) d)
+    && p (get_or s (i + 5) d)
+    && p (get_or s (i + 6) d)
+    && p (get_or s (i + 7) d))
+    ≡ all p (part i (i + 8) s)
+unfolding all
+all_eight p d s i h = rw (eight d s i h) (simp (and_assoc, and-true))
+
+pub any_eight : {A : Type 0} (p : A → Bool) (d : A) (s : List A) (i : ℕ) → i + 8 ≤ length s
+    → (p (get_or s i d)
+    || p (get_or s (i + 1) d)
+    || p (get_or s (i + 2) d)
+    || p (get_or s (i + 3) d)
+    || p (get_or s (i + 4) d)
+    || p (get_or s (i + 5) d)
+    || p (get_or s (i + 6) d)
+    || p (get_or s (i + 7) d))
+    ≡ any p (part i (i + 8) s)
+unfolding any
+any_eight p d s i h = rw (eight d s i h) (simp (or_assoc, or-false))
+
 -- eight tests of eight elements, as one
 pub all_of_eight : {A : Type 0} (p : A → Bool) (d : A) (s : List A) → length s ≡ 8
     → (p (get_or s 0 d)
@@ -191,6 +218,10 @@ module _ {A : Type 0} (p : A → Bool) where
   skip_append [] b h = refl
   skip_append (x ∷ a) b h = let o = and_parts (p x) (all p a) h in rw o.0 (skip_append a b o.1)
 
+  -- k at a time
+  pub skip_over : (s : List A) (i k : ℕ) → all p (part i (i + k) s) ≡ true → skip p (drop i s) ≡ skip p (drop (i + k) s)
+  skip_over s i k h = ap (skip p) (drop_over s i k) ∙ skip_append (part i (i + k) s) (drop (i + k) s) h
+
   -- past what p never is
   pub upto_append : (a b : List A) → any p a ≡ false → upto p (a ++ b) ≡ a ++ upto p b
   unfolding any upto
@@ -237,6 +268,16 @@ module _ {A : Type 0} (p : A → Bool) where
 
   pub all_append : (a b : List A) → all p a ≡ true → all p b ≡ true → all p (a ++ b) ≡ true
   all_append a b h k = all_cut a b ∙ rw (h, k)
+
+  -- k at a time
+  all_next : (s : List A) (i k : ℕ) → all p (drop i s) ≡ (all p (part i (i + k) s) && all p (drop (i + k) s))
+  all_next s i k = ap (all p) (drop_over s i k) ∙ all_cut (part i (i + k) s) (drop (i + k) s)
+
+  pub all_stop : (s : List A) (i k : ℕ) → all p (part i (i + k) s) ≡ false → all p (drop i s) ≡ false
+  all_stop s i k h = all_next s i k ∙ rw h
+
+  pub all_over : (s : List A) (i k : ℕ) → all p (part i (i + k) s) ≡ true → all p (drop i s) ≡ all p (drop (i + k) s)
+  all_over s i k h = all_next s i k ∙ rw h
 
   -- all of q, which p never is, so none of p
   pub all_none : (q : A → Bool) → ((x : A) → q x ≡ true → p x ≡ false) → (a : List A) → all q a ≡ true → any p a ≡ false

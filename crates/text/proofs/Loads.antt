@@ -3,12 +3,12 @@ use Prim.Native.Nat.{ℕ, zero, suc, ◌+◌, ◌-◌, ◌*◌, ◌/◌, ◌%◌
 use Rattle.text.proofs.Cuts.{four, length_part, drop_step, same_refl, same_true, alike_stop, alike_next, alike_last, starts_same}
 use Rattle.text.proofs.Runs.{sets_append}
 use Rattle.text.proofs.Tests.{by_test, same_if, eqb_tells, itself}
-use Rattle.text.specs.Bytes.{part, same, starts}
+use Rattle.text.specs.Bytes.{part, same, starts, all, is}
 use Rattle.text.specs.Words.{word_of, bytes_of}
 use lib.Dec.{eqb, lit<}
-use lib.ListN.{length, get_or, take, drop, set, length-drop, drop_of_length-le}
+use lib.ListN.{length, get_or, take, drop, set, replicate, length-drop, drop_of_length-le}
 use lib.Seq.{sets, take_all, take-add, take-nil, drop-nil, drop-drop, get_or-drop}
-use mathlib.Core.Bool.{◌&&◌}
+use mathlib.Core.Bool.{Bool, ◌&&◌}
 use mathlib.Core.List.{List, [], ◌∷◌, ◌++◌}
 use mathlib.Core.Path.{◌≡◌, refl, sym, ap, ◌∙◌}
 use mir.Syntax.{w8}
@@ -120,6 +120,30 @@ fours_same a b n f g j k h l p q r t =
     (by_test (same (part 0 (0 + 4) a) (part 0 (0 + 4) b))
     (λ e. rw e (alike_last a b n (0 + 4) 4 h (omega arith) (alike_next a b n 0 4 (omega arith) e)))
     (λ e. rw e (sym (alike_stop a b n 0 4 (omega arith) e))))
+
+-- some bytes are all b where they are the text of as many b
+all_same : (b : ℕ) (s : List ℕ) (k : ℕ) → length s ≡ k → same s (replicate k b) ≡ all (is b) s
+unfolding same all
+all_same b [] zero e = refl
+all_same b [] (suc k) e = absurd (omega arith)
+all_same b (x ∷ s) zero e = absurd (omega arith)
+all_same b (x ∷ s) (suc k) e = ap (λ (t : Bool). eqb x b && t) (all_same b s k (omega arith))
+
+bytes_all : (b k : ℕ) → b < 256 → Bytes (replicate k b)
+bytes_all b zero h i = record { fits = omega arith }
+bytes_all b (suc k) h zero = record { fits = h }
+bytes_all b (suc k) h (suc i) = bytes_all b k h i
+
+word_all_eight : (b : ℕ) → word_of (replicate 8 b) ≡ b * 72340172838076673
+unfolding word_of
+word_all_eight b = omega arith
+
+pub eight_are : (s : List ℕ) (i b : ℕ) {x : ℕ} → Bytes s → i + 8 ≤ length s → b < 256 → x ≡ word_of (part i (i + 8) s)
+    → eqb x (b * 72340172838076673) ≡ all (is b) (part i (i + 8) s)
+eight_are s i b f h k p =
+    rw (p, ← word_all_eight b)
+    (word_same (part i (i + 8) s) (replicate 8 b) (part_size s i 8 h) (bytes_part i (i + 8) s f) (bytes_all b 8 k)
+    ∙ all_same b (part i (i + 8) s) 8 (part_size s i 8 h))
 
 -- eight bytes read as a number and put as its bytes are moved
 pub eight_moved : (t : List ℕ) (i : ℕ) {w : ℕ} (out : List ℕ) (at : ℕ) {m : List ℕ} → Bytes t → i + 8 ≤ length t → w ≡ word_of (part i (i + 8) t)

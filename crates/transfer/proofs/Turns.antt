@@ -21,7 +21,7 @@ use borrow.Author.Tests.{eqb-true, not-true, not-false}
 use lib.Dec.{eqb}
 use mathlib.Core.Bool.{Bool, true, false, not, ◌&&◌, or-true}
 use mathlib.Core.List.{List, [], ◌∷◌}
-use mathlib.Core.Path.{◌≡◌, refl, sym, ap, ◌∙◌}
+use mathlib.Core.Path.{◌≡◌, refl, sym, ap, ap₂, ◌∙◌}
 
 -- ---- the code's tests of a turn
 
@@ -35,11 +35,21 @@ between_is Fresh = refl
 between_is Between = refl
 between_is Within = refl
 
+pub within_is : (t : Turn) → sameb the_type t Within ≡ is_within t
+within_is Fresh = refl
+within_is Between = refl
+within_is Within = refl
+
 pub unlike : {a b : Bool} → a ≡ b → true ≡ not a → b ≡ false
 unlike e h = sym e ∙ not-true _ (sym h)
 
 pub alike : {a b : Bool} → a ≡ b → false ≡ not a → b ≡ true
 alike e h = sym e ∙ not-false _ (sym h)
+
+-- a unit of the open section, by the code's two tests
+pub open_by : (c : Collector) (i : ℕ) {w n b : Bool} → w ≡ sameb the_type c.turn Within → n ≡ eqb i (c.ended + 1) → (w && n) ≡ b
+    → (is_within c.turn && eqb i (c.ended + 1)) ≡ b
+open_by c i v k h = sym (ap₂ ◌&&◌ (v ∙ within_is c.turn) k) ∙ h
 
 -- ---- a last unit that is in turn: what is judged of its octets is what the list says
 

@@ -3,8 +3,7 @@ use Rattle.std.specs.Prelude.{Bool, true, false, Option, Some, None, Result, Ok,
 use Rattle.refusal.specs.Numbers.{number_of}
 use Rattle.refusal.specs.declared.Refusal.TheVariants.{WrongSum, WrongLength, TooLong}
 use Rattle.refusal.specs.declared.Refusal.{Refusal}
-use Rattle.transfer.specs.Collect.{Heard, More, Whole, Refused, Taken, fresh, taken, dropped}
-use Rattle.transfer.specs.declared.Collector.{Collector}
+use Rattle.transfer.specs.Collect.{Heard, More, Whole, Refused, Taken, taken}
 use Rattle.transfer.specs.declared.Taken.{Taken as Answer}
 use Rattle.transfer.specs.declared.Whole.{Whole as File}
 
@@ -15,15 +14,6 @@ heard_by (Err e) = Refused (number_of e)
 
 abbrev pub taken_by : Answer → Taken
 taken_by t = taken (heard_by t.heard) t.collector
-
--- of the steps, which hand no collector back where they refuse: of a unit that leaves the file not whole yet, and of the last section's
-abbrev pub next_by : Result Collector Refusal → Taken
-next_by (Ok c) = taken More c
-next_by (Err e) = dropped (number_of e) 0
-
-abbrev pub whole_by : Result File Refusal → Taken
-whole_by (Ok f) = taken (Whole f.ca f.ioa f.size) fresh
-whole_by (Err e) = dropped (number_of e) 0
 
 -- at a last unit, in the list's order: whether the checksum agrees, whether the announced length is met, whether more than 8,192 are collected
 abbrev pub ended_by : Bool → Bool → Bool → Result Unit Refusal

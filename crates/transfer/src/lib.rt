@@ -7,10 +7,10 @@ pub mod state;
 
 ghost use Rattle.std.specs.Prelude.{◌≤◌, ◌+◌, ◌%◌, eqb, ltb, ◌&&◌, [], ◌≡◌};
 ghost use Rattle.transfer_unit.specs.declared.Told.TheVariants.{FileReady, SectionReady, Segment, LastSegment, LastSection};
-ghost use Rattle.transfer.specs.Collect.{is_within, fresh, checksum, elsewhere, dropped, taken_as, kept_as, taken_of, room_after};
+ghost use Rattle.transfer.specs.Collect.{More, is_within, fresh, checksum, elsewhere, taken, dropped, taken_as, kept_as, taken_of, room_after};
 ghost use Rattle.refusal.specs.Numbers.{number_of, detail_of};
 ghost use Rattle.refusal.specs.Results.{detail_in};
-ghost use Rattle.transfer.specs.Said.{next_by, whole_by, ended_by, taken_by};
+ghost use Rattle.transfer.specs.Said.{ended_by, taken_by};
 
 use refusal::Refusal;
 use text::{put, scan};
@@ -69,6 +69,26 @@ pub fn fresh() -> Collector
     }
 }
 
+// A refused unit drops the transfer.
+fn dropped(refusal: Refusal) -> Taken
+    ensures { (taken_by result ≡ dropped (number_of refusal) 0) × (detail_in result.heard ≡ detail_of refusal) }
+{
+    Taken {
+        heard: Err(refusal),
+        collector: fresh(),
+    }
+}
+
+// The answer to a unit that leaves the file not whole yet.
+fn onward(collector: Collector) -> Taken
+    ensures { (taken_by result ≡ taken More collector) × (detail_in result.heard ≡ 0) }
+{
+    Taken {
+        heard: Ok(None),
+        collector,
+    }
+}
+
 // The sum of octets, which wraps at 256.
 fn checksum(s: &[u8]) -> u8
     ensures { result ≡ checksum s.now }
@@ -80,23 +100,24 @@ fn checksum(s: &[u8]) -> u8
     sum
 }
 
-// In a transfer, a unit of another address.
+// In a transfer, a unit of another address. Asked of each unit, so without a branch between the three.
 fn is_elsewhere(c: Collector, s: &[u8]) -> bool
     ensures { result ≡ elsewhere c s.now }
 {
-    c.turn != Turn::Fresh && (transfer_unit::ca_of(s) != c.ca || transfer_unit::ioa_of(s) != c.ioa)
+    (c.turn != Turn::Fresh)
+        & ((transfer_unit::ca_of(s) != c.ca) | (transfer_unit::ioa_of(s) != c.ioa))
 }
 
-fn file_ready(c: Collector, s: &[u8], n: u32) -> Result<Collector, Refusal>
-    ensures { (next_by result ≡ taken_as c s.now [] (FileReady n)) × (detail_in result ≡ 0) }
+fn file_ready(c: Collector, s: &[u8], n: u32) -> Taken
+    ensures { (taken_by result ≡ taken_as c s.now [] (FileReady n)) × (detail_in result.heard ≡ 0) }
 {
     if c.turn != Turn::Fresh {
-        return Err(Refusal::OutOfTurn);
+        return dropped(Refusal::OutOfTurn);
     }
     if 8192 < n {
-        return Err(Refusal::TooLong);
+        return dropped(Refusal::TooLong);
     }
-    Ok(Collector {
+    onward(Collector {
         turn: Turn::Between,
         ca: transfer_unit::ca_of(s),
         ioa: transfer_unit::ioa_of(s),
@@ -119,16 +140,16 @@ fn is_open(c: Collector, i: u8) -> bool
     c.turn == Turn::Within && is_next(c, i)
 }
 
-fn section_ready(c: Collector, i: u8, n: u32) -> Result<Collector, Refusal>
-    ensures { (next_by result ≡ taken_as c [] [] (SectionReady i n)) × (detail_in result ≡ 0) }
+fn section_ready(c: Collector, i: u8, n: u32) -> Taken
+    ensures { (taken_by result ≡ taken_as c [] [] (SectionReady i n)) × (detail_in result.heard ≡ 0) }
 {
     if c.turn != Turn::Between || !is_next(c, i) {
-        return Err(Refusal::OutOfTurn);
+        return dropped(Refusal::OutOfTurn);
     }
     if 8192 < n {
-        return Err(Refusal::TooLong);
+        return dropped(Refusal::TooLong);
     }
-    Ok(Collector {
+    onward(Collector {
         turn: Turn::Within,
         start: c.count,
         due: n,
@@ -137,26 +158,20 @@ fn section_ready(c: Collector, i: u8, n: u32) -> Result<Collector, Refusal>
 }
 
 // Keeps a segment's octets behind those collected.
-fn segment(
-    c: Collector,
-    s: &[u8],
-    file: &mut [u8; 8192],
-    i: u8,
-    n: u8,
-) -> Result<Collector, Refusal>
-    ensures { (next_by result ≡ taken_as c s.now file.old (Segment i n))
+fn segment(c: Collector, s: &[u8], file: &mut [u8; 8192], i: u8, n: u8) -> Taken
+    ensures { (taken_by result ≡ taken_as c s.now file.old (Segment i n))
         × (file.new ≡ kept_as c s.now file.old (Segment i n))
-        × (detail_in result ≡ 0) }
+        × (detail_in result.heard ≡ 0) }
 {
-    if !is_open(c, i) {
-        return Err(Refusal::OutOfTurn);
+    if !((c.turn == Turn::Within) & is_next(c, i)) {
+        return dropped(Refusal::OutOfTurn);
     }
     let count = c.count as usize + n as usize;
     if 8192 < count {
-        return Err(Refusal::TooLong);
+        return dropped(Refusal::TooLong);
     }
     put::put_text(file, c.count as usize, scan::rest(s, 13));
-    Ok(Collector {
+    onward(Collector {
         turn: Turn::Within,
         count: count as u32,
         ..c
@@ -180,74 +195,40 @@ fn ended(octets: &[u8], sum: u8, size: u32, announced: u32, count: u32) -> Resul
     Ok(())
 }
 
-fn last_segment(c: Collector, file: &[u8], i: u8, sum: u8) -> Result<Collector, Refusal>
-    ensures { (next_by result ≡ taken_as c [] file.now (LastSegment i sum)) × (detail_in result ≡ 0) }
+fn last_segment(c: Collector, file: &[u8], i: u8, sum: u8) -> Taken
+    ensures { (taken_by result ≡ taken_as c [] file.now (LastSegment i sum)) × (detail_in result.heard ≡ 0) }
 {
     if !is_open(c, i) || c.count <= c.start {
-        return Err(Refusal::OutOfTurn);
+        return dropped(Refusal::OutOfTurn);
     }
     let size = c.count - c.start;
     let section = scan::front(scan::rest(file, c.start as usize), size as usize);
-    ended(section, sum, size, c.due, c.count)?;
-    Ok(Collector {
-        turn: Turn::Between,
-        ended: i as u32,
-        start: 0,
-        due: 0,
-        ..c
-    })
-}
-
-fn last_section(c: Collector, file: &[u8], i: u8, sum: u8) -> Result<Whole, Refusal>
-    ensures { (whole_by result ≡ taken_as c [] file.now (LastSection i sum)) × (detail_in result ≡ 0) }
-{
-    if c.turn != Turn::Between || i as u32 != c.ended || c.ended == 0 || c.count == 0 {
-        return Err(Refusal::OutOfTurn);
-    }
-    ended(
-        scan::front(file, c.count as usize),
-        sum,
-        c.count,
-        c.announced,
-        c.count,
-    )?;
-    Ok(Whole {
-        ca: c.ca,
-        ioa: c.ioa,
-        size: c.count as usize,
-    })
-}
-
-// A refused unit drops the transfer.
-fn dropped(refusal: Refusal) -> Taken
-    ensures { (taken_by result ≡ dropped (number_of refusal) 0) × (detail_in result.heard ≡ detail_of refusal) }
-{
-    Taken {
-        heard: Err(refusal),
-        collector: fresh(),
-    }
-}
-
-// The answer to a unit that leaves the file not whole yet.
-fn onward(next: Result<Collector, Refusal>) -> Taken
-    ensures { (taken_by result ≡ next_by next) × (detail_in result.heard ≡ detail_in next) }
-{
-    match next {
-        Ok(collector) => Taken {
-            heard: Ok(None),
-            collector,
-        },
+    match ended(section, sum, size, c.due, c.count) {
+        Ok(()) => onward(Collector {
+            turn: Turn::Between,
+            ended: i as u32,
+            start: 0,
+            due: 0,
+            ..c
+        }),
         Err(refusal) => dropped(refusal),
     }
 }
 
-// The answer to the last section's.
-fn handed_out(whole: Result<Whole, Refusal>) -> Taken
-    ensures { (taken_by result ≡ whole_by whole) × (detail_in result.heard ≡ detail_in whole) }
+fn last_section(c: Collector, file: &[u8], i: u8, sum: u8) -> Taken
+    ensures { (taken_by result ≡ taken_as c [] file.now (LastSection i sum)) × (detail_in result.heard ≡ 0) }
 {
-    match whole {
-        Ok(whole) => Taken {
-            heard: Ok(Some(whole)),
+    if c.turn != Turn::Between || i as u32 != c.ended || c.ended == 0 || c.count == 0 {
+        return dropped(Refusal::OutOfTurn);
+    }
+    let octets = scan::front(file, c.count as usize);
+    match ended(octets, sum, c.count, c.announced, c.count) {
+        Ok(()) => Taken {
+            heard: Ok(Some(Whole {
+                ca: c.ca,
+                ioa: c.ioa,
+                size: c.count as usize,
+            })),
             collector: fresh(),
         },
         Err(refusal) => dropped(refusal),
@@ -266,11 +247,11 @@ impl Collector {
         }
         let told = transfer_unit::told_by(unit);
         match told {
-            Told::FileReady(n) => onward(file_ready(self, unit, n)),
-            Told::SectionReady(i, n) => onward(section_ready(self, i, n)),
-            Told::Segment(i, n) => onward(segment(self, unit, file, i, n)),
-            Told::LastSegment(i, sum) => onward(last_segment(self, file, i, sum)),
-            Told::LastSection(i, sum) => handed_out(last_section(self, file, i, sum)),
+            Told::FileReady(n) => file_ready(self, unit, n),
+            Told::SectionReady(i, n) => section_ready(self, i, n),
+            Told::Segment(i, n) => segment(self, unit, file, i, n),
+            Told::LastSegment(i, sum) => last_segment(self, file, i, sum),
+            Told::LastSection(i, sum) => last_section(self, file, i, sum),
             Told::Other => dropped(Refusal::ForeignUnit),
         }
     }

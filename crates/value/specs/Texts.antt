@@ -30,7 +30,7 @@ lent_rooms u r n g = rooms u.entry.now r.entry.now n.entry.now g
 
 -- the rooms that are lent together
 abbrev pub rooms_in : Lent → Rooms
-rooms_in r = rooms r.unit.now r.reason.now r.note.now r.gradients.now
+rooms_in r = rooms r.unit.now r.reason.now r.note.now r.gradients
 
 -- the text of a value of a message of type t. A value says its own text: its kind is not asked.
 unfoldable pub value_text : MessageType → Rooms → Value → List ℕ

@@ -3,8 +3,6 @@
 
 pub mod read;
 
-ghost use Rattle.std.specs.Prelude.{length, ◌≡◌};
-
 use value_date::Date;
 use value_list::{Numbers, Triple};
 use value_name::MessageType;
@@ -42,14 +40,14 @@ pub enum Value {
     Reactive(MVar),
 }
 
-// The rooms in which texts and triples stand, as they are lent: a record's, or parts of a file. A value says how much of its room is used.
+// The rooms in which texts and triples stand, as they are lent: a record's, or parts of a file. A value says how much of its room is used. (It goes by
+// value: behind a reference to it the type would not tell that the triples are sixteen, and who builds one would have to prove it.)
 #[derive(Clone, Copy)]
 pub struct Rooms<'a> {
     pub unit: &'a [u8],
     pub reason: &'a [u8],
     pub note: &'a [u8],
-    pub gradients: &'a [Triple; 16],
-    ghost sixteen: { length gradients.now ≡ 16 },
+    pub gradients: [Triple; 16],
 }
 
 // What a field may hold. A word is one of those numbered from the first to the last.

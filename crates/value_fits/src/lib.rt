@@ -14,8 +14,8 @@ use value::{Kind, Rooms, Shape, Value};
 use value_name::MessageType;
 
 // Whether a value that is not blank fits a shape.
-fn fits(t: MessageType, s: Shape, v: Value, rooms: &Rooms<'_>) -> bool
-    ensures { result ≡ fits t (rooms_in rooms.now) s v }
+fn fits(t: MessageType, s: Shape, v: Value, rooms: Rooms<'_>) -> bool
+    ensures { result ≡ fits t (rooms_in rooms.entry) s v }
 {
     match v {
         Value::Blank => false,
@@ -28,7 +28,7 @@ fn fits(t: MessageType, s: Shape, v: Value, rooms: &Rooms<'_>) -> bool
         Value::Note(x) => s == Shape::IsNote && texts::is_kept(rooms.note, 256, x),
         Value::Word(x) => shapes::is_among(s, x),
         Value::List(x) => numbers::are_listed(x, shapes::fewest(s), shapes::most(s)),
-        Value::Triples(x) => s == Shape::IsTriples && triples::are_listed(*rooms.gradients, x),
+        Value::Triples(x) => s == Shape::IsTriples && triples::are_listed(rooms.gradients, x),
         Value::Voltage(x) => s == Shape::IsVoltage && value_bounds::is_amount(x.0),
         Value::Regulator(x) => s == Shape::IsRegulator && value_bounds::is_amount(x.0),
         Value::Change(x) => s == Shape::IsChange && value_bounds::is_amount(x.0),
@@ -37,8 +37,8 @@ fn fits(t: MessageType, s: Shape, v: Value, rooms: &Rooms<'_>) -> bool
 }
 
 // Whether a kind may hold a value: a blank where it lets one stand, or else what fits its shape.
-pub fn holds(t: MessageType, k: Kind, v: Value, rooms: &Rooms<'_>) -> bool
-    ensures { result ≡ holds t (rooms_in rooms.now) k v }
+pub fn holds(t: MessageType, k: Kind, v: Value, rooms: Rooms<'_>) -> bool
+    ensures { result ≡ holds t (rooms_in rooms.entry) k v }
 {
     if !value_ask::is_filled(v) {
         return k.blank;

@@ -16,9 +16,9 @@ use value_number;
 use value_word;
 
 // The text of a value, put at a place; the bytes of texts and the triples come from their rooms, which are a record's or parts of a file.
-pub fn put_value(out: &mut [u8], at: usize, t: MessageType, v: Value, rooms: &Rooms<'_>) -> usize
-    requires { (at + 2000 < limit) × Narrow (rooms_in rooms.now) }
-    ensures { Puts out.old at (value_text t (rooms_in rooms.now) v) result out.new }
+pub fn put_value(out: &mut [u8], at: usize, t: MessageType, v: Value, rooms: Rooms<'_>) -> usize
+    requires { (at + 2000 < limit) × Narrow (rooms_in rooms) }
+    ensures { Puts out.old at (value_text t (rooms_in rooms.entry) v) result out.new }
 {
     match v {
         Value::Blank => at,
@@ -31,7 +31,7 @@ pub fn put_value(out: &mut [u8], at: usize, t: MessageType, v: Value, rooms: &Ro
         Value::Note(n) => put::put_text(out, at, scan::front(rooms.note, n)),
         Value::Word(w) => value_word::put(out, at, w),
         Value::List(x) => few::put(out, at, x, b';'),
-        Value::Triples(n) => triples::put(out, at, *rooms.gradients, n),
+        Value::Triples(n) => triples::put(out, at, rooms.gradients, n),
         Value::Voltage(x) => value_number::put(out, at, x.0),
         Value::Regulator(x) => value_number::put(out, at, x.0),
         Value::Change(x) => value_number::put(out, at, x.0),
@@ -57,16 +57,16 @@ pub fn write_value(
         unit,
         reason,
         note,
-        gradients: &gradients,
+        gradients,
     };
-    let size = put_value(&mut out[0..0], 0, t, v, &rooms);
+    let size = put_value(&mut out[0..0], 0, t, v, rooms);
     if out.len() < at {
         return Err(Refusal::NoRoom(size));
     }
     if out.len() - at < size {
         return Err(Refusal::NoRoom(size));
     }
-    put_value(&mut out[at..], 0, t, v, &rooms);
+    put_value(&mut out[at..], 0, t, v, rooms);
     Ok(at + size)
 }
 

@@ -24,12 +24,12 @@ use writer_message::put_message;
 fn put_file(
     l: Layout,
     cells: [Cell; 26],
-    rooms: &Rooms<'_>,
+    rooms: Rooms<'_>,
     out: &mut [u8],
 ) -> Result<usize, Refusal>
-    requires { Held l (rooms_in rooms.now) cells }
-    ensures { (written_by result ≡ fitted (message_text l (rooms_in rooms.now) cells) (length out.old))
-        × (out.new ≡ buffer_of out.old 0 (message_text l (rooms_in rooms.now) cells)) }
+    requires { Held l (rooms_in rooms) cells }
+    ensures { (written_by result ≡ fitted (message_text l (rooms_in rooms.entry) cells) (length out.old))
+        × (out.new ≡ buffer_of out.old 0 (message_text l (rooms_in rooms.entry) cells)) }
 {
     let room = out.len();
     if 8192 <= room {
@@ -80,9 +80,9 @@ pub fn write(r: Record, out: &mut [u8]) -> Result<usize, Refusal>
         unit: &r.unit,
         reason: &r.reason,
         note: &r.note,
-        gradients: &r.gradients,
+        gradients: r.gradients,
     };
-    put_file(l, cells, &rooms, out)
+    put_file(l, cells, rooms, out)
 }
 
 // Whether each value stands in the file as it is written.
@@ -125,7 +125,7 @@ pub fn normalise(
         unit: reader_fill::text_at(l, file, places, fields::UNIT),
         reason: reader_fill::text_at(l, file, places, fields::reason_field(l)),
         note: reader_fill::text_at(l, file, places, fields::note_field(l)),
-        gradients: &x.gradients,
+        gradients: x.gradients,
     };
-    put_file(l, cells, &rooms, out)
+    put_file(l, cells, rooms, out)
 }

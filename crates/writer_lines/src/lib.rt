@@ -17,9 +17,9 @@ use value::{Rooms, Value};
 use value_name::MessageType;
 
 // What stands after `=`: unless the value is blank, a space and the value.
-fn put_after(out: &mut [u8], at: usize, t: MessageType, v: Value, rooms: &Rooms<'_>) -> usize
-    requires { (at + 2500 < limit) × Spoken t (rooms_in rooms.now) v }
-    ensures { Puts out.old at (after_equals (value_text t (rooms_in rooms.now) v)) result out.new }
+fn put_after(out: &mut [u8], at: usize, t: MessageType, v: Value, rooms: Rooms<'_>) -> usize
+    requires { (at + 2500 < limit) × Spoken t (rooms_in rooms) v }
+    ensures { Puts out.old at (after_equals (value_text t (rooms_in rooms.entry) v)) result out.new }
 {
     if !value_ask::is_filled(v) {
         return at;
@@ -29,9 +29,9 @@ fn put_after(out: &mut [u8], at: usize, t: MessageType, v: Value, rooms: &Rooms<
 }
 
 // The line of the field k with its value, and its end.
-fn put_line(out: &mut [u8], at: usize, l: Layout, k: usize, v: Value, rooms: &Rooms<'_>) -> usize
-    requires { (at + 3000 < limit) × (1 ≤ k) × (k ≤ size_of l) × Spoken (type_of l) (rooms_in rooms.now) v }
-    ensures { Puts out.old at (lines_text (param_line (label_at l k) (value_text (type_of l) (rooms_in rooms.now) v) ∷ [])) result out.new }
+fn put_line(out: &mut [u8], at: usize, l: Layout, k: usize, v: Value, rooms: Rooms<'_>) -> usize
+    requires { (at + 3000 < limit) × (1 ≤ k) × (k ≤ size_of l) × Spoken (type_of l) (rooms_in rooms) v }
+    ensures { Puts out.old at (lines_text (param_line (label_at l k) (value_text (type_of l) (rooms_in rooms.entry) v) ∷ [])) result out.new }
 {
     let padded = layout_label::put(out, at, layout_label::of_field(l, k));
     let equals = put::put_byte(out, padded, b'=');
@@ -40,15 +40,10 @@ fn put_line(out: &mut [u8], at: usize, l: Layout, k: usize, v: Value, rooms: &Ro
 }
 
 // The lines of all fields, in printed order.
-pub fn put_lines(
-    out: &mut [u8],
-    at: usize,
-    l: Layout,
-    cells: [Cell; 26],
-    rooms: &Rooms<'_>,
-) -> usize
-    requires { (at + 90000 < limit) × Held l (rooms_in rooms.now) cells }
-    ensures { Puts out.old at (lines_text (param_lines (labels_of l) (map (value_text (type_of l) (rooms_in rooms.now)) (values_in l cells)))) result out.new }
+pub fn put_lines(out: &mut [u8], at: usize, l: Layout, cells: [Cell; 26], rooms: Rooms<'_>) -> usize
+    requires { (at + 90000 < limit) × Held l (rooms_in rooms) cells }
+    ensures { Puts out.old at (lines_text (param_lines (labels_of l) (map (value_text (type_of l) (rooms_in rooms.entry)) (values_in l cells))))
+        result out.new }
 {
     let mut p = at;
     for k in 0..layout::size(l) {

@@ -22,10 +22,10 @@ pub fn put_message(
     at: usize,
     l: Layout,
     cells: [Cell; 26],
-    rooms: &Rooms<'_>,
+    rooms: Rooms<'_>,
 ) -> usize
-    requires { (at + 200000 < limit) × Held l (rooms_in rooms.now) cells }
-    ensures { Puts out.old at (message_text l (rooms_in rooms.now) cells) result out.new }
+    requires { (at + 200000 < limit) × Held l (rooms_in rooms) cells }
+    ensures { Puts out.old at (message_text l (rooms_in rooms.entry) cells) result out.new }
 {
     let head = layout_banner::put(out, at, l);
     let body = put::put_byte(out, head, b'\n');

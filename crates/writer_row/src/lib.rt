@@ -16,9 +16,10 @@ use value::{Rooms, Value};
 use value_name::MessageType;
 
 // The values of the row's fields, joined by `;`. Each row begins with the identifier.
-fn put_pieces(out: &mut [u8], at: usize, l: Layout, cells: [Cell; 26], rooms: &Rooms<'_>) -> usize
-    requires { (at + 90000 < limit) × Held l (rooms_in rooms.now) cells }
-    ensures { Puts out.old at (row_text (map (text_at (map (value_text (type_of l) (rooms_in rooms.now)) (values_in l cells))) (row_fields l))) result out.new }
+fn put_pieces(out: &mut [u8], at: usize, l: Layout, cells: [Cell; 26], rooms: Rooms<'_>) -> usize
+    requires { (at + 90000 < limit) × Held l (rooms_in rooms) cells }
+    ensures { Puts out.old at (row_text (map (text_at (map (value_text (type_of l) (rooms_in rooms.entry)) (values_in l cells))) (row_fields l)))
+        result out.new }
 {
     let t = layout::type_of(l);
     let n = layout::row::size(l);
@@ -34,9 +35,9 @@ fn put_pieces(out: &mut [u8], at: usize, l: Layout, cells: [Cell; 26], rooms: &R
 }
 
 // The half-bands of SR stand as two values: of blank ones, two empty values.
-fn put_halves(out: &mut [u8], at: usize, t: MessageType, v: Value, rooms: &Rooms<'_>) -> usize
-    requires { (at + 2500 < limit) × Halved t (rooms_in rooms.now) v }
-    ensures { Puts out.old at (tail_text (halves (value_text t (rooms_in rooms.now) v))) result out.new }
+fn put_halves(out: &mut [u8], at: usize, t: MessageType, v: Value, rooms: Rooms<'_>) -> usize
+    requires { (at + 2500 < limit) × Halved t (rooms_in rooms) v }
+    ensures { Puts out.old at (tail_text (halves (value_text t (rooms_in rooms.entry) v))) result out.new }
 {
     let from = put::put_byte(out, at, b';');
     if !value_ask::is_filled(v) {
@@ -46,9 +47,9 @@ fn put_halves(out: &mut [u8], at: usize, t: MessageType, v: Value, rooms: &Rooms
 }
 
 // The row of a layout.
-pub fn put_row(out: &mut [u8], at: usize, l: Layout, cells: [Cell; 26], rooms: &Rooms<'_>) -> usize
-    requires { (at + 95000 < limit) × Held l (rooms_in rooms.now) cells }
-    ensures { Puts out.old at (row_of l (map (value_text (type_of l) (rooms_in rooms.now)) (values_in l cells))) result out.new }
+pub fn put_row(out: &mut [u8], at: usize, l: Layout, cells: [Cell; 26], rooms: Rooms<'_>) -> usize
+    requires { (at + 95000 < limit) × Held l (rooms_in rooms) cells }
+    ensures { Puts out.old at (row_of l (map (value_text (type_of l) (rooms_in rooms.entry)) (values_in l cells))) result out.new }
 {
     let to = put_pieces(out, at, l, cells, rooms);
     let v = cells[record::at::HALF_BANDS].value;

@@ -5,4 +5,4 @@ use Rattle.book_stretch.proofs.are_formed.Given as goal
 
 -- What is left, from the least start on, answers for all.
 abbrev pub invariant-loop-i : goal.invariant-loop-i
-invariant-loop-i l = apart_from l.least l.time.to (drop l.i l.c-items) ≡ formed_in l.time l.c-items
+invariant-loop-i l = apart_from l.least l.time.to (drop l.i l.list) ≡ formed_in l.time l.list

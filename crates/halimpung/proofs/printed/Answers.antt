@@ -4,7 +4,9 @@ use Rattle.reader.specs.Said.{answer_by}
 use Rattle.record.specs.declared.Record.{Record}
 use Rattle.refusal.specs.declared.Refusal.{Refusal}
 use Prim.Native.Nat.{ℕ}
+use Rattle.report.proofs.Fields.{told_report}
 use Rattle.report.specs.Program.{heard_of}
+use Rattle.report.specs.Report.{told_lines}
 use borrow.Author.Rules.{rules}
 use lib.ListN.{length}
 use mathlib.Core.List.{List}
@@ -17,4 +19,5 @@ returns c =
     let room : length c.args.room.now ≡ 89 = search rules in
     let input = c.args.input.now in
     let answer = c.hear-answer.ensures ∙ ap (λ (plan : List ℕ). heard_of plan input) c.as_read.ensures in
-    c.front.ensures ∙ all_printed _ input c.hear-answer.result _ _ _ unit_room answer c.put_answer-size.ensures room
+    let told = ap told_lines c.told.ensures ∙ told_report c.hear-answer.result in
+    c.front.ensures ∙ all_printed _ input c.hear-answer.result _ _ _ unit_room answer _ told c.put_answer-size.ensures room

@@ -3,5 +3,4 @@ use Rattle.report.proofs.print.Goals as goal
 
 pub returns : goal.returns
 returns c =
-    print_put c.args.plan.now c.args.input.now c.args.out.now _ _ _ c.hear.ensures
-    c.put_answer.ensures
+    print_put c.args.plan.now c.args.input.now c.args.out.now c.hear.result _ _ c.hear.ensures c.told.ensures c.put_answer.ensures

@@ -15,19 +15,19 @@ use Rattle.value_put.proofs.put_value.Goals as goal
 pub put_text-requires : goal.put_text-requires
 put_text-requires c =
     let h = c.requires in
-    front_fits c.args.rooms.now.unit.now _ _ c.in-Unit.n
+    front_fits c.args.rooms.unit.now _ _ c.in-Unit.n
     c.front.ensures (omega (arith, h.1.unit_few)) h.0
 
 pub put_text-requires-in-Reason : goal.put_text-requires-in-Reason
 put_text-requires-in-Reason c =
     let h = c.requires in
-    front_fits c.args.rooms.now.reason.now _ _ c.in-Reason.n
+    front_fits c.args.rooms.reason.now _ _ c.in-Reason.n
     c.front-in-Reason.ensures (omega (arith, h.1.reason_few)) h.0
 
 pub put_text-requires-in-Note : goal.put_text-requires-in-Note
 put_text-requires-in-Note c =
     let h = c.requires in
-    front_fits c.args.rooms.now.note.now _ _ c.in-Note.n
+    front_fits c.args.rooms.note.now _ _ c.in-Note.n
     c.front-in-Note.ensures (omega (arith, h.1.note_few)) h.0
 
 pub returns-in-Blank : goal.returns-in-Blank

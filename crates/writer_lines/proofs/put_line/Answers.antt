@@ -4,7 +4,9 @@ use Rattle.layout.specs.Layouts.{label_at, type_of}
 use Rattle.value_name.specs.declared.MessageType.{MessageType}
 use Rattle.value_put.proofs.Sizes.{text_short}
 use Rattle.value.specs.Texts.{rooms_in, value_text}
-use mathlib.Core.Path.{ap}
+use mathlib.Core.Path.{◌≡◌, ap}
+use borrow.Author.Rules.{rules}
+use lib.ListN.{length}
 use native.Mathlib.Omega.{arith}
 use Rattle.writer_lines.proofs.put_line.Goals as goal
 
@@ -14,8 +16,9 @@ put_after-said-requires c =
 
 pub put_byte-requires : goal.put_byte-requires
 put_byte-requires c =
+    let sixteen : length c.args.rooms.gradients ≡ 16 = search rules in
     let t = c.type_of.result in
-    let r = rooms_in c.args.rooms.now in
+    let r = rooms_in c.args.rooms in
     omega (
       arith,
       c.requires.0,
@@ -23,13 +26,13 @@ put_byte-requires c =
       c.put_byte-equals.ensures.0,
       c.put_after-said.ensures.0,
       after_short (value_text t r c.args.v),
-      text_short t r c.args.v c.requires.3.narrow c.args.rooms.now.sixteen,
+      text_short t r c.args.v c.requires.3.narrow sixteen,
     )
 
 pub returns : goal.returns
 returns c =
     let a = c.args in
-    let r = rooms_in a.rooms.now in
+    let r = rooms_in a.rooms in
     let kind = c.type_of in
     let text = label_text_lem a.l a.k c.of_field.ensures in
     let same = ap (λ (t : MessageType). value_text t r a.v) kind.ensures in

@@ -4,15 +4,18 @@ use Rattle.layout.proofs.Labels.{few}
 use Rattle.layout.specs.Layouts.{size_of}
 use Rattle.writer_form.proofs.Columns.{spoken}
 use borrow.Author.Rules.{rules}
+use lib.ListN.{length}
+use mathlib.Core.Path.{◌≡◌}
 use native.Mathlib.Omega.{arith}
 use Rattle.writer_lines.proofs.put_lines.Goals as goal
 
 pub put_line-p-requires : goal.put_line-p-requires
 put_line-p-requires c =
+    let sixteen : length c.args.rooms.gradients ≡ 16 = search rules in
     let in_size : c.loop-k.k < size_of c.args.l = omega arith in
     let a = c.args in
     let h = in_size in
-    let short = all_lines_short a.l _ a.cells c.requires.1 c.args.rooms.now.sixteen in
+    let short = all_lines_short a.l _ a.cells c.requires.1 sixteen in
     let low = place_low a.l _ _ _ (full a.l _ a.cells c.requires.1) _ _ _ c.loop-k.invariant 18200 short in
     (omega (arith, c.requires.0, low), omega arith, omega (arith, h), spoken a.l _ a.cells c.requires.1 _ h)
 

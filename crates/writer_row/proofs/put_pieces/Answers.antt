@@ -6,7 +6,7 @@ use Rattle.value.specs.Texts.{rooms_in}
 use borrow.Author.Rules.{rules}
 use lib.Dec.{lit≤}
 use lib.ListN.{length}
-use mathlib.Core.Path.{sym}
+use mathlib.Core.Path.{◌≡◌, sym}
 use native.Mathlib.Omega.{arith}
 use Rattle.writer_row.proofs.put_pieces.Goals as goal
 
@@ -19,10 +19,11 @@ loop-i-init c = start _ _ _ _ _
 
 pub put_byte-from-requires : goal.put_byte-from-requires
 put_byte-from-requires c =
+    let sixteen : length c.args.rooms.gradients ≡ 16 = search rules in
     let low : c.loop-i.p ≤ c.args.at + 18200 = let head = c.put_value-p in
     let kind = c.type_of-t in
-    place_low c.args.l (rooms_in c.args.rooms.now) c.args.cells c.args.out.now _ kind.result kind.ensures _ (sym (field_at c.args.cells 1 (lit≤ tt)))
-    _ head.new.out head.ensures _ _ _ c.loop-i.invariant c.requires.1 c.args.rooms.now.sixteen in
+    place_low c.args.l (rooms_in c.args.rooms) c.args.cells c.args.out.now _ kind.result kind.ensures _ (sym (field_at c.args.cells 1 (lit≤ tt)))
+    _ head.new.out head.ensures _ _ _ c.loop-i.invariant c.requires.1 sixteen in
     omega (arith, c.requires.0, low)
 
 pub field-k-requires : goal.field-k-requires
@@ -39,10 +40,11 @@ bounds-cells-k c = omega (arith, number_in _ _ _ _ c.loop-i-test.true c.size-n.e
 
 pub put_value-p-requires-in-loop-i : goal.put_value-p-requires-in-loop-i
 put_value-p-requires-in-loop-i c =
+    let sixteen : length c.args.rooms.gradients ≡ 16 = search rules in
     let low : c.loop-i.p ≤ c.args.at + 18200 = let head = c.put_value-p in
     let kind = c.type_of-t in
-    place_low c.args.l (rooms_in c.args.rooms.now) c.args.cells c.args.out.now _ kind.result kind.ensures _ (sym (field_at c.args.cells 1 (lit≤ tt)))
-    _ head.new.out head.ensures _ _ _ c.loop-i.invariant c.requires.1 c.args.rooms.now.sixteen in
+    place_low c.args.l (rooms_in c.args.rooms) c.args.cells c.args.out.now _ kind.result kind.ensures _ (sym (field_at c.args.cells 1 (lit≤ tt)))
+    _ head.new.out head.ensures _ _ _ c.loop-i.invariant c.requires.1 sixteen in
     (omega (arith, c.requires.0, low, c.put_byte-from.ensures.0), c.requires.1.narrow)
 
 pub loop-i-preserved : goal.loop-i-preserved
@@ -60,6 +62,6 @@ shape_of-out c = let k = same_room _ _ _ _ _ _ _ _ c.loop-i.invariant in search 
 pub returns : goal.returns
 returns c =
     let head = c.put_value-p in
-    finish c.args.l (rooms_in c.args.rooms.now) c.args.cells c.args.out.now _ c.type_of-t.result c.type_of-t.ensures
+    finish c.args.l (rooms_in c.args.rooms) c.args.cells c.args.out.now _ c.type_of-t.result c.type_of-t.ensures
     _ (sym (field_at c.args.cells 1 (lit≤ tt))) _ head.new.out head.ensures _ _ _ c.loop-i.invariant
     (omega (arith, c.size-n.ensures, c.loop-i-test.false))

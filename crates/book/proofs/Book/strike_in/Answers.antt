@@ -46,24 +46,24 @@ returns-in-Err c =
     ∙ strike_refused c.args.self _ holding c.args.n c.args.over c.requires.1 _ seated refl _ (ap (struck_as _) (sym c.in-Err.is) ∙ c.strike.ensures.0)
     (not_none _)
 
-pub offset_bounds-orders-at-in-Ok-strike : goal.offset_bounds-orders-at-in-Ok-strike
-offset_bounds-orders-at-in-Ok-strike c =
+pub offset_bounds-orders-at-2 : goal.offset_bounds-orders-at-2
+offset_bounds-orders-at-2 c =
     let holding : Holding c.args.self c.args.count = holds c.args.self _ refl _ (sized c.args.self (search rules) (search rules)) c.requires.0 in
     let seated : seat_by (Ok c.in-Ok.at) ≡ seat_in c.args.n 0 c.args.count c.args.self.orders = ap seat_by (sym c.in-Ok.is) ∙ c.seat_of.ensures in
     let inside : c.in-Ok.at < 96 = at_inside c.args.self _ holding c.args.n c.args.over c.requires.1 _ seated refl in
     omega (arith, inside)
 
-pub bounds-orders-at-in-Ok-strike : goal.bounds-orders-at-in-Ok-strike
-bounds-orders-at-in-Ok-strike c =
+pub bounds-orders-at-2 : goal.bounds-orders-at-2
+bounds-orders-at-2 c =
     let holding : Holding c.args.self c.args.count = holds c.args.self _ refl _ (sized c.args.self (search rules) (search rules)) c.requires.0 in
     let seated : seat_by (Ok c.in-Ok.at) ≡ seat_in c.args.n 0 c.args.count c.args.self.orders = ap seat_by (sym c.in-Ok.is) ∙ c.seat_of.ensures in
     let inside : c.in-Ok.at < 96 = at_inside c.args.self _ holding c.args.n c.args.over c.requires.1 _ seated refl in
     omega (arith, inside)
 
-pub returns-in-Ok-strike : goal.returns-in-Ok-strike
-returns-in-Ok-strike c =
+pub returns : goal.returns
+returns c =
     let holding : Holding c.args.self c.args.count = holds c.args.self _ refl _ (sized c.args.self (search rules) (search rules)) c.requires.0 in
     let seated : seat_by (Ok c.in-Ok.at) ≡ seat_in c.args.n 0 c.args.count c.args.self.orders = ap seat_by (sym c.in-Ok.is) ∙ c.seat_of.ensures in
-    ap outcome_by c.hand_back-in-Ok-strike.ensures
+    ap outcome_by c.hand_back-2.ensures
     ∙ strike_done c.args.self _ holding c.args.n c.args.over c.requires.1 _ seated refl _ (ap (struck_as _) (sym c.in-Ok-strike.is) ∙ c.strike.ensures.0) refl
     _ c.made.ensures
