@@ -14,6 +14,10 @@ use Rattle.transfer.specs.declared.Whole.{Whole}
 use mathlib.Core.List.{List}
 use mathlib.Core.Path.{◌≡◌, sym, ap, ◌∙◌}
 
+-- an answer that is no refusal, by what it is of
+pub within : (p : Option Whole) {h : Result (Option Whole) Refusal} {o : Option Whole} → h ≡ Ok o → o ≡ p → h ≡ Ok p
+within p e f = e ∙ ap Ok f
+
 module _ (state unit file : List ℕ) (c : Collector) (is : c ≡ collector_in state) (t : Answer) (room : List ℕ)
     (took : (taken_by t ≡ taken_of c unit file) × (room ≡ room_after c unit file) × (detail_in t.heard ≡ 0)) where
   took_it : taken_by t ≡ taken_of (collector_in state) unit file

@@ -12,6 +12,7 @@ use Rattle.refusal.specs.declared.Refusal.{Refusal}
 use Rattle.report.proofs.Fields.{told_report}
 use Rattle.report.specs.Program.{at_address, heard_of, printed_of}
 use Rattle.report.specs.Report.{report_of, told_as, told_lines}
+use Rattle.report_brief.proofs.Puts.{same_text}
 use lib.ListN.{length}
 use lib.Seq.{sets}
 use mathlib.Core.List.{List}
@@ -50,11 +51,17 @@ module _ (plan input second file : List ℕ) (a : Answer) (d : Option ℕ) (two 
     both_read i y r = r ∙ ap (read_of c i plan) rest_is ∙ read_at (Some i) y
 
 -- what is put at the start, of the answer
-pub print_put : (plan input l : List ℕ) (x : Result Record Refusal) {y : Result Record (ℕ × ℕ)} (r : ℕ) (m : List ℕ)
-    → answer_by x ≡ heard_of plan input → y ≡ told_as x → Puts l 0 (told_lines y) r m
+pub print_put : (plan input l : List ℕ) (a : Answer) (r : ℕ) (m : List ℕ) → a ≡ heard_of plan input → Puts l 0 (report_of a) r m
     → (r ≡ length (printed_of plan input)) × (m ≡ sets l 0 (printed_of plan input))
 unfolding printed_of
-print_put plan input l x {y} r m e t p =
-    let same : told_lines y ≡ report_of (heard_of plan input) = ap told_lines t ∙ told_report x ∙ ap report_of e in
-    let n : r ≡ length (told_lines y) = omega (arith, p.0) in
-    (n ∙ ap length same, p.1 ∙ ap (sets l 0) same)
+print_put plan input l a r m e p =
+    let n : r ≡ length (report_of a) = omega (arith, p.0) in
+    (n ∙ ap (λ (x : Answer). length (report_of x)) e, p.1 ∙ ap (λ (x : Answer). sets l 0 (report_of x)) e)
+
+-- the same of an answer as it is told
+pub told_put : (plan input l : List ℕ) (x : Result Record Refusal) {y : Result Record (ℕ × ℕ)} (r : ℕ) (m : List ℕ)
+    → answer_by x ≡ heard_of plan input → y ≡ told_as x → Puts l 0 (told_lines y) r m
+    → (r ≡ length (printed_of plan input)) × (m ≡ sets l 0 (printed_of plan input))
+told_put plan input l x {y} r m e t p =
+    let text : told_lines y ≡ report_of (answer_by x) = ap told_lines t ∙ told_report x in
+    print_put plan input l (answer_by x) r m e (same_text (told_lines y) (report_of (answer_by x)) l 0 r m text p)
